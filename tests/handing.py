@@ -1,5 +1,5 @@
-"""What one verb keeps, handed to another: each test takes `run` (words and files to a status, a text and the files that
-are left), and answers what is wrong, or nothing.
+"""What one verb keeps, passed to another: each test takes `run` (arguments and files to a status, a text and the files
+that are left) and the files of the case echo, and returns what is wrong, or nothing.
 """
 import generator
 import objects
@@ -33,7 +33,7 @@ def an_object_links_as_its_source(run, echo):
 
 
 def a_hex_file_runs_as_it_was_built(run, echo):
-    """The flat board makes the trace of the watched one, and the file has the bytes that the map counts."""
+    """The flat board makes the trace of the watched one, and the file has as many bytes as the map says."""
     _, text, left = run(['build', '--hex', 'h', *ECHO_RUN, 'echo.a51'], echo)
     flat = run(['flat', *ECHO_RUN, 'h'], {'h': left['h'], 'echo.brd': echo['echo.brd']})
     count = len(objects.read_hex(left['h']))
@@ -44,7 +44,7 @@ def a_hex_file_runs_as_it_was_built(run, echo):
 
 
 def libraries_are_edited_back(run, echo):
-    """Modules that are put in, taken out and put in again leave the library that a build makes."""
+    """Each edit of a library leaves the library that objects.py makes of the modules that are then in it."""
     one, two = refusals.SMALL, objects.empty_module('B')
     objects_of = {'a.obj': one, 'b.obj': two}
     both, files = objects.library(one, two), {**objects_of, 'l.lib': objects.library(one)}

@@ -12,12 +12,15 @@ no_answer : {T V : Type 0} (view : T → V) (why : WordsError) → AsksFor view 
 no_answer view Usage = refl
 no_answer view Memory = tt
 
-among_faults : {T : Type 0} (view : T → List Row) (kinds : Kinds) (rows : List Row) (kind : ErrorKind) → IsAmong kind kinds
+among_faults : {T : Type 0} (view : T → List Row) (kinds : Kinds) (rows : List Row) (kind : ErrorKind)
+    → IsAmong kind kinds
     → AsksFor view (Err (refused_by kind)) (unless_fault kinds rows)
 among_faults view [] rows kind h = absurd h
 among_faults view (k ∷ kinds) rows kind h = no_answer view (refused_by kind)
 
-pub error_asks : {T : Type 0} (view : T → List Row) (kinds : Kinds) (rows : List Row) (kind : ErrorKind) → ((kind ≡ OutOfMemory) ⊎ IsAmong kind kinds)
+pub error_asks : {T : Type 0} (view : T → List Row) (kinds : Kinds) (rows : List Row) (kind : ErrorKind)
+    → ((kind ≡ OutOfMemory) ⊎ IsAmong kind kinds)
     → AsksFor view (Err (refused_by kind)) (unless_fault kinds rows)
-error_asks view kinds rows kind (inl memory) = subst (λ k. AsksFor view (Err (refused_by k)) (unless_fault kinds rows)) (sym memory) tt
+error_asks view kinds rows kind (inl memory) =
+    subst (λ k. AsksFor view (Err (refused_by k)) (unless_fault kinds rows)) (sym memory) tt
 error_asks view kinds rows kind (inr among) = among_faults view kinds rows kind among

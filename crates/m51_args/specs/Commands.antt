@@ -57,8 +57,8 @@ unfoldable pub rows_in : App → List Text → Option (List Row)
 rows_in app words = unless_fault (fault_of app words) (matches_of app words)
 
 -- the value of an option
-abbrev pub value_of : Text → List Row → Option Text
-value_of name rows = first_of name rows
+abbrev pub option_value : Text → List Row → Option Text
+option_value name rows = first_of name rows
 
 -- the words that are no options, if there are any
 abbrev pub words_of : List Row → Option (List Text)

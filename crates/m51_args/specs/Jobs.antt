@@ -12,21 +12,21 @@ use Rattle.m51_jobs.specs.declared.job.PartyJob.{PartyJob}
 use Rattle.m51_jobs.specs.declared.job.Job.{Job}
 use Rattle.m51_jobs.specs.declared.job.Job.TheVariants.{Build, Asm, Library, Flat, Gen, Dis, Stack, Party}
 use Rattle.m51_args.specs.Commands.{build_app, asm_app, lib_app, flat_app, gen_app, dis_app, stack_app, party_app}
-use Rattle.m51_args.specs.Commands.{rows_in, value_of, words_of}
+use Rattle.m51_args.specs.Commands.{rows_in, option_value, words_of}
 use Rattle.m51_jobs.specs.Endings.{are_built, are_assembled, are_boards}
 use Rattle.m51_jobs.specs.Numbers.{steps_of, start_of, units_of}
 use Rattle.m51_args.specs.Operations.{library_job}
 
 -- a number of steps
 abbrev pub steps_in : List Row → Option ℕ
-steps_in rows = option_and_then steps_of (value_of (codes "steps") rows)
+steps_in rows = option_and_then steps_of (option_value (codes "steps") rows)
 
 -- build [--control F] [--script F] [--hex F] --steps N FILE..
 abbrev pub build_with : List Row → List (List ℕ) → ℕ → BuildJob
 build_with rows files steps = record {
-  control = value_of (codes "control") rows;
-  script = value_of (codes "script") rows;
-  hex = value_of (codes "hex") rows;
+  control = option_value (codes "control") rows;
+  script = option_value (codes "script") rows;
+  hex = option_value (codes "hex") rows;
   steps = steps;
   files = files;
 }
@@ -42,7 +42,8 @@ abbrev pub asm_with : List (List ℕ) → List ℕ → AsmJob
 asm_with files out = record { out = out; files = files }
 
 abbrev pub asm_files : List Row → List (List ℕ) → Option AsmJob
-asm_files rows files = if are_assembled files then option_map (asm_with files) (value_of (codes "out") rows) else None
+asm_files rows files = if are_assembled files then option_map (asm_with files) (option_value (codes "out") rows)
+    else None
 
 unfoldable pub asm_of : List Row → Option AsmJob
 asm_of rows = option_and_then (asm_files rows) (words_of rows)
@@ -53,7 +54,7 @@ lib_of rows = option_and_then library_job (words_of rows)
 
 -- flat [--script F] --steps N F
 abbrev pub flat_with : List Row → List ℕ → ℕ → FlatJob
-flat_with rows file steps = record { script = value_of (codes "script") rows; steps = steps; file = file }
+flat_with rows file steps = record { script = option_value (codes "script") rows; steps = steps; file = file }
 
 abbrev pub flat_file : List Row → List (List ℕ) → Option FlatJob
 flat_file rows (file ∷ []) = if bytes_eq file [] then None else option_map (flat_with rows file) (steps_in rows)
@@ -69,20 +70,20 @@ gen_with units start steps = record { units = units; start = start; steps = step
 unfoldable pub gen_of : List Row → Option GenJob
 gen_of rows =
     option_and_then (λ units. option_and_then (λ start. option_map (gen_with units start) (steps_in rows))
-    (option_and_then start_of (value_of (codes "start") rows)))
-    (option_and_then units_of (value_of (codes "units") rows))
+    (option_and_then start_of (option_value (codes "start") rows)))
+    (option_and_then units_of (option_value (codes "units") rows))
 
 -- dis [--control F] FILE.., and stack with the same words
 abbrev pub link_files : List Row → List (List ℕ) → Option LinkJob
 link_files rows files =
-    if are_built files then Some (record { control = value_of (codes "control") rows; files = files }) else None
+    if are_built files then Some (record { control = option_value (codes "control") rows; files = files }) else None
 
 unfoldable pub link_of : List Row → Option LinkJob
 link_of rows = option_and_then (link_files rows) (words_of rows)
 
 -- party [--script F] --steps N FILE..
 abbrev pub party_with : List Row → List (List ℕ) → ℕ → PartyJob
-party_with rows files steps = record { script = value_of (codes "script") rows; steps = steps; files = files }
+party_with rows files steps = record { script = option_value (codes "script") rows; steps = steps; files = files }
 
 abbrev pub party_files : List Row → List (List ℕ) → Option PartyJob
 party_files rows files = if are_boards files then option_map (party_with rows files) (steps_in rows) else None

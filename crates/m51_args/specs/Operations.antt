@@ -17,14 +17,14 @@ name_before (Some name) (Some names) = Some (name ∷ names)
 name_before _ _ = None
 
 -- words, each of which is a name
-abbrev pub names_in : List (List ℕ) → Option (List (List ℕ))
-names_in [] = Some []
-names_in (word ∷ words) = name_before (name_of word) (names_in words)
+abbrev pub names_of_words : List (List ℕ) → Option (List (List ℕ))
+names_of_words [] = Some []
+names_of_words (word ∷ words) = name_before (name_of word) (names_of_words words)
 
 -- one or more names
 abbrev pub names_of : List (List ℕ) → Option (List (List ℕ))
 names_of [] = None
-names_of (word ∷ words) = names_in (word ∷ words)
+names_of (word ∷ words) = names_of_words (word ∷ words)
 
 -- a module by its name, and the file that it is kept in: its name and .obj
 abbrev pub extracted : List ℕ → Operation

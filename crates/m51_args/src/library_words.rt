@@ -2,7 +2,7 @@
 ghost use Rattle.std.specs.Prelude.{◌≡◌, [], ◌∷◌, ◌++◌, codes, map, IfOk};
 ghost use Rattle.std.specs.Char.{to_ascii_uppercase};
 ghost use Rattle.m51_args.specs.Asks.{AsksFor};
-ghost use Rattle.m51_args.specs.Operations.{objects_of, names_in, names_of, extract_of, list_of, operation_of};
+ghost use Rattle.m51_args.specs.Operations.{objects_of, names_of_words, names_of, extract_of, list_of, operation_of};
 ghost use Rattle.m51_args.specs.Operations.{library_job};
 ghost use Rattle.m51_jobs.specs.Texts.{lent};
 
@@ -33,8 +33,8 @@ fn objects_of(alloc: Global, words: &[&str]) -> Result<FileNames, WordsError>
 }
 
 // Words, each of which is a name.
-fn names_in(alloc: Global, words: &[&str]) -> Result<Names, WordsError>
-    ensures { AsksFor (λ names. names) result (names_in (lent words.now)) }
+fn names_of_words(alloc: Global, words: &[&str]) -> Result<Names, WordsError>
+    ensures { AsksFor (λ names. names) result (names_of_words (lent words.now)) }
 {
     let mut names = Vec::new(alloc);
     for word in words {
@@ -52,7 +52,7 @@ fn names_of(alloc: Global, words: &[&str]) -> Result<Names, WordsError>
 {
     match words {
         [] => Err(WordsError::Usage),
-        _ => names_in(alloc, words),
+        _ => names_of_words(alloc, words),
     }
 }
 

@@ -2,7 +2,7 @@
 ghost use Rattle.std.specs.Prelude.{◌≡◌, IfOk, OnOk};
 ghost use Rattle.clap.specs.Words.{found_of, rows_of};
 ghost use Rattle.m51_args.specs.Asks.{AsksFor};
-ghost use Rattle.m51_args.specs.Commands.{value_of, words_of};
+ghost use Rattle.m51_args.specs.Commands.{option_value, words_of};
 ghost use Rattle.m51_args.specs.Jobs.{steps_in};
 ghost use Rattle.m51_jobs.specs.Texts.{lent};
 ghost use Rattle.std.specs.Prelude.{option_map, codes};
@@ -14,8 +14,8 @@ use m51_jobs::{FileName, Steps, steps_of};
 use std::alloc::Global;
 
 // The value of an option.
-pub(crate) fn value_of<'a>(matches: &ArgMatches<'a>, name: &str) -> Option<&'a str>
-    ensures { option_map (λ text. text.now) result ≡ value_of name.now (rows_of (found_of matches.now)) }
+pub(crate) fn option_value<'a>(matches: &ArgMatches<'a>, name: &str) -> Option<&'a str>
+    ensures { option_map (λ text. text.now) result ≡ option_value name.now (rows_of (found_of matches.now)) }
 {
     matches.get_str(name)
 }
@@ -33,9 +33,9 @@ pub(crate) fn file_of(
     matches: &ArgMatches<'_>,
     name: &str,
 ) -> Result<Option<FileName>, NoMemory>
-    ensures { IfOk result (λ file. file ≡ value_of name.now (rows_of (found_of matches.now))) }
+    ensures { IfOk result (λ file. file ≡ option_value name.now (rows_of (found_of matches.now))) }
 {
-    match value_of(matches, name) {
+    match option_value(matches, name) {
         Some(text) => Ok(Some(FileName::copy_of(alloc, text)?)),
         None => Ok(None),
     }
@@ -45,5 +45,5 @@ pub(crate) fn file_of(
 pub(crate) fn steps_in(matches: &ArgMatches<'_>) -> Option<Steps>
     ensures { result ≡ steps_in (rows_of (found_of matches.now)) }
 {
-    steps_of(value_of(matches, "steps")?)
+    steps_of(option_value(matches, "steps")?)
 }

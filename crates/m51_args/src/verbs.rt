@@ -10,7 +10,7 @@ use crate::analysis_verbs::{dis_job, stack_job};
 use crate::commands::{bare_verb, matches_in, verb};
 use crate::error::WordsError;
 use crate::library_words::{file_names, library_job};
-use crate::reading::{file_of, steps_in, value_of, words_of};
+use crate::reading::{file_of, option_value, steps_in, words_of};
 use clap::ArgMatches;
 use m51_jobs::{
     AsmJob, BuildJob, FileName, FlatJob, GenJob, Job, LibraryJob, PartyJob, are_assembled,
@@ -56,7 +56,7 @@ fn asm_of(alloc: Global, matches: &ArgMatches<'_>) -> Result<AsmJob, WordsError>
     if !are_assembled(words) {
         return Err(WordsError::Usage);
     }
-    let Some(text) = value_of(matches, "out") else {
+    let Some(text) = option_value(matches, "out") else {
         return Err(WordsError::Usage);
     };
     let out = FileName::copy_of(alloc, text)?;
@@ -102,8 +102,8 @@ fn flat_of(alloc: Global, matches: &ArgMatches<'_>) -> Result<FlatJob, WordsErro
 fn gen_of(matches: &ArgMatches<'_>) -> Option<GenJob>
     ensures { result ≡ gen_of (rows_of (found_of matches.now)) }
 {
-    let units = units_of(value_of(matches, "units")?)?;
-    let start = start_of(value_of(matches, "start")?)?;
+    let units = units_of(option_value(matches, "units")?)?;
+    let start = start_of(option_value(matches, "start")?)?;
     let steps = steps_in(matches)?;
     Some(GenJob {
         units: units as u8,

@@ -1,24 +1,17 @@
 -- The answer of a text whose lines are placed: its faults, or its module and rows.
-use Rattle.std.proofs.Common.{◌≡◌, ℕ, suc, ◌≤◌, ◌==◌, false, List, [], ◌∷◌, ◌++◌, drop, take, length, Result, Ok, Err}
-use Rattle.std.proofs.Common.{IfOk, refl, ap, sym, ◌∙◌, arith}
-use Rattle.std.proofs.lemmas.List.{append-nil, length-take}
+use Rattle.m51_asm.proofs.Common.{◌≡◌, ℕ, suc, ◌≤◌, ◌==◌, false, List, [], ◌∷◌, ◌++◌, drop, take, length, Result, Ok}
+use Rattle.m51_asm.proofs.Common.{Err, refl, ap, sym, ◌∙◌, arith, length-take, Fault, Row, SourceFile, StmtTree}
+use Rattle.m51_asm.proofs.Common.{TextLine, faults_of, LineTree, with_statement, statements_of, Assignment, Faults}
+use Rattle.m51_asm.proofs.Common.{content_or_faults, rows_from, rows, faults_from, content_faults, IsGivenTo, AreFree}
+use Rattle.m51_asm.proofs.Common.{IsText}
+use Rattle.std.proofs.Common.{IfOk}
+use Rattle.std.proofs.lemmas.List.{append-nil}
 use Rattle.m51_module.specs.declared.parts.ModuleParts.{ModuleParts}
-use Rattle.m51_module.specs.declared.source.Fault.{Fault}
-use Rattle.m51_module.specs.declared.source.Row.{Row}
-use Rattle.m51_module.specs.declared.source.SourceFile.{SourceFile}
-use Rattle.m51_stmt.specs.Statement.{StmtTree}
 use Rattle.m51_text.specs.Said.{said}
-use Rattle.m51_text.specs.Text.{TextLine, file_lines, text_lines}
-use Rattle.m51_text.specs.Faults.{faults_of}
-use Rattle.m51_text.specs.Answer.{LineTree, with_statement, statements_of}
+use Rattle.m51_text.specs.Text.{file_lines, text_lines}
 use Rattle.m51_asm.specs.declared.contents.Contents.{Contents}
-use Rattle.m51_asm.specs.Assignment.{Assignment}
-use Rattle.m51_asm.specs.Answer.{Gives, Faults, content_or_faults, answer_of_lines}
-use Rattle.m51_asm.specs.AnswerRows.{rows_from, rows}
-use Rattle.m51_asm.specs.ContentFaults.{content_fault, faults_from, content_faults}
-use Rattle.m51_asm.specs.Contents.{IsGivenTo}
-use Rattle.m51_asm.specs.FirstFault.{AreFree}
-use Rattle.m51_asm.specs.Gathering.{IsText}
+use Rattle.m51_asm.specs.Answer.{Gives, answer_of_lines}
+use Rattle.m51_asm.specs.ContentFaults.{content_fault}
 use Rattle.m51_asm.specs.Parts.{parts}
 use Rattle.m51_asm.proofs.FirstFaults.{content_answer}
 use Rattle.m51_asm.proofs.GoodLines.{found_are}

@@ -1,29 +1,20 @@
 -- The values of the names of a text: an external in a base is one that the text declares, and no bit is above 7.
-use Rattle.std.proofs.Common.{◌≡◌, ◌⊎◌, inl, inr, ℕ, zero, suc, ◌+◌, ◌<◌, ◌≤◌, ◌-◌, nat_lt, Bool, true, false, cond}
-use Rattle.std.proofs.Common.{List, [], ◌∷◌, ◌++◌, length, Option, Some, None, option_map, Ok, Err, refl, sym, subst}
-use Rattle.std.proofs.Common.{arith}
-use Rattle.std.specs.Str.{bytes_eq}
-use Rattle.std.proofs.lemmas.Bool.{ltb-true}
-use Rattle.m51_cells.specs.declared.kind.Base.{Base}
+use Rattle.m51_asm.proofs.Common.{◌≡◌, ◌⊎◌, inl, inr, ℕ, zero, suc, ◌+◌, ◌<◌, ◌≤◌, ◌-◌, nat_lt, Bool, true, false, cond}
+use Rattle.m51_asm.proofs.Common.{List, [], ◌∷◌, ◌++◌, length, Option, Some, None, option_map, Ok, Err, refl, sym}
+use Rattle.m51_asm.proofs.Common.{subst, arith, bytes_eq, ltb-true, Base, Kind, Whole, Value, Tree, Valued, plain}
+use Rattle.m51_asm.proofs.Common.{absolute_register_of, BodyTree, LineTree, Definition, Label, SegmentOf, EquOf, SetOf}
+use Rattle.m51_asm.proofs.Common.{AddressOf, ExternOf, definitions_in, label_defined, defined_by, externals_from}
+use Rattle.m51_asm.proofs.Common.{found_in, definition_from, Assignment, body_at, line_definitions, here_at, if_before}
+use Rattle.m51_asm.proofs.Common.{set_by, mod51, register_or_predefined, externals_in, value_by, named_value, Fits}
 use Rattle.m51_cells.specs.declared.kind.Base.TheVariants as base
-use Rattle.m51_cells.specs.declared.kind.Kind.{Kind}
-use Rattle.m51_expr.specs.declared.value.Part.TheVariants.{Whole}
-use Rattle.m51_expr.specs.declared.value.Value.{Value}
-use Rattle.m51_expr.specs.Tree.{Tree}
-use Rattle.m51_expr.specs.Value.{Valued, plain}
 use Rattle.m51_expr.specs.Evaluation.{value_of}
-use Rattle.m51_predefined.specs.Predefined.{register_or_bit, absolute_register_of, register_value}
+use Rattle.m51_predefined.specs.Predefined.{register_or_bit, register_value}
 use Rattle.m51_sfr.specs.Registers.{address_in, bits, registers}
 use Rattle.m51_stmt.specs.Statement as body
-use Rattle.m51_stmt.specs.Statement.{BodyTree}
-use Rattle.m51_text.specs.Answer.{LineTree}
-use Rattle.m51_asm.specs.Definitions.{Definition, Label, SegmentOf, EquOf, SetOf, AddressOf, ExternOf, definitions_in}
-use Rattle.m51_asm.specs.Definitions.{label_defined, defined_by, externals_from, found_in, definition_from}
 use Rattle.m51_asm.specs.Definitions.{definition_of}
-use Rattle.m51_asm.specs.Assignment.{Assignment, body_at, line_definitions, here_at, if_before, above, value_or_none}
-use Rattle.m51_asm.specs.Fitting.{set_by, last_set, mod51, bank_before, register_or_predefined, undefined_value}
-use Rattle.m51_asm.specs.Fitting.{externals_in, externals_before, with_class, segment_value, external_value, value_by}
-use Rattle.m51_asm.specs.Fitting.{named_value, Fits}
+use Rattle.m51_asm.specs.Assignment.{above, value_or_none}
+use Rattle.m51_asm.specs.Fitting.{last_set, bank_before, undefined_value}
+use Rattle.m51_asm.specs.Fitting.{externals_before, with_class, segment_value, external_value}
 use Rattle.m51_asm.proofs.KnownSegments.{found_if, later_is}
 use Rattle.m51_asm.proofs.BasedValues.{IsBased, IfBased, IfSomeBased, AreBased, no_bit, value_based}
 

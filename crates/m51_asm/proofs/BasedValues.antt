@@ -1,29 +1,25 @@
 -- What holds of the bases that names and the place of a statement have, and of the numbers of their bits, holds of the
 -- value
 -- of each expression.
-use Rattle.std.proofs.Common.{◌≡◌, ℕ, ◌-◌, ◌/◌, ◌%◌, nat_lt, Bool, true, false, not, ◌&&◌, ◌||◌, cond, List, Option}
-use Rattle.std.proofs.Common.{Some, None, Ok, Err, refl, subst, arith}
-use Rattle.std.proofs.lemmas.Bool.{ltb-false}
-use Rattle.m51_cells.specs.declared.kind.Base.{Base}
+use Rattle.m51_asm.proofs.Common.{◌≡◌, ℕ, ◌-◌, ◌/◌, ◌%◌, nat_lt, Bool, true, false, not, ◌&&◌, ◌||◌, cond, List, Option}
+use Rattle.m51_asm.proofs.Common.{Some, None, Ok, Err, refl, subst, arith, ltb-false, Base, Kind, and_then, Part, Whole}
+use Rattle.m51_asm.proofs.Common.{High, Low, Value, Tree, Name, Here, One, Two, Valued, plain, is_whole, Meanings}
+use Rattle.m51_asm.proofs.Common.{unary, applied}
 use Rattle.m51_cells.specs.declared.kind.Base.TheVariants as base
-use Rattle.m51_cells.specs.declared.kind.Kind.{Kind}
 use Rattle.m51_cells.specs.declared.kind.Kind.TheVariants as kind
-use Rattle.m51_cells.specs.Outcome.{and_then}
 use Rattle.m51_expr.specs.declared.fault.ExprError.{ExprError}
-use Rattle.m51_expr.specs.declared.value.Part.{Part}
-use Rattle.m51_expr.specs.declared.value.Part.TheVariants.{Whole, High, Low, Bit}
-use Rattle.m51_expr.specs.declared.value.Value.{Value}
+use Rattle.m51_expr.specs.declared.value.Part.TheVariants.{Bit}
 use Rattle.m51_expr.specs.declared.tree.Unary.{Unary}
 use Rattle.m51_expr.specs.declared.tree.Unary.TheVariants as op1
 use Rattle.m51_expr.specs.declared.tree.Binary.{Binary}
 use Rattle.m51_expr.specs.declared.tree.Binary.TheVariants as op2
-use Rattle.m51_expr.specs.Tree.{Tree, Number, Name, Here, One, Two}
-use Rattle.m51_expr.specs.Value.{Valued, fault, plain, is_whole, bit_address, counted}
-use Rattle.m51_expr.specs.Meanings.{Meanings, is_absolute, is_unplaced, as_number}
-use Rattle.m51_expr.specs.Operators.{under, kept_under, or_number, unary, settled, beside, same_base, arithmetic}
+use Rattle.m51_expr.specs.Tree.{Number}
+use Rattle.m51_expr.specs.Value.{fault, bit_address, counted}
+use Rattle.m51_expr.specs.Meanings.{is_absolute_base, is_unplaced, as_number}
+use Rattle.m51_expr.specs.Operators.{under, kept_under, or_number, settled, beside, same_base, arithmetic}
 use Rattle.m51_expr.specs.Operators.{class_of, base_of, on_base, of_numbers, of_wholes, binary}
-use Rattle.m51_expr.specs.Bits.{has_bits, keeps_base, with_bit, placed_bit, bit_of, dot}
-use Rattle.m51_expr.specs.Evaluation.{is_dot, applied, or_unknown, value_of}
+use Rattle.m51_expr.specs.Bits.{has_bits, keeps_base, with_bit, placed_bit, dotted_bit, dot}
+use Rattle.m51_expr.specs.Evaluation.{is_dot, or_unknown, value_of}
 use Rattle.m51_encode.specs.FieldLaws.{IsBitOf}
 
 -- a value of such a base, under no bit above 7
@@ -123,7 +119,7 @@ module _ (G : Base → Type 0) (none : G base.None) where
 
   beside_based : (names : Meanings) (other : Base) (v : Value) → IsBased G v → IsBased G (beside names other v)
   beside_based names other v h =
-      based_cond (is_unplaced names other && is_absolute names v.base) (plain v.number v.class) v
+      based_cond (is_unplaced names other && is_absolute_base names v.base) (plain v.number v.class) v
       (plain_based v.number v.class) h
 
   -- the base of a sum or a difference
@@ -200,8 +196,8 @@ module _ (G : Base → Type 0) (none : G base.None) where
   dot_based : (names : Meanings) (x n : Value) → IsBased G x → IfBased G (dot names x n)
   dot_based names x n h =
       if_cond (is_unplaced names x.base && not (is_whole x.part)) (fault 8)
-      (and_then (as_number names n) (bit_of names x)) (if_err _)
-      (if_number (as_number names n) (bit_of names x) (λ bit. bit_by names x bit (nat_lt 7 bit) refl h))
+      (and_then (as_number names n) (dotted_bit names x)) (if_err _)
+      (if_number (as_number names n) (dotted_bit names x) (λ bit. bit_by names x bit (nat_lt 7 bit) refl h))
 
   applied_based : (names : Meanings) (op : Binary) (x y : Value) → IsBased G x → IsBased G y
       → IfBased G (applied names op x y)

@@ -1,24 +1,18 @@
 -- An instruction without a fault gives the bytes of its row, and no more references than fixups are counted.
-use Rattle.std.proofs.Common.{◌≡◌, ℕ, suc, ◌+◌, ◌≤◌, ◌==◌, Bool, true, false, cond, List, [], ◌∷◌, ◌++◌, length, take}
-use Rattle.std.proofs.Common.{Option, Some, None, Ok, Err, refl, sym, ap, subst, ◌∙◌, arith, length-append}
+use Rattle.m51_asm.proofs.Common.{◌≡◌, ℕ, suc, ◌+◌, ◌≤◌, ◌==◌, Bool, true, false, cond, List, [], ◌∷◌, ◌++◌, length}
+use Rattle.m51_asm.proofs.Common.{take, Option, Some, None, Ok, Err, refl, sym, ap, subst, ◌∙◌, arith, length-append}
+use Rattle.m51_asm.proofs.Common.{eqb-true, length-take, Jump, Instr, row_length, Meanings, OperandOutcome, Faulty}
+use Rattle.m51_asm.proofs.Common.{Reference, Answer}
 use Rattle.std.specs.Prelude.{unwrap_or}
 use Rattle.std.specs.Option.{option_or}
-use Rattle.std.proofs.lemmas.Bool.{eqb-true}
-use Rattle.std.proofs.lemmas.List.{length-take}
-use Rattle.m51_isa.specs.declared.generics.Jump.{Jump}
-use Rattle.m51_isa.specs.declared.instr.Instr.{Instr}
-use Rattle.m51_isa.specs.Table.{encoded, padded, length_of as row_length}
+use Rattle.m51_isa.specs.Table.{encoded, padded}
 use Rattle.m51_isa.specs.Filling.{with_numbers}
 use Rattle.m51_isa.proofs.Codes.{rows_are_short}
 use Rattle.m51_isa.proofs.RowsFilled.{texts_are_rows}
-use Rattle.m51_expr.specs.Meanings.{Meanings}
 use Rattle.m51_expr.specs.Operand.{OperandTree}
-use Rattle.m51_encode.specs.declared.outcome.OperandOutcome.{OperandOutcome}
-use Rattle.m51_encode.specs.declared.outcome.OperandOutcome.TheVariants.{Faulty}
-use Rattle.m51_encode.specs.declared.reference.Reference.{Reference}
 use Rattle.m51_encode.specs.JumpForm.{address_after}
-use Rattle.m51_encode.specs.Filling.{Answer, beginning_at, reference_at, references_of}
-use Rattle.m51_encode.specs.Outcomes.{linked, outcome_of}
+use Rattle.m51_encode.specs.Filling.{beginning_at, reference_at, references_of}
+use Rattle.m51_encode.specs.Outcomes.{linked, operand_outcome}
 use Rattle.m51_encode.specs.Coding.{gathered, first_of, second_of, third_of, three_outcomes, coded, outcomes, length_of}
 use Rattle.m51_encode.specs.Lengths.{HasRow}
 use Rattle.m51_asm.specs.Content.{placed_from, coded_content}
@@ -118,7 +112,7 @@ module _ (names : Meanings) (row : Instr) (oa ob oc : Option OperandTree) where
       → IsGiven names (row_length row) (three_outcomes x y z) (coded_content (gathered row x y z))
   three_given (Err e) y z is_x is_y is_z fine = absurd fine
   three_given (Ok a) (Err e) z is_x is_y is_z fine =
-      absurd (fine_skip a.reference (Faulty e.number ∷ outcome_of z ∷ []) fine)
+      absurd (fine_skip a.reference (Faulty e.number ∷ operand_outcome z ∷ []) fine)
   three_given (Ok a) (Ok b) (Err e) is_x is_y is_z fine =
       absurd (fine_skip b.reference (Faulty e.number ∷ [])
       (fine_skip a.reference (linked b.reference ∷ Faulty e.number ∷ []) fine))

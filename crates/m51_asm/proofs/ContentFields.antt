@@ -1,36 +1,25 @@
 -- What a line gives: where it has no fault it gives as many bytes as are counted for it, and the fields of its
 -- references
 -- lie in these bytes, one after another.
-use Rattle.std.proofs.Common.{◌≡◌, ◌⊎◌, inl, inr, ℕ, zero, suc, ◌+◌, ◌<◌, ◌≤◌, ◌==◌, Bool, true, false, cond, List, []}
-use Rattle.std.proofs.Common.{◌∷◌, length, Option, Some, None, Ok, Err, refl, sym, ap, subst, ◌∙◌, arith}
+use Rattle.m51_asm.proofs.Common.{◌≡◌, ◌⊎◌, inl, inr, ℕ, zero, suc, ◌+◌, ◌<◌, ◌≤◌, ◌==◌, Bool, true, false, cond, List}
+use Rattle.m51_asm.proofs.Common.{[], ◌∷◌, length, Option, Some, None, Ok, Err, refl, sym, ap, subst, ◌∙◌, arith}
+use Rattle.m51_asm.proofs.Common.{eqb-true, Instr, Field, row_length, field_len, Part, Whole, High, Low, Value, Tree}
+use Rattle.m51_asm.proofs.Common.{Valued, Meanings, FieldValue, Number, Linked, Reference, reference_of, Answer}
+use Rattle.m51_asm.proofs.Common.{linked_is, ReferenceAt, EmittedContent}
 use Rattle.std.specs.Prelude.{slice_get}
 use Rattle.std.specs.Option.{option_or}
-use Rattle.std.proofs.lemmas.Bool.{eqb-true}
-use Rattle.m51_isa.specs.declared.instr.Instr.{Instr}
-use Rattle.m51_isa.specs.declared.slot.Field.{Field}
 use Rattle.m51_isa.specs.declared.slot.Field.TheVariants as field
 use Rattle.m51_isa.specs.declared.slot.FieldSlot.{FieldSlot}
 use Rattle.m51_isa.specs.Spelling.{field_in, text_of}
-use Rattle.m51_isa.specs.Table.{length_of as row_length}
-use Rattle.m51_module.specs.Validity.{field_len}
-use Rattle.m51_expr.specs.declared.value.Part.{Part}
-use Rattle.m51_expr.specs.declared.value.Part.TheVariants.{Whole, High, Low, Bit}
-use Rattle.m51_expr.specs.declared.value.Value.{Value}
-use Rattle.m51_expr.specs.Tree.{Tree}
-use Rattle.m51_expr.specs.Value.{Valued}
-use Rattle.m51_expr.specs.Meanings.{Meanings}
+use Rattle.m51_expr.specs.declared.value.Part.TheVariants.{Bit}
 use Rattle.m51_expr.specs.Evaluation.{value_of}
 use Rattle.m51_expr.specs.Operand.{OperandTree}
-use Rattle.m51_encode.specs.declared.reference.FieldValue.{FieldValue}
-use Rattle.m51_encode.specs.declared.reference.FieldValue.TheVariants.{Number, Linked}
-use Rattle.m51_encode.specs.declared.reference.Reference.{Reference}
-use Rattle.m51_encode.specs.Reference.{form_of, reference_of}
+use Rattle.m51_encode.specs.Reference.{form_of}
 use Rattle.m51_encode.specs.FieldValues.{field_of}
-use Rattle.m51_encode.specs.Filling.{Answer, and_then, or_out_of_range, held_at, nothing, valued, expression, filled_by}
+use Rattle.m51_encode.specs.Filling.{and_then, or_out_of_range, held_at, nothing, valued, expression, filled_by}
 use Rattle.m51_encode.specs.Filling.{filled, beginning_at, reference_at, references_of}
-use Rattle.m51_encode.proofs.BitNumbers.{linked_is}
 use Rattle.m51_asm.proofs.Members.{In, Every, Pairs, in_cons, no_element, pairs_weaker}
-use Rattle.m51_asm.specs.Content.{ReferenceAt, EmittedContent, placed_from}
+use Rattle.m51_asm.specs.Content.{placed_from}
 use Rattle.m51_asm.proofs.RowFields.{width, HasField, rows_do_lie}
 
 -- the type of a value, also one that its crate keeps to itself

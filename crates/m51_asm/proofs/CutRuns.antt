@@ -1,23 +1,23 @@
 -- Runs of bytes that lie one after another, and the pieces that they are cut into.
-use Rattle.std.proofs.Common.{◌≡◌, inl, inr, ℕ, suc, ◌+◌, ◌*◌, ◌/◌, ◌-◌, ◌<◌, ◌≤◌, ◌==◌, Bool, true, false, cond, min}
-use Rattle.std.proofs.Common.{List, [], ◌∷◌, ◌++◌, length, drop, refl, sym, ap, subst, ◌∙◌, arith, length-append}
+use Rattle.m51_asm.proofs.Common.{◌≡◌, inl, inr, ℕ, suc, ◌+◌, ◌/◌, ◌-◌, ◌<◌, ◌≤◌, ◌==◌, Bool, true, false, cond, min}
+use Rattle.m51_asm.proofs.Common.{List, [], ◌∷◌, ◌++◌, length, drop, refl, sym, ap, subst, ◌∙◌, arith, length-append}
+use Rattle.m51_asm.proofs.Common.{eqb-true, eqb-false, length-take, range_with_len, Piece, LiesBefore, Run, if_bytes}
+use Rattle.m51_asm.proofs.Common.{pieces_of_run}
+use Rattle.std.proofs.Common.{◌*◌}
 use Rattle.std.proofs.Common.{length-drop}
-use Rattle.std.proofs.lemmas.Bool.{cases_lt, eqb-true, eqb-false}
-use Rattle.std.proofs.lemmas.List.{length-take}
-use Rattle.std.specs.List.{range_with_len}
-use Rattle.m51_module.specs.declared.content.Piece.{Piece}
-use Rattle.m51_module.specs.Validity.{LiesBefore, Apart, Touching}
-use Rattle.m51_asm.specs.Pieces.{Run, if_bytes, piece_at, pieces_of_run}
+use Rattle.std.proofs.lemmas.Bool.{cases_lt}
+use Rattle.m51_module.specs.Validity.{Apart, Touching}
+use Rattle.m51_asm.specs.Pieces.{piece_at}
 use Rattle.m51_asm.proofs.Members.{In, Every, Pairs, Comes, in_cons, in_first, in_later, no_element, in_map, map_in}
 use Rattle.m51_asm.proofs.Members.{in_range, range_in, pairs_map, pairs_weaker, pairs_range}
 
--- a run that has bytes and lies between two places
+-- a run that has bytes and lies between two offsets
 pub record IsRun (from to : ℕ) (r : Run) : Type 0 where
   pub from_on : from ≤ r.0
   pub some : 0 < length r.1
   pub within : r.0 + length r.1 ≤ to
 
--- runs between two places, of which none touches the next
+-- runs between two offsets, of which none touches the next
 abbrev pub AreRuns : ℕ → ℕ → List Run → Type 0
 AreRuns from to [] = Unit {0}
 AreRuns from to (r ∷ more) = IsRun from to r × AreRuns (suc (r.0 + length r.1)) to more
@@ -84,22 +84,22 @@ runs_pairs from to (q ∷ more) are = (
   runs_pairs (suc (q.0 + length q.1)) to more are.1,
 )
 
--- a run holds a place
-pub record Holds (runs : List Run) (place : ℕ) : Type 0 where
+-- a run holds an offset
+pub record Holds (runs : List Run) (offset : ℕ) : Type 0 where
   pub run : Run
   pub there : In run runs
-  pub from : run.0 ≤ place
-  pub below : place < run.0 + length run.1
+  pub from : run.0 ≤ offset
+  pub below : offset < run.0 + length run.1
 
-pub held_first : (at : ℕ) (bytes : List ℕ) (runs : List Run) (place : ℕ) → at ≤ place → place < at + length bytes
-    → Holds (if_bytes at bytes runs) place
-held_first at [] runs place h k = absurd (omega (arith, h, k))
-held_first at (byte ∷ bytes) [] place h k =
+pub held_first : (at : ℕ) (bytes : List ℕ) (runs : List Run) (offset : ℕ) → at ≤ offset → offset < at + length bytes
+    → Holds (if_bytes at bytes runs) offset
+held_first at [] runs offset h k = absurd (omega (arith, h, k))
+held_first at (byte ∷ bytes) [] offset h k =
     record { run = (at, byte ∷ bytes); there = in_first (at, byte ∷ bytes) []; from = h; below = k }
-held_first at (byte ∷ bytes) (next ∷ more) place h k = either (at + length (byte ∷ bytes) == next.0)
+held_first at (byte ∷ bytes) (next ∷ more) offset h k = either (at + length (byte ∷ bytes) == next.0)
   where
     either : (b : Bool) → Holds (cond b ((at, (byte ∷ bytes) ++ next.1) ∷ more) ((at, byte ∷ bytes) ∷ next ∷ more))
-        place
+        offset
     either true =
         let len : length ((byte ∷ bytes) ++ next.1) ≡ length (byte ∷ bytes) + length next.1 =
         length-append (byte ∷ bytes) next.1 in
@@ -116,22 +116,22 @@ held_first at (byte ∷ bytes) (next ∷ more) place h k = either (at + length (
       below = k;
     }
 
-pub held_later : (at : ℕ) (bytes : List ℕ) (runs : List Run) (place : ℕ) → Holds runs place
-    → Holds (if_bytes at bytes runs) place
-held_later at [] runs place h = h
-held_later at (byte ∷ bytes) [] place h = absurd (no_element h.run h.there)
-held_later at (byte ∷ bytes) (next ∷ more) place h = either (at + length (byte ∷ bytes) == next.0) refl
+pub held_later : (at : ℕ) (bytes : List ℕ) (runs : List Run) (offset : ℕ) → Holds runs offset
+    → Holds (if_bytes at bytes runs) offset
+held_later at [] runs offset h = h
+held_later at (byte ∷ bytes) [] offset h = absurd (no_element h.run h.there)
+held_later at (byte ∷ bytes) (next ∷ more) offset h = either (at + length (byte ∷ bytes) == next.0) refl
   where
     either : (b : Bool) → (at + length (byte ∷ bytes) == next.0) ≡ b
-        → Holds (cond b ((at, (byte ∷ bytes) ++ next.1) ∷ more) ((at, byte ∷ bytes) ∷ next ∷ more)) place
+        → Holds (cond b ((at, (byte ∷ bytes) ++ next.1) ∷ more) ((at, byte ∷ bytes) ∷ next ∷ more)) offset
     either true e = elim (in_cons h.run next more h.there) [
       | inl same ↦
           let len : length ((byte ∷ bytes) ++ next.1) ≡ length (byte ∷ bytes) + length next.1 =
           length-append (byte ∷ bytes) next.1 in
           let meets : at + length (byte ∷ bytes) ≡ next.0 = eqb-true (at + length (byte ∷ bytes)) next.0 e in
-          let from : next.0 ≤ place = subst (λ (r : Run). r.0 ≤ place) (sym same) h.from in
-          let below : place < next.0 + length next.1 =
-          subst (λ (r : Run). place < r.0 + length r.1) (sym same) h.below in
+          let from : next.0 ≤ offset = subst (λ (r : Run). r.0 ≤ offset) (sym same) h.from in
+          let below : offset < next.0 + length next.1 =
+          subst (λ (r : Run). offset < r.0 + length r.1) (sym same) h.below in
           record {
             run = (at, (byte ∷ bytes) ++ next.1);
             there = in_first (at, (byte ∷ bytes) ++ next.1) more;
@@ -214,21 +214,21 @@ runs_in_order segment r q before p o in_p in_o =
     let b = piece_of_run segment q o in_o in
     Apart (a.segment_is ∙ sym b.segment_is) (omega (arith, a.within, before, b.from))
 
--- a piece holds a place
-pub record HoldsPiece (pieces : List Piece) (segment place : ℕ) : Type 0 where
+-- a piece holds an offset
+pub record HoldsPiece (pieces : List Piece) (segment offset : ℕ) : Type 0 where
   pub piece : Piece
   pub there : In piece pieces
   pub segment_is : piece.segment ≡ segment
-  pub from : piece.offset ≤ place
-  pub below : place < piece.offset + length piece.bytes
+  pub from : piece.offset ≤ offset
+  pub below : offset < piece.offset + length piece.bytes
 
-pub run_is_cut : (segment : ℕ) (r : Run) (place : ℕ) → r.0 ≤ place → place < r.0 + length r.1
-    → HoldsPiece (pieces_of_run segment r) segment place
-run_is_cut segment r place from below =
-    let i = (place - r.0) / 1024 in
+pub run_is_cut : (segment : ℕ) (r : Run) (offset : ℕ) → r.0 ≤ offset → offset < r.0 + length r.1
+    → HoldsPiece (pieces_of_run segment r) segment offset
+run_is_cut segment r offset from below =
+    let i = (offset - r.0) / 1024 in
     let n = (length r.1 + 1023) / 1024 in
-    let lower : 1024 * i ≤ place - r.0 = omega arith in
-    let upper : place - r.0 < 1024 * i + 1024 = omega arith in
+    let lower : 1024 * i ≤ offset - r.0 = omega arith in
+    let upper : offset - r.0 < 1024 * i + 1024 = omega arith in
     let few : i < n = omega (arith, lower, upper, from, below) in
     let len = piece_len segment r i in
     record {

@@ -1,26 +1,23 @@
 -- The state after the first lines of a text: the first definitions above, what is public and named there, and where a
 -- line
 -- repeats.
-use Rattle.std.proofs.Common.{◌≡◌, ℕ, zero, suc, ◌+◌, ◌<◌, ◌≤◌, Bool, true, false, not, ◌&&◌, ◌||◌, cond, List, [], ◌∷◌}
-use Rattle.std.proofs.Common.{◌++◌, length, map, take, drop, Option, Some, None, option_map, is_some, slice_get, refl}
-use Rattle.std.proofs.Common.{ap, sym, ◌∙◌, arith, add-zero}
-use Rattle.std.proofs.lemmas.List.{take_all}
+use Rattle.m51_asm.proofs.Common.{◌≡◌, ℕ, zero, suc, ◌+◌, ◌<◌, ◌≤◌, Bool, true, false, not, ◌&&◌, ◌||◌, cond, List, []}
+use Rattle.m51_asm.proofs.Common.{◌∷◌, ◌++◌, length, map, take, drop, Option, Some, None, option_map, is_some}
+use Rattle.m51_asm.proofs.Common.{slice_get, refl, ap, sym, ◌∙◌, arith, add-zero, take_all, bytes_eq-Decides, list_any}
+use Rattle.m51_asm.proofs.Common.{bytes_eq, LineTree, FirstDefinition, Definition, Defined, Label, SegmentOf, EquOf}
+use Rattle.m51_asm.proofs.Common.{SetOf, AddressOf, ExternOf, definitions_in, found_in, or_later, definition_from}
+use Rattle.m51_asm.proofs.Common.{line_definitions, defined_of, body_of, body_at, is_set, clashes, or_here, earlier}
+use Rattle.m51_asm.proofs.Common.{repeats_from, publics_in, publics_again, brief, first_definition, Table, first_in}
+use Rattle.m51_asm.proofs.Common.{made_public}
 use borrow.Author.Count.{below_more}
 use Rattle.std.proofs.lemmas.List.Folds.{list_any-append}
-use Rattle.std.proofs.lemmas.Slice.Eq.{bytes_eq-Decides}
-use Rattle.std.specs.List.{list_any}
-use Rattle.std.specs.Str.{bytes_eq}
 use Rattle.std.proofs.Math.Bool.{or-false}
-use Rattle.m51_text.specs.Answer.{LineTree}
-use Rattle.m51_asm.specs.declared.names.FirstDefinition.{FirstDefinition}
 use Rattle.m51_asm.specs.declared.repeats.Defining.{Defining}
-use Rattle.m51_asm.specs.Definitions.{Definition, Defined, Label, SegmentOf, EquOf, SetOf, AddressOf, ExternOf}
-use Rattle.m51_asm.specs.Definitions.{definitions_in, found_in, or_later, definition_from, definition_of}
-use Rattle.m51_asm.specs.Assignment.{line_definitions, defined_of, body_of, body_at}
-use Rattle.m51_asm.specs.Repeats.{is_set, clashes, or_here, earlier, repeats_from, publics_in, has_public}
-use Rattle.m51_asm.specs.Repeats.{publics_again, names_module, is_repeated, IsFirstRepeat}
-use Rattle.m51_asm.specs.Table.{how_of, brief, first_of, Table, first_in, sets, clash, noted, all_noted, any_clash}
-use Rattle.m51_asm.specs.Table.{made_public, all_public, any_public}
+use Rattle.m51_asm.specs.Definitions.{definition_of}
+use Rattle.m51_asm.specs.Repeats.{has_public}
+use Rattle.m51_asm.specs.Repeats.{names_module, is_repeated, IsFirstRepeat}
+use Rattle.m51_asm.specs.Table.{how_of, sets, clash, noted, all_noted, any_clash}
+use Rattle.m51_asm.specs.Table.{all_public, any_public}
 use Rattle.m51_asm.specs.Defining.{nothing_defined, line_again, first_again, line_defined, all_defined}
 
 pub or_none : {A : Type 0} (o : Option A) → or_here o None ≡ o
@@ -62,7 +59,7 @@ found_more (e ∷ ds) d name =
     (or_cond (bytes_eq name e.0) e.1 (found_in ds name))
 
 pub first_at : ℕ → Definition → FirstDefinition
-first_at line h = first_of (line, h)
+first_at line h = first_definition (line, h)
 
 in_last : (table : Table) (name key : List ℕ) (f : FirstDefinition)
     → first_in (table ++ (key, f) ∷ []) name ≡ or_here (first_in table name) (cond (bytes_eq name key) (Some f) None)
@@ -93,11 +90,11 @@ noted_by : (table : Table) (line : ℕ) (d : Defined) (name : List ℕ) (o : Opt
     ≡ or_here (first_in table name) (option_map (first_at line) (one_defined name d))
 unfolding one_defined first_at
 noted_by table line d name (Some f) h =
-    held table name d.0 f (first_of (line, d.1)) (bytes_eq name d.0) refl h
-    ∙ ap (or_here (first_in table name)) (sym (map_cond (λ h. first_of (line, h)) (bytes_eq name d.0) d.1))
+    held table name d.0 f (first_definition (line, d.1)) (bytes_eq name d.0) refl h
+    ∙ ap (or_here (first_in table name)) (sym (map_cond (λ h. first_definition (line, h)) (bytes_eq name d.0) d.1))
 noted_by table line d name None h =
-    in_last table name d.0 (first_of (line, d.1))
-    ∙ ap (or_here (first_in table name)) (sym (map_cond (λ h. first_of (line, h)) (bytes_eq name d.0) d.1))
+    in_last table name d.0 (first_definition (line, d.1))
+    ∙ ap (or_here (first_in table name)) (sym (map_cond (λ h. first_definition (line, h)) (bytes_eq name d.0) d.1))
 
 noted_in : (table : Table) (line : ℕ) (d : Defined) (name : List ℕ)
     → first_in (noted table line (brief d)) name
@@ -172,7 +169,7 @@ defined_more lines k l name is =
     ∙ definition_more (take k lines) l 0 k name (omega (arith, take_len lines k l is))
 
 firsts_map : (k : ℕ) (o : Option Definition)
-    → option_map first_of (option_map (at_line k) o) ≡ option_map (first_at k) o
+    → option_map first_definition (option_map (at_line k) o) ≡ option_map (first_at k) o
 unfolding at_line first_at
 firsts_map k None = refl
 firsts_map k (Some h) = refl
@@ -180,7 +177,7 @@ firsts_map k (Some h) = refl
 -- a table has the first definitions above line k, and those before in the line
 pub Sees : Table → List LineTree → ℕ → List Defined → Type 0
 Sees table lines k before = (name : List ℕ)
-    → first_in table name ≡ or_here (option_map first_of (definition_of (take k lines) name))
+    → first_in table name ≡ or_here (option_map first_definition (definition_of (take k lines) name))
     (option_map (first_at k) (found_in before name))
 
 sets_same : (d : Definition) → sets (how_of d) ≡ is_set d
@@ -195,7 +192,7 @@ both_sets : (d e : Definition) → not (sets (how_of d) && sets (how_of e)) ≡ 
 both_sets d e = λ i. not (sets_same d i && sets_same e i)
 
 clash_same : (k : ℕ) (o : Option (ℕ × Definition)) (b : Option Definition) (x : Definition)
-    → clash (or_here (option_map first_of o) (option_map (first_at k) b)) (how_of x)
+    → clash (or_here (option_map first_definition o) (option_map (first_at k) b)) (how_of x)
     ≡ clashes (or_here (option_map (λ d. d.1) o) b) x
 unfolding first_at
 clash_same k (Some d) b x = both_sets d.1 x
@@ -207,7 +204,7 @@ sees_more : (table : Table) (lines : List LineTree) (k : ℕ) (before : List Def
     → Sees (noted table k (brief d)) lines k (before ++ d ∷ [])
 unfolding Sees
 sees_more table lines k before d s name =
-    let above : Option FirstDefinition = option_map first_of (definition_of (take k lines) name) in
+    let above : Option FirstDefinition = option_map first_definition (definition_of (take k lines) name) in
     noted_in table k d name
     ∙ ap (λ o. or_here o (option_map (first_at k) (one_defined name d))) (s name)
     ∙ or_join above (option_map (first_at k) (found_in before name)) (option_map (first_at k) (one_defined name d))
@@ -305,7 +302,7 @@ IsFirstAbove lines k (Some r) = ((r < k) × (is_repeated lines r ≡ true))
     × ((j : ℕ) → j < r → is_repeated lines j ≡ false)
 
 record IsKept (lines : List LineTree) (k : ℕ) (d : Defining) : Type 0 where
-  names : (name : List ℕ) → first_in d.names name ≡ option_map first_of (definition_of (take k lines) name)
+  names : (name : List ℕ) → first_in d.names name ≡ option_map first_definition (definition_of (take k lines) name)
   publics : (name : List ℕ) → list_any (bytes_eq name) d.publics ≡ list_any (has_public name) (take k lines)
   named : d.named ≡ list_any (λ line. names_module line.stmt.body) (take k lines)
   repeated : IsFirstAbove lines k d.repeated
@@ -328,7 +325,7 @@ again_same lines k l d is kept =
     let defined : definitions_in l.stmt ≡ line_definitions lines k = sym (ap defined_of is) in
     let body : l.stmt.body ≡ body_at lines k = sym (ap body_of is) in
     let sees : Sees d.names lines k [] =
-    λ name. kept.names name ∙ sym (or_none (option_map first_of (definition_of (take k lines) name))) in
+    λ name. kept.names name ∙ sym (or_none (option_map first_definition (definition_of (take k lines) name))) in
     let names : any_clash d.names k (map brief (definitions_in l.stmt))
     ≡ repeats_from lines k [] (line_definitions lines k)
     = repeats_same d.names lines k [] (definitions_in l.stmt) sees ∙ ap (repeats_from lines k []) defined in
@@ -354,11 +351,11 @@ kept_more lines k l d is kept = record {
   names = λ name.
       all_noted_in d.names k (definitions_in l.stmt) name
       ∙ ap (λ o. or_here o (option_map (first_at k) (found_in (definitions_in l.stmt) name))) (kept.names name)
-      ∙ ap (or_here (option_map first_of (definition_of (take k lines) name)))
+      ∙ ap (or_here (option_map first_definition (definition_of (take k lines) name)))
       (sym (firsts_map k (found_in (definitions_in l.stmt) name)))
-      ∙ sym (or_map first_of (definition_of (take k lines) name)
+      ∙ sym (or_map first_definition (definition_of (take k lines) name)
       (option_map (at_line k) (found_in (definitions_in l.stmt) name)))
-      ∙ ap (option_map first_of) (sym (defined_more lines k l name is));
+      ∙ ap (option_map first_definition) (sym (defined_more lines k l name is));
   publics = λ name.
       all_made d.publics (publics_in l.stmt.body) name
       ∙ ap (λ b. b || has_public name l) (kept.publics name)
@@ -394,7 +391,7 @@ past_end (x ∷ lines) (suc k) e = let h : length lines ≤ k = past_end lines k
 
 -- what holds of the whole text
 pub record IsDefined (lines : List LineTree) (d : Defining) : Type 0 where
-  pub names : (name : List ℕ) → first_in d.names name ≡ option_map first_of (definition_of lines name)
+  pub names : (name : List ℕ) → first_in d.names name ≡ option_map first_definition (definition_of lines name)
   pub repeated : IsFirstRepeat lines d.repeated
 
 first_of_all : (lines : List LineTree) (k : ℕ) (r : Option ℕ) → length lines ≤ k → k ≤ length lines
@@ -412,7 +409,7 @@ kept_all : (lines rest : List LineTree) (k : ℕ) (d : Defining) → drop k line
     → IsKept lines k d
     → IsDefined lines (all_defined d k rest)
 kept_all lines [] k d e within kept = record {
-  names = λ name. kept.names name ∙ ap (λ ls. option_map first_of (definition_of ls name))
+  names = λ name. kept.names name ∙ ap (λ ls. option_map first_definition (definition_of ls name))
       (take_all k lines (past_end lines k e));
   repeated = first_of_all lines k d.repeated (past_end lines k e) within kept.repeated;
 }

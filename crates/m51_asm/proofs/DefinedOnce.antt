@@ -1,18 +1,15 @@
 -- Where no line repeats, names that are no SET names are defined once, and names are public once.
-use Rattle.std.proofs.Common.{◌≡◌, ◌≢◌, inl, inr, ℕ, zero, suc, ◌<◌, Bool, true, false, not, ◌&&◌, ◌||◌, cond, List, []}
-use Rattle.std.proofs.Common.{◌∷◌, ◌++◌, take, Option, Some, None, option_map, refl, subst, arith}
+use Rattle.m51_asm.proofs.Common.{◌≡◌, ◌≢◌, inl, inr, ℕ, zero, suc, ◌<◌, Bool, true, false, not, ◌&&◌, ◌||◌, cond, List}
+use Rattle.m51_asm.proofs.Common.{[], ◌∷◌, ◌++◌, take, Option, Some, None, option_map, refl, subst, arith, list_any}
+use Rattle.m51_asm.proofs.Common.{bytes_eq, or_parts, bytes_eq-Decides, LineTree, Definition, Defined, definitions_in}
+use Rattle.m51_asm.proofs.Common.{label_defined, defined_by, found_in, or_later, definition_from, body_of, body_at}
+use Rattle.m51_asm.proofs.Common.{defined_of, line_definitions, is_set, clashes, or_here, earlier, repeats_from}
+use Rattle.m51_asm.proofs.Common.{publics_in, publics_again}
 use Rattle.std.specs.Prelude.{slice_get}
-use Rattle.std.specs.List.{list_any}
-use Rattle.std.specs.Str.{bytes_eq}
-use Rattle.std.proofs.lemmas.Bool.{or_parts}
-use Rattle.std.proofs.lemmas.Slice.Eq.{bytes_eq-Decides}
 use Rattle.m51_cells.proofs.ListsAndOptions.{map_none}
-use Rattle.m51_text.specs.Answer.{LineTree}
-use Rattle.m51_asm.specs.Definitions.{Definition, Defined, definitions_in, label_defined, defined_by, found_in}
-use Rattle.m51_asm.specs.Definitions.{or_later, definition_from, definition_of}
-use Rattle.m51_asm.specs.Assignment.{body_of, body_at, defined_of, line_definitions}
-use Rattle.m51_asm.specs.Repeats.{is_set, clashes, or_here, earlier, repeats_from, repeats_a_name, publics_in}
-use Rattle.m51_asm.specs.Repeats.{has_public, publics_again, renames_module, is_repeated}
+use Rattle.m51_asm.specs.Definitions.{definition_of}
+use Rattle.m51_asm.specs.Repeats.{repeats_a_name}
+use Rattle.m51_asm.specs.Repeats.{has_public, renames_module, is_repeated}
 use Rattle.m51_asm.proofs.Members.{In, Every, Pairs, in_cons, no_element, in_first, in_left, in_right}
 
 or_none : {A : Type 0} (x y : Option A) → or_here x y ≡ None → (x ≡ None) × (y ≡ None)

@@ -1,18 +1,15 @@
 -- A line of at most 255 bytes has no expression of over 254 names: each symbol of an expression is at most one name,
 -- and
 -- each token has a byte.
-use Rattle.std.proofs.Common.{◌≡◌, ℕ, zero, suc, ◌+◌, ◌-◌, ◌≤◌, ◌==◌, ◌||◌, Bool, true, false, nat_lt, cond, List, []}
-use Rattle.std.proofs.Common.{◌∷◌, ◌++◌, length, length-append, take, drop, Option, Some, None, option_map, Result, Ok}
-use Rattle.std.proofs.Common.{Err, refl, ap, subst, ◌∙◌, arith}
-use Rattle.std.proofs.lemmas.List.{length-map}
-use Rattle.std.proofs.lemmas.Bool.{ltb-false}
-use Rattle.std.specs.List.{AllByRecursion, list_all, prefix_len}
+use Rattle.m51_asm.proofs.Common.{◌≡◌, ℕ, zero, suc, ◌+◌, ◌-◌, ◌≤◌, ◌==◌, ◌||◌, Bool, true, false, nat_lt, cond, List}
+use Rattle.m51_asm.proofs.Common.{[], ◌∷◌, ◌++◌, length, length-append, take, drop, Option, Some, None, option_map}
+use Rattle.m51_asm.proofs.Common.{Result, Ok, Err, refl, ap, subst, ◌∙◌, arith, length-map, ltb-false, list_all}
+use Rattle.m51_asm.proofs.Common.{bytes_eq, name_of, Base, Value, Meanings, Tree, BodyTree, StmtTree, TextLine}
+use Rattle.m51_asm.proofs.Common.{faults_of, LineTree, with_statement, statements_of, body_at, IsText, ids_in, base_ids}
+use Rattle.std.specs.List.{AllByRecursion, prefix_len}
 use Rattle.std.specs.Prelude.{codes, slice_index}
 use Rattle.std.specs.Char.{is_ascii_alphanumeric, is_ascii_digit}
-use Rattle.std.specs.Str.{bytes_eq}
 use Rattle.m51_cells.specs.declared.fault.TheConstants.{BAD_FORM}
-use Rattle.m51_cells.specs.Name.{name_of}
-use Rattle.m51_cells.specs.declared.kind.Base.{Base}
 use Rattle.m51_cells.specs.declared.kind.Base.TheVariants as base
 use Rattle.m51_lex.specs.declared.token.Token.{Token}
 use Rattle.m51_lex.specs.Characters.{quote, tab, space, semicolon, is_name_byte, is_sign}
@@ -21,17 +18,14 @@ use Rattle.m51_lex.specs.Number.{number_of}
 use Rattle.m51_lex.specs.Tokens.{Cut, put_front, after_lexeme, tokens_at}
 use Rattle.m51_expr.specs.declared.symbol.Symbol.{Symbol}
 use Rattle.m51_expr.specs.declared.symbol.Symbol.TheVariants as symbol
-use Rattle.m51_expr.specs.declared.value.Value.{Value}
-use Rattle.m51_expr.specs.Meanings.{Meanings}
 use Rattle.m51_expr.specs.Symbol.{symbol_of}
-use Rattle.m51_expr.specs.Tree.{Tree}
 use Rattle.m51_expr.specs.Tree as tree
 use Rattle.m51_expr.specs.Ranks.{leaf_of, text_value}
-use Rattle.m51_expr.specs.Reading.{Line, line_of}
+use Rattle.m51_expr.specs.Reading.{Line, line_of_symbols}
 use Rattle.m51_expr.specs.Grammar as expression
 use Rattle.m51_expr.specs.Grammar.{Writes}
 use Rattle.m51_stmt.specs.Statement as body
-use Rattle.m51_stmt.specs.Statement.{BodyTree, StmtTree, OperandTree}
+use Rattle.m51_stmt.specs.Statement.{OperandTree}
 use Rattle.m51_stmt.specs.Grammar as grammar
 use Rattle.m51_stmt.specs.Control as control
 use Rattle.m51_stmt.specs.Control.{ends, parenthesized, include_of, ignored_if, by_name, is_ignored_word}
@@ -42,30 +36,27 @@ use Rattle.m51_stmt.proofs.IfRead.{IfSome, some_is, none_is, some_cond, some_map
 use Rattle.m51_stmt.proofs.IfRead.{read_cond, flip}
 use Rattle.m51_stmt.proofs.LinesRead.{line_derived}
 use Rattle.m51_text.specs.Said.{is_character, said}
-use Rattle.m51_text.specs.Text.{TextLine, text_lines}
-use Rattle.m51_text.specs.Faults.{faults_of}
-use Rattle.m51_text.specs.Answer.{LineTree, with_statement, statements_of}
-use Rattle.m51_asm.specs.Assignment.{body_at}
-use Rattle.m51_asm.specs.Gathering.{IsText}
-use Rattle.m51_asm.specs.Located.{ids_in, base_ids, value_ids}
+use Rattle.m51_text.specs.Text.{text_lines}
+use Rattle.m51_asm.specs.Located.{value_ids}
 use Rattle.m51_asm.proofs.GoodLines.{found_are}
-use Rattle.m51_asm.specs.FewNames.{names_in, IsFewNamed, AreFewNamed, HasFewNames}
+use Rattle.m51_asm.specs.FewNames.{count_of_names, IsFewNamed, AreFewNamed, HasFewNames}
 
 -- a symbol is at most one name
-number_names : (o : Option ℕ) (e : Tree) → option_map (λ n. tree.Number n) o ≡ Some e → names_in e ≤ 1
-number_names (Some n) e h = let is : tree.Number n ≡ e = cc h in subst (λ t. names_in t ≤ 1) is (omega arith)
+number_names : (o : Option ℕ) (e : Tree) → option_map (λ n. tree.Number n) o ≡ Some e → count_of_names e ≤ 1
+number_names (Some n) e h = let is : tree.Number n ≡ e = cc h in subst (λ t. count_of_names t ≤ 1) is (omega arith)
 number_names None e h = absurd (cc h)
 
-leaf_names : (o : Option Symbol) (e : Tree) → leaf_of o ≡ Some e → names_in e ≤ 1
+leaf_names : (o : Option Symbol) (e : Tree) → leaf_of o ≡ Some e → count_of_names e ≤ 1
 leaf_names (Some (symbol.Number n)) e h = let is : tree.Number n ≡ e = cc h in
-    subst (λ t. names_in t ≤ 1) is (omega arith)
+    subst (λ t. count_of_names t ≤ 1) is (omega arith)
 leaf_names (Some (symbol.Text characters)) e h = number_names (text_value characters) e h
 leaf_names (Some (symbol.Name name)) e h = let is : tree.Name name ≡ e = cc h in
-    subst (λ t. names_in t ≤ 1) is (omega arith)
-leaf_names (Some symbol.Here) e h = let is : tree.Here ≡ e = cc h in subst (λ t. names_in t ≤ 1) is (omega arith)
+    subst (λ t. count_of_names t ≤ 1) is (omega arith)
+leaf_names (Some symbol.Here) e h = let is : tree.Here ≡ e = cc h in subst (λ t. count_of_names t ≤ 1) is (omega arith)
 leaf_names o e h = absurd (cc h)
 
-written_names : (line : Line) (rank from : ℕ) (e : Tree) (to : ℕ) → Writes line rank from e to → from + names_in e ≤ to
+written_names : (line : Line) (rank from : ℕ) (e : Tree) (to : ℕ) → Writes line rank from e to
+    → from + count_of_names e ≤ to
 written_names line rank from e to (expression.Leaf is leaf end) = let few = leaf_names (line from) e leaf in
     omega (arith, few, end)
 written_names line rank from e to (expression.Parens {last = last} is first inner close end) =
@@ -78,9 +69,10 @@ written_names line rank from e to (expression.Between {mid = mid} {left = left} 
     omega (arith, first, second)
 written_names line rank from e to (expression.Tighter less rest) = written_names line (rank + 1) from e to rest
 
-expr_names : (symbols : List Symbol) (e : Tree) → length symbols ≤ 254 → grammar.IsExpr symbols e → names_in e ≤ 254
+expr_names : (symbols : List Symbol) (e : Tree) → length symbols ≤ 254 → grammar.IsExpr symbols e
+    → count_of_names e ≤ 254
 expr_names symbols e h is =
-    let few = written_names (line_of symbols) 0 0 e (length symbols) is.writes in omega (arith, few, h)
+    let few = written_names (line_of_symbols symbols) 0 0 e (length symbols) is.writes in omega (arith, few, h)
 
 -- operands
 register_names : (word : List ℕ) → IfSome (register word) IsFewNamed
@@ -163,8 +155,8 @@ statement_names symbols s h (grammar.Labelled {symbols = rest} {b = b} free is) 
 statement_names symbols s h (grammar.Bare {b = b} is) = said_names false symbols b h is
 
 -- controls
-control_word : (word rest : List ℕ) → IfRead (control.by_word word rest) HasFewNames
-unfolding control.by_word
+control_word : (word rest : List ℕ) → IfRead (control.body_by_word word rest) HasFewNames
+unfolding control.body_by_word
 control_word word rest =
     ok_cond (bytes_eq word (codes "INCLUDE")) (λ _. included (parenthesized rest)) (λ _.
     ok_cond (bytes_eq word (codes "TITLE"))
@@ -295,7 +287,7 @@ value_few None = omega arith
 value_few (Some v) = base_few v.base
 
 -- an expression and its statement have no more segments than names, and one
-ids_few : (names : Meanings) (e : Tree) → length (ids_in names e) ≤ names_in e
+ids_few : (names : Meanings) (e : Tree) → length (ids_in names e) ≤ count_of_names e
 ids_few names (tree.Name name) = value_few (names.value name)
 ids_few names (tree.One op inner) = ids_few names inner
 ids_few names (tree.Two op left right) =
@@ -306,7 +298,7 @@ ids_few names (tree.Two op left right) =
 ids_few names e = omega arith
 
 pub table_few : (names : Meanings) (e : Tree) (table : List ℕ) → table ≡ base_ids names.here.base ++ ids_in names e
-    → names_in e ≤ 254
+    → count_of_names e ≤ 254
     → length table ≤ 255
 table_few names e table is h =
     let first = base_few names.here.base in

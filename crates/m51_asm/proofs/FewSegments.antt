@@ -1,23 +1,20 @@
 -- A text without faults gives no more segments and externals than a module may have.
-use Rattle.std.proofs.Common.{◌≡◌, ◌≢◌, ◌⊎◌, inl, inr, ℕ, zero, suc, ◌+◌, ◌<◌, ◌≤◌, ◌==◌, nat_lt, Bool, true, false}
-use Rattle.std.proofs.Common.{not, ◌&&◌, cond, List, [], ◌∷◌, ◌++◌, length, ◌-◌, refl, sym, ap, subst, ◌∙◌, arith}
-use Rattle.std.proofs.Common.{add-zero, length-append, eq-eqb}
-use Rattle.std.proofs.lemmas.List.{length-map}
-use Rattle.std.proofs.lemmas.Bool.{ltb-true, ltb-false, lt-ltb, le-ltb, eqb-true, eqb-false, ne_eqb, or_parts, and_from}
+use Rattle.m51_asm.proofs.Common.{◌≡◌, ◌≢◌, ◌⊎◌, inl, inr, ℕ, zero, suc, ◌+◌, ◌<◌, ◌≤◌, ◌==◌, nat_lt, Bool, true, false}
+use Rattle.m51_asm.proofs.Common.{not, ◌&&◌, cond, List, [], ◌∷◌, ◌++◌, length, ◌-◌, refl, sym, ap, subst, ◌∙◌, arith}
+use Rattle.m51_asm.proofs.Common.{add-zero, length-append, eq-eqb, length-map, ltb-true, ltb-false, eqb-true, eqb-false}
+use Rattle.m51_asm.proofs.Common.{ne_eqb, or_parts, and_from, Kind, Reloc, is_absolute, BodyTree, LineTree, TextSegment}
+use Rattle.m51_asm.proofs.Common.{Assignment, body_at, size_by, externals_in, Kept, kept_by, segment_of, external}
+use Rattle.m51_asm.proofs.Common.{externals}
+use Rattle.std.proofs.lemmas.Bool.{lt-ltb, le-ltb}
 use Rattle.std.proofs.lemmas.Bool.{cases_Bool}
-use Rattle.m51_cells.specs.declared.kind.Kind.{Kind}
-use Rattle.m51_cells.specs.declared.kind.Reloc.{Reloc}
 use Rattle.m51_cells.specs.declared.kind.Reloc.TheVariants as reloc
-use Rattle.m51_cells.specs.Kinds.{is_absolute}
 use Rattle.m51_cells.proofs.KindLaws.{absolute_is}
 use Rattle.m51_stmt.specs.Statement as body
-use Rattle.m51_stmt.specs.Statement.{BodyTree}
-use Rattle.m51_text.specs.Answer.{LineTree}
-use Rattle.m51_asm.specs.Assignment.{TextSegment, Assignment, body_at, above}
-use Rattle.m51_asm.specs.Fitting.{size_by, size_at, filled, externals_in, externals_before}
+use Rattle.m51_asm.specs.Assignment.{above}
+use Rattle.m51_asm.specs.Fitting.{size_at, filled, externals_before}
 use Rattle.m51_asm.specs.PlacedFaults.{begins_to_fill, is_numbered_by, numbers_a_segment, segments_before}
-use Rattle.m51_asm.specs.ObjectSegments.{Kept, kept_by, kept_before, kept, segment_of}
-use Rattle.m51_asm.specs.Parts.{external, externals_by, externals}
+use Rattle.m51_asm.specs.ObjectSegments.{kept_before, kept}
+use Rattle.m51_asm.specs.Parts.{externals_by}
 use Rattle.m51_asm.proofs.Members.{In, Every, Pairs, in_first, in_later}
 use Rattle.m51_asm.proofs.GoodLines.{IsFreeText, IsFaultFree, free}
 use Rattle.m51_asm.proofs.KnownSegments.{known}

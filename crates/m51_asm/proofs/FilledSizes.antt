@@ -1,8 +1,8 @@
 -- Sizes that are kept by id: one more of 0 changes none, and one that is set changes only its own.
-use Rattle.std.proofs.Common.{◌≡◌, ◌≢◌, ℕ, zero, suc, ◌<◌, ◌==◌, cond, List, [], ◌∷◌, ◌++◌, length, slice_set, refl, ap}
-use Rattle.std.proofs.Common.{sym, ◌∙◌, arith, inl, inr}
+use Rattle.m51_asm.proofs.Common.{◌≡◌, ◌≢◌, ℕ, zero, suc, ◌<◌, ◌==◌, cond, List, [], ◌∷◌, ◌++◌, length, refl, ap, sym}
+use Rattle.m51_asm.proofs.Common.{◌∙◌, arith, inl, inr, size_in}
+use Rattle.std.proofs.Common.{slice_set}
 use Rattle.std.proofs.lemmas.Bool.Decides.{eqb_tells}
-use Rattle.m51_asm.specs.Filled.{size_in}
 
 pub one_more : (sizes : List ℕ) (other : ℕ) → size_in (sizes ++ 0 ∷ []) other ≡ size_in sizes other
 one_more [] zero = refl

@@ -1,22 +1,12 @@
 -- By the state for pass 2, what names and the place of a line mean over the segments of the module.
-use Rattle.std.proofs.Common.{◌≡◌, ℕ, ◌%◌, List, option_map, ap, sym, ◌∙◌}
+use Rattle.m51_asm.proofs.Common.{◌≡◌, ℕ, ◌%◌, List, option_map, ap, sym, ◌∙◌, Whole, LineTree, PlacedText, LinePlace}
+use Rattle.m51_asm.proofs.Common.{Assignment, here_at, Fits, located_value, text_segment, here_of, IsPlaceOf, first_in}
+use Rattle.m51_asm.proofs.Common.{Valuation, value_in, IsSetAt, number_at, IsAssignedText, AreNamesAt}
 use Rattle.m51_cells.specs.declared.kind.Base.TheVariants as base
-use Rattle.m51_expr.specs.declared.value.Part.TheVariants.{Whole}
-use Rattle.m51_text.specs.Answer.{LineTree}
 use Rattle.m51_asm.specs.declared.object_names.ObjectNames.{ObjectNames}
-use Rattle.m51_asm.specs.declared.object_names.PlacedText.{PlacedText}
-use Rattle.m51_asm.specs.declared.stepping.LinePlace.{LinePlace}
-use Rattle.m51_asm.specs.Assignment.{Assignment, here_at}
-use Rattle.m51_asm.specs.Fitting.{Fits}
-use Rattle.m51_asm.specs.Located.{located_value}
-use Rattle.m51_asm.specs.OpenSegments.{text_segment}
-use Rattle.m51_asm.specs.Placing.{here_of, IsPlaceOf}
-use Rattle.m51_asm.specs.Table.{first_in}
-use Rattle.m51_asm.specs.Above.{Valuation, value_in}
 use Rattle.m51_asm.specs.ObjectMeanings.{object_meanings, final}
-use Rattle.m51_asm.specs.ValuesAt.{IsSetAt, IsKnownAt}
-use Rattle.m51_asm.specs.Numbering.{number_at}
-use Rattle.m51_asm.specs.ObjectNames.{kept_value, IsReady, AreNamesAt}
+use Rattle.m51_asm.specs.ValuesAt.{IsKnownAt}
+use Rattle.m51_asm.specs.ObjectNames.{kept_value}
 use Rattle.m51_asm.proofs.TextValues.{value_is}
 
 -- the place of a line that is placed
@@ -32,7 +22,7 @@ place_is lines a k p f place =
     }) (sym (f.places k))
 
 -- by the state at a line, what names mean there
-pub names_are : (lines : List LineTree) (a : Assignment) (k : ℕ) (t : PlacedText) → IsReady lines a t
+pub names_are : (lines : List LineTree) (a : Assignment) (k : ℕ) (t : PlacedText) → IsAssignedText lines a t
     → (set : Valuation) → IsSetAt lines a k set
     → (p : LinePlace) → IsPlaceOf lines a k p → (n : ObjectNames) → n.values.names.now ≡ t.text.names.now
     → n.values.kept.now ≡ t.end.now.values

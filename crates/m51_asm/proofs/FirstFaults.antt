@@ -1,12 +1,10 @@
 -- The first line that has a fault by the lines above it gives the answer.
-use Rattle.std.proofs.Common.{◌≡◌, ℕ, zero, suc, ◌+◌, ◌<◌, List, [], ◌∷◌, length, Option, Some, None, refl, ap, sym}
-use Rattle.std.proofs.Common.{◌∙◌, slice_get, add-zero, arith}
-use Rattle.m51_text.specs.Answer.{LineTree}
-use Rattle.m51_asm.specs.Assignment.{Assignment}
+use Rattle.m51_asm.proofs.Common.{◌≡◌, ℕ, zero, suc, ◌+◌, ◌<◌, List, [], ◌∷◌, length, Option, Some, None, refl, ap, sym}
+use Rattle.m51_asm.proofs.Common.{◌∙◌, slice_get, add-zero, arith, LineTree, Assignment, content_faults, Faults}
+use Rattle.m51_asm.proofs.Common.{first_fault, content_or_faults, AreFree, IsFirstFault}
 use Rattle.m51_asm.specs.PlacedFaults.{placed_fault}
-use Rattle.m51_asm.specs.ContentFaults.{fault_of_line, content_faults}
-use Rattle.m51_asm.specs.Answer.{Faults, fault_or, first_fault, placed_or_fault, content_or_faults, answer_of_lines}
-use Rattle.m51_asm.specs.FirstFault.{AreFree, IsFirstFault}
+use Rattle.m51_asm.specs.ContentFaults.{fault_of_line}
+use Rattle.m51_asm.specs.Answer.{fault_or, placed_or_fault, answer_of_lines}
 
 -- a number further on
 pub moved : (n k : ℕ) → suc n + k ≡ n + suc k

@@ -1,40 +1,40 @@
 -- What lines give to the segments of a module: line by line it grows to the pieces and fixups of the definitions.
-use Rattle.std.proofs.Common.{◌≡◌, ◌≢◌, inl, inr, ℕ, zero, suc, ◌+◌, ◌<◌, ◌≤◌, ◌==◌, ◌-◌, Bool, true, false, cond, List}
-use Rattle.std.proofs.Common.{[], ◌∷◌, ◌++◌, append_assoc, map, length, Option, Some, None, option_map, Result, Ok, Err}
-use Rattle.std.proofs.Common.{OnOk, refl, ap, sym, ◌∙◌, slice_get, get_or, arith, eq-eqb}
-use Rattle.std.specs.List.{flat_map}
+use Rattle.m51_asm.proofs.Common.{◌≡◌, ◌≢◌, inl, inr, ℕ, zero, suc, ◌+◌, ◌<◌, ◌≤◌, ◌==◌, ◌-◌, Bool, true, false, cond}
+use Rattle.m51_asm.proofs.Common.{List, [], ◌∷◌, ◌++◌, map, length, Option, Some, None, option_map, Result, Ok, Err}
+use Rattle.m51_asm.proofs.Common.{refl, ap, sym, ◌∙◌, slice_get, get_or, arith, eq-eqb, flat_map, eqb-true, ne_eqb}
+use Rattle.m51_asm.proofs.Common.{length-map, Fixup, Piece, Segment, LineTree, with_line, Assignment, body_at, Kept}
+use Rattle.m51_asm.proofs.Common.{object_segments, from_one, place_in, segment_number, Run, if_bytes, pieces_of_run}
+use Rattle.m51_asm.proofs.Common.{offset_at, pieces, fixups, nothing_gathered, gathered_before, IsText, IsAssignedText}
+use Rattle.m51_asm.proofs.Common.{PlacedText}
+use Rattle.std.proofs.Common.{append_assoc}
+use Rattle.std.proofs.Common.{OnOk}
 use Rattle.std.specs.Prelude.{slice_set}
-use Rattle.std.proofs.lemmas.Bool.{eqb-true, ne_eqb}
-use Rattle.std.proofs.lemmas.List.{append-nil, length-map}
+use Rattle.std.proofs.lemmas.List.{append-nil}
 use Rattle.std.proofs.lemmas.List.Folds.{flat_map-map}
-use Rattle.m51_module.specs.declared.content.Fixup.{Fixup}
-use Rattle.m51_module.specs.declared.content.Piece.{Piece}
-use Rattle.m51_module.specs.declared.segment.Segment.{Segment}
-use Rattle.m51_text.specs.Answer.{LineTree}
 use Rattle.m51_emit.specs.Within.{LieInside}
-use Rattle.m51_emit.specs.Gathering.{Gathered, run_of, runs_of, fixups_of, gathered_of, with_line, pieces_in}
+use Rattle.m51_emit.specs.Gathering.{Gathered, run_of, runs_of, fixups_of, gathered_of, pieces_in}
 use Rattle.m51_emit.specs.Gathering.{all_pieces, all_fixups}
 use Rattle.m51_emit.specs.declared.content.EmittedContent.{EmittedContent}
 use Rattle.m51_emit.specs.declared.gathering.ModuleContent.{ModuleContent}
 use Rattle.m51_emit.proofs.GrownRuns.{gathered_grows}
 use Rattle.m51_emit.proofs.LyingContent.{references_lie}
-use Rattle.m51_asm.specs.Assignment.{Assignment, body_at}
 use Rattle.m51_asm.specs.ObjectMeanings.{final}
-use Rattle.m51_asm.specs.ObjectSegments.{Kept, kept, object_segments, from_one, place_in, number_in, segment_number}
-use Rattle.m51_asm.specs.Pieces.{Run, if_bytes, pieces_of_run, content_at, offset_at, runs_from, segment_pieces, pieces}
-use Rattle.m51_asm.specs.Pieces.{line_fixups, fixups_from, fixups}
-use Rattle.m51_asm.specs.Gathering.{nothing_in, nothing_gathered, changed_at, changed, placed_at, placed_before}
-use Rattle.m51_asm.specs.Gathering.{gathered_in, gathered_before, IsText, IsGiven}
-use Rattle.m51_asm.specs.declared.object_names.PlacedText.{PlacedText}
+use Rattle.m51_asm.specs.ObjectSegments.{kept, number_in}
+use Rattle.m51_asm.specs.Pieces.{content_at, runs_from, segment_pieces}
+use Rattle.m51_asm.specs.Pieces.{line_fixups, fixups_from}
+use Rattle.m51_asm.specs.Gathering.{nothing_in, changed_at, changed_element, placed_at, placed_before}
+use Rattle.m51_asm.specs.Gathering.{gathered_in}
+use Rattle.m51_asm.specs.ContentFaults.{content_fault}
 use Rattle.m51_asm.proofs.FewSegments.{few_segments}
 use Rattle.m51_asm.proofs.Members.{In, Every, Pairs, in_first, in_later, got_in}
 use Rattle.m51_asm.proofs.FirstFaults.{moved}
-use Rattle.m51_asm.proofs.GoodLines.{IsClean, clean_where, free_text}
+use Rattle.m51_asm.proofs.GivenContents.{given_at}
+use Rattle.m51_asm.proofs.GoodLines.{IsFreeText, free_where}
 use Rattle.m51_asm.proofs.KeptNumbers.{ids, Ascend}
 use Rattle.m51_asm.proofs.KeptSegments.{AreKept, all_kept}
 use Rattle.m51_asm.proofs.KnownSegments.{known}
 use Rattle.m51_asm.proofs.SegmentRoom.{room}
-use Rattle.m51_asm.proofs.ValidPieces.{line_ends}
+use Rattle.m51_asm.proofs.ValidPieces.{ends_by}
 
 -- a write to an element is a change of it
 pub written : {A : Type 0} (change : A → A) (xs : List A) (i : ℕ) (d : A) → i < length xs
@@ -49,7 +49,7 @@ nothing_changed change [] i h = refl
 nothing_changed change (x ∷ xs) zero h = absurd (omega (arith, h))
 nothing_changed change (x ∷ xs) (suc i) h = ap (λ ys. x ∷ ys) (nothing_changed change xs i (omega (arith, h)))
 
-on_ok : {T E : Type 0} (r : Result T E) (P Q : Type 0) → (P → Q) → OnOk r P → OnOk r Q
+pub on_ok : {T E : Type 0} (r : Result T E) (P Q : Type 0) → (P → Q) → OnOk r P → OnOk r Q
 on_ok (Ok t) P Q f h = f h
 on_ok (Err e) P Q f h = tt
 
@@ -59,17 +59,17 @@ number_less n ne = grind (arith, ne)
 -- the element of this number is changed, where the change goes well
 pub added : {A T E : Type 0} (r : Result T E) (change : A → A) (xs : List A) (n number : ℕ) (x new : A) → n ≡ number
     → number ≢ 0 → get_or xs (n - 1) x ≡ x
-    → n - 1 < length xs → OnOk r (new ≡ change x) → OnOk r (slice_set xs (n - 1) new ≡ changed change number xs)
+    → n - 1 < length xs → OnOk r (new ≡ change x) → OnOk r (slice_set xs (n - 1) new ≡ changed_element change number xs)
 added r change xs n number x new same some is below h =
-    on_ok r (new ≡ change x) (slice_set xs (n - 1) new ≡ changed change number xs)
+    on_ok r (new ≡ change x) (slice_set xs (n - 1) new ≡ changed_element change number xs)
     (λ e. ap (slice_set xs (n - 1)) (e ∙ ap change (sym is)) ∙ written change xs (n - 1) x below
-    ∙ ap (λ m. changed change m xs) (sym (number_less n (λ z. some (sym same ∙ z))) ∙ same)) h
+    ∙ ap (λ m. changed_element change m xs) (sym (number_less n (λ z. some (sym same ∙ z))) ∙ same)) h
 
 -- no element has this number
 pub not_there : {A : Type 0} (change : A → A) (xs : List A) (n number : ℕ) → n ≡ number → number ≢ 0 → length xs ≤ n - 1
-    → xs ≡ changed change number xs
+    → xs ≡ changed_element change number xs
 not_there change xs n number same some past =
-    sym (ap (λ m. changed change m xs) (sym same ∙ number_less n (λ z. some (sym same ∙ z)))
+    sym (ap (λ m. changed_element change m xs) (sym same ∙ number_less n (λ z. some (sym same ∙ z)))
     ∙ nothing_changed change xs (n - 1) past)
 
 module _ (F G : Kept → Gathered) (change : Gathered → Gathered) (id : ℕ)
@@ -81,13 +81,15 @@ module _ (F G : Kept → Gathered) (change : Gathered → Gathered) (id : ℕ)
 
   -- a change further on
   changed_later : (x : Gathered) (ys : List Gathered) (o : Option ℕ)
-      → changed change (from_one (option_map (λ n. suc n) o)) (x ∷ ys) ≡ x ∷ changed change (from_one o) ys
+      → changed_element change (from_one (option_map (λ n. suc n) o)) (x ∷ ys)
+      ≡ x ∷ changed_element change (from_one o) ys
   changed_later x ys None = refl
   changed_later x ys (Some n) = refl
 
   changed_by : (x : Kept) (xs : List Kept) (b : Bool) → (x.id == id) ≡ b → ((s : Kept) → In s xs → x.id < s.id)
-      → changed change (from_one (place_in (ids xs) id)) (map F xs) ≡ map G xs
-      → changed change (from_one (cond b (Some 0) (option_map (λ n. suc n) (place_in (ids xs) id)))) (F x ∷ map F xs)
+      → changed_element change (from_one (place_in (ids xs) id)) (map F xs) ≡ map G xs
+      → changed_element change (from_one (cond b (Some 0) (option_map (λ n. suc n) (place_in (ids xs) id))))
+      (F x ∷ map F xs)
       ≡ G x ∷ map G xs
   changed_by x xs true test less go =
       let e : x.id ≡ id = eqb-true x.id id test in
@@ -97,7 +99,8 @@ module _ (F G : Kept → Gathered) (change : Gathered → Gathered) (id : ℕ)
       ∙ (λ i. other x (λ e. absurd (cc (test, eq-eqb x.id id e))) i ∷ go i)
 
   -- a change of the segment of one id, by its number
-  pub changed_is : (xs : List Kept) → Ascend xs → changed change (from_one (place_in (ids xs) id)) (map F xs) ≡ map G xs
+  pub changed_is : (xs : List Kept) → Ascend xs → changed_element change (from_one (place_in (ids xs) id)) (map F xs)
+      ≡ map G xs
   unfolding Pairs Every
   changed_is [] order = refl
   changed_is (x ∷ xs) order = changed_by x xs (x.id == id) refl (λ s i. order.0 s i) (changed_is xs order.1)
@@ -218,14 +221,13 @@ module _ (lines : List LineTree) (a : Assignment) where
       (cond b (placed_before lines a s.id k ++ placed_at lines a k ∷ []) (placed_before lines a s.id k)))
       (sym (ne_eqb (a.segment k).id s.id (λ e. ne (sym e))))
 
-module _ (lines : List LineTree) (a : Assignment) (c : IsClean lines a) where
+module _ (lines : List LineTree) (a : Assignment) (f : IsFreeText lines a) where
   order : Ascend (kept lines a)
-  order = let all : AreKept lines a (free_text lines a c) (length lines) (kept lines a) =
-      all_kept lines a (free_text lines a c) in all.order
+  order = let all : AreKept lines a f (length lines) (kept lines a) = all_kept lines a f in all.order
 
   -- with one more line
   pub gathered_more : (k : ℕ)
-      → changed (λ g. with_line (object_segments lines a) g (placed_at lines a k))
+      → changed_element (λ g. with_line (object_segments lines a) g (placed_at lines a k))
       (segment_number lines a (a.segment k).id) (gathered_before lines a k)
       ≡ gathered_before lines a (suc k)
   unfolding number_in
@@ -235,29 +237,30 @@ module _ (lines : List LineTree) (a : Assignment) (c : IsClean lines a) where
       (here_grows lines a k) (there_stays lines a k) (kept lines a) order
 
   -- what a line gives ends in memory
-  line_fits : (k : ℕ) → k < length lines → offset_at lines a k + length (content_at lines a k).bytes ≤ 65536
-  line_fits k below =
+  line_fits : (k : ℕ) → k < length lines → content_fault lines a k ≡ None
+      → offset_at lines a k + length (content_at lines a k).bytes ≤ 65536
+  line_fits k below none =
       let s = a.segment k in
       let test : (s.id == s.id) ≡ true = eq-eqb s.id s.id refl in
-      let end = line_ends lines a c k s.id below test in
-      elim (room lines a (free_text lines a c) (suc k) (omega (arith, below)) s
-      (known lines a (free_text lines a c) k).same) [
+      let end = ends_by lines a k s.id test (given_at lines a f k below none).within in
+      elim (room lines a f (suc k) (omega (arith, below)) s (known lines a f k).same) [
         | inl none ↦ omega (arith, end, none)
         | inr r ↦ let most = r.most in omega (arith, end, most)
       ]
 
   -- the same of a place and content that are those of the line
-  pub given_fits : (k at : ℕ) (x : EmittedContent) → k < length lines → at ≡ offset_at lines a k
-      → x ≡ content_at lines a k → at + length x.bytes ≤ 65536
-  given_fits k at x below placed given =
-      let fit = line_fits k below in
+  pub given_fits : (k at : ℕ) (x : EmittedContent) → k < length lines → content_fault lines a k ≡ None
+      → at ≡ offset_at lines a k → x ≡ content_at lines a k → at + length x.bytes ≤ 65536
+  given_fits k at x below none placed given =
+      let fit = line_fits k below none in
       let len = ap (λ (y : EmittedContent). length y.bytes) given in
       omega (arith, fit, placed, len)
 
-  -- the fields of a line lie in its bytes
-  pub line_lies : (k : ℕ) → LieInside (length (content_at lines a k).bytes) (content_at lines a k).references
-  unfolding content_at
-  line_lies k = references_lie (final lines a k) (a.form k) (body_at lines k)
+-- the fields of a line lie in its bytes
+pub line_lies : (lines : List LineTree) (a : Assignment) (k : ℕ)
+    → LieInside (length (content_at lines a k).bytes) (content_at lines a k).references
+unfolding content_at
+line_lies lines a k = references_lie (final lines a k) (a.form k) (body_at lines k)
 
 -- this number of segments from a number on, to which no line has given anything
 abbrev nothing_from : ℕ → ℕ → List Gathered
@@ -276,7 +279,7 @@ nothing_and n (suc m) =
     sym (append_assoc (nothing_gathered n) (nothing_in (suc n) ∷ []) (nothing_from (suc n) m)) ∙ nothing_and (suc n) m
     ∙ ap nothing_gathered (moved n m)
 
--- the number of a segment is its place, counted from 1
+-- the number of a segment is its index, counted from 1
 index_is : (xs : List Kept) → Ascend xs → (j : ℕ) (s : Kept) → slice_get xs j ≡ Some s → place_in (ids xs) s.id ≡ Some j
 unfolding Pairs Every
 index_is [] order j s e = absurd (cc e)
@@ -297,7 +300,7 @@ nothing_by f n [] h = refl
 nothing_by f n (x ∷ xs) h = λ i. nothing_in (sym (h 0 x refl ∙ ap (λ m. suc m) (sym (no_more n))) i)
     ∷ nothing_by f (suc n) xs (λ j s e. h (suc j) s e ∙ ap (λ m. suc m) (sym (moved n j))) i
 
-module _ (lines : List LineTree) (a : Assignment) (c : IsClean lines a) where
+module _ (lines : List LineTree) (a : Assignment) (f : IsFreeText lines a) where
   no_line : (s : Kept) → gathered_in lines a 0 s ≡ nothing_in (segment_number lines a s.id)
   unfolding placed_before
   no_line s = refl
@@ -314,7 +317,7 @@ module _ (lines : List LineTree) (a : Assignment) (c : IsClean lines a) where
       let xs = kept lines a in
       sym (nothing_and 0 (length xs) ∙ ap nothing_gathered (zero_first (length xs)))
       ∙ nothing_by (λ s. segment_number lines a s.id) 0 xs
-      (λ j s e. ap from_one (index_is xs (order lines a c) j s e) ∙ ap (λ n. suc n) (sym (zero_first j)))
+      (λ j s e. ap from_one (index_is xs (order lines a f) j s e) ∙ ap (λ n. suc n) (sym (zero_first j)))
       ∙ sym (none_before xs)
 
   -- what is gathered grows with what is added of a line
@@ -322,15 +325,16 @@ module _ (lines : List LineTree) (a : Assignment) (c : IsClean lines a) where
       → segments ≡ object_segments lines a
       → number ≡ segment_number lines a (a.segment k).id → at ≡ offset_at lines a k → content ≡ content_at lines a k
       → old ≡ gathered_before lines a k
-      → new ≡ changed (λ g. with_line segments g (at, content)) number old → new ≡ gathered_before lines a (suc k)
+      → new ≡ changed_element (λ g. with_line segments g (at, content)) number old → new
+      ≡ gathered_before lines a (suc k)
   next_gathered k number at content segments old new same numbered placed given before e =
-      e ∙ (λ i. changed (λ g. with_line (same i) g (placed i, given i)) (numbered i) (before i))
-      ∙ gathered_more lines a c k
+      e ∙ (λ i. changed_element (λ g. with_line (same i) g (placed i, given i)) (numbered i) (before i))
+      ∙ gathered_more lines a f k
 
   -- the segments of the module are not too many
   pub segments_few : (segments : List Segment) → segments ≡ object_segments lines a → length segments ≤ 254
   segments_few segments e =
-      let few = few_segments lines a (free_text lines a c) in
+      let few = few_segments lines a f in
       let len : length segments ≡ length (kept lines a) =
       ap length e ∙ length-map (kept lines a) (λ (k : Kept). k.segment) in
       omega (arith, few, len)
@@ -340,8 +344,8 @@ module _ (lines : List LineTree) (a : Assignment) (c : IsClean lines a) where
   first_gathered segments e = ap nothing_gathered (ap length e ∙ length-map (kept lines a) (λ (k : Kept). k.segment))
       ∙ gathered_first
 
--- a text that gives this has no fault
-pub clean_text : (lines : List LineTree) (a : Assignment) (t : PlacedText) (given : List EmittedContent) → IsText lines
-    → IsGiven lines a t given → IsClean lines a
-clean_text lines a t given text is =
-    clean_where text.source text.includes lines a text.read is.ready.fits is.ready.placed.free is.content
+-- no line of a text that is placed has a fault by the lines above it
+pub placed_text : (lines : List LineTree) (a : Assignment) (t : PlacedText) → IsText lines → IsAssignedText lines a t
+    → IsFreeText lines a
+placed_text lines a t text ready =
+    free_where text.source text.includes lines a text.read ready.fits ready.placed.free

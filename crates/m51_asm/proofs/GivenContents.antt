@@ -1,27 +1,21 @@
 -- What the lines of a text without faults give: bytes in segments of program memory, within what is counted, and at
 -- most
 -- 65,535 references.
-use Rattle.std.proofs.Common.{◌≡◌, ◌⊎◌, inl, inr, ℕ, zero, suc, ◌+◌, ◌<◌, ◌≤◌, false, not, List, [], length, refl, sym}
-use Rattle.std.proofs.Common.{subst, arith}
+use Rattle.m51_asm.proofs.Common.{◌≡◌, ◌⊎◌, inl, inr, ℕ, zero, suc, ◌+◌, ◌<◌, ◌≤◌, false, not, List, [], length, refl}
+use Rattle.m51_asm.proofs.Common.{sym, None, subst, arith, same_kind, kind_same, Jump, Meanings, BodyTree}
+use Rattle.m51_asm.proofs.Common.{OperandOutcome, LineTree, TextSegment, Assignment, body_at, size_by, is_misplaced}
+use Rattle.m51_asm.proofs.Common.{EmittedContent}
 use Rattle.std.proofs.lemmas.Bool.{not-false}
 use Rattle.m51_cells.specs.declared.kind.Kind.TheVariants as kind
-use Rattle.m51_cells.specs.Kinds.{same_kind}
-use Rattle.m51_cells.proofs.KindLaws.{kind_same}
-use Rattle.m51_isa.specs.declared.generics.Jump.{Jump}
-use Rattle.m51_expr.specs.Meanings.{Meanings}
 use Rattle.m51_stmt.specs.Statement as body
-use Rattle.m51_stmt.specs.Statement.{BodyTree}
-use Rattle.m51_encode.specs.declared.outcome.OperandOutcome.{OperandOutcome}
 use Rattle.m51_encode.proofs.FormRows.{forms_have_rows}
-use Rattle.m51_text.specs.Answer.{LineTree}
-use Rattle.m51_asm.specs.Assignment.{TextSegment, Assignment, body_at, above}
-use Rattle.m51_asm.specs.Fitting.{size_by, size_at}
-use Rattle.m51_asm.specs.PlacedFaults.{is_misplaced}
+use Rattle.m51_asm.specs.Assignment.{above}
+use Rattle.m51_asm.specs.Fitting.{size_at}
 use Rattle.m51_asm.specs.ObjectMeanings.{final}
-use Rattle.m51_asm.specs.Content.{EmittedContent, nothing, outcomes_by, content_by}
+use Rattle.m51_asm.specs.Content.{nothing, outcomes_by, content_by}
 use Rattle.m51_asm.specs.ContentFaults.{line_outcomes_by, line_outcomes, made_before, content_fault}
 use Rattle.m51_asm.specs.Pieces.{content_at}
-use Rattle.m51_asm.proofs.GoodLines.{IsGood, IsClean, free}
+use Rattle.m51_asm.proofs.GoodLines.{IsGood, IsFreeText, IsClean, free_text, free}
 use Rattle.m51_asm.proofs.ContentFields.{IsContent}
 use Rattle.m51_asm.proofs.MadeParts.{fixes, AreFine, AreMade, made, IsGiven, nothing_given}
 use Rattle.m51_asm.proofs.CodeContents.{code_given}
@@ -80,22 +74,29 @@ pub record IsLineGiven (lines : List LineTree) (a : Assignment) (k : ℕ) : Type
   pub few : made_before lines a k + length (content_at lines a k).references ≤ made_before lines a (suc k)
   pub code : (length (content_at lines a k).bytes ≡ 0) ⊎ ((a.segment k).kind ≡ kind.Code)
 
-module _ (lines : List LineTree) (a : Assignment) (c : IsClean lines a) where
-  made_at : (k : ℕ) → k < length lines → AreMade (made_before lines a k) (line_outcomes lines a k)
-  unfolding content_fault
-  made_at k below = made (made_before lines a k) (line_outcomes lines a k) (c.content k below)
+made_at : (lines : List LineTree) (a : Assignment) (k : ℕ) → content_fault lines a k ≡ None
+    → AreMade (made_before lines a k) (line_outcomes lines a k)
+unfolding content_fault
+made_at lines a k none = made (made_before lines a k) (line_outcomes lines a k) none
 
+-- a line whose content has no fault
+pub given_at : (lines : List LineTree) (a : Assignment) → IsFreeText lines a → (k : ℕ) → k < length lines
+    → content_fault lines a k ≡ None → IsLineGiven lines a k
+unfolding content_at size_at made_before line_outcomes
+given_at lines a f k below none =
+    let m = made_at lines a k none in
+    let g = line_given lines a k (final lines a k) (above lines a k) (a.form k) (a.segment k) (body_at lines k) refl
+    refl (f.good k) (free lines a k (f.placed k below)).stands m.fine in
+    let few = g.few in
+    let sum = m.made_is in
+    record { content = g.content; within = g.within; few = omega (arith, few, sum); code = g.code }
+
+module _ (lines : List LineTree) (a : Assignment) (c : IsClean lines a) where
   pub given : (k : ℕ) → k < length lines → IsLineGiven lines a k
-  unfolding content_at size_at made_before line_outcomes
-  given k below =
-      let m = made_at k below in
-      let g = line_given lines a k (final lines a k) (above lines a k) (a.form k) (a.segment k) (body_at lines k) refl
-      refl (c.good k) (free lines a k (c.placed k below)).stands m.fine in
-      let few = g.few in
-      let sum = m.made_is in
-      record { content = g.content; within = g.within; few = omega (arith, few, sum); code = g.code }
+  given k below = given_at lines a (free_text lines a c) k below (c.content k below)
 
   pub made_most : (k : ℕ) → k ≤ length lines → made_before lines a k ≤ 65535
   unfolding made_before
   made_most zero within = omega arith
-  made_most (suc k) within = (made_at k (omega (arith, within))).most (made_most k (omega (arith, within)))
+  made_most (suc k) within =
+      (made_at lines a k (c.content k (omega (arith, within)))).most (made_most k (omega (arith, within)))

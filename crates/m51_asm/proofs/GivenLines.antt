@@ -1,38 +1,29 @@
 -- Pass 2 line by line: what is kept grows with a line as the definitions say.
-use Rattle.std.proofs.Common.{◌≡◌, ℕ, zero, suc, ◌%◌, ◌||◌, cond, is_some, List, [], ◌∷◌, ◌++◌, append_assoc, map, drop}
-use Rattle.std.proofs.Common.{length, length-append, Option, Some, None, Ok, Err, refl, ap, sym, subst, ◌∙◌, slice_get}
-use Rattle.std.proofs.Common.{arith}
-use Rattle.m51_isa.specs.declared.generics.Jump.{Jump}
-use Rattle.m51_expr.specs.Meanings.{Meanings}
-use Rattle.m51_module.specs.declared.source.Fault.{Fault}
-use Rattle.m51_module.specs.declared.source.Row.{Row}
-use Rattle.m51_stmt.specs.Statement.{BodyTree, StmtTree, Public}
-use Rattle.m51_text.specs.Answer.{LineTree}
-use Rattle.m51_emit.specs.Outcomes.{made_with, made_with_all, or_next, leftmost_fault}
+use Rattle.m51_asm.proofs.Common.{◌≡◌, ℕ, zero, suc, ◌%◌, ◌||◌, cond, is_some, List, [], ◌∷◌, ◌++◌, map, drop, ◌<◌}
+use Rattle.m51_asm.proofs.Common.{Option, Some, None, Ok, Err, refl, ap, sym, ◌∙◌, slice_get, add-one, arith, Jump}
+use Rattle.m51_asm.proofs.Common.{Meanings, Fault, Row, BodyTree, StmtTree, LineTree, or_next, Assignment, body_of}
+use Rattle.m51_asm.proofs.Common.{body_at, if_fault, faults_from, content_faults, rows_from, rows, LinePlace, Fits}
+use Rattle.m51_asm.proofs.Common.{text_segment, here_of, IsPlaceOf, IsSetAt, fault_among, publics_in, IsGivenTo}
+use Rattle.std.proofs.Common.{append_assoc}
+use Rattle.std.proofs.Common.{below_more}
+use Rattle.m51_stmt.specs.Statement.{Public}
+use Rattle.m51_emit.specs.Outcomes.{made_with, made_with_all, leftmost_fault}
 use Rattle.m51_emit.specs.declared.content.EmittedContent.{EmittedContent}
 use Rattle.m51_emit.specs.Content.{outcomes_by, content_by}
 use Rattle.m51_emit.proofs.CountedParts.{or_nothing}
 use Rattle.m51_emit.specs.PublicNames.{Published, public_outcome, if_public}
 use Rattle.m51_asm.specs.declared.contents.Contents.{Contents}
-use Rattle.m51_asm.specs.Assignment.{Assignment, body_of, body_at}
 use Rattle.m51_asm.specs.ObjectMeanings.{final}
-use Rattle.m51_asm.specs.ContentFaults.{line_outcomes_by, line_outcomes, made_before, content_fault, if_fault}
-use Rattle.m51_asm.specs.ContentFaults.{faults_from, content_faults}
+use Rattle.m51_asm.specs.ContentFaults.{line_outcomes_by, line_outcomes, made_before, content_fault}
 use Rattle.m51_asm.specs.Pieces.{content_at}
 use Rattle.m51_asm.specs.PublicNames.{published, publics_of}
 use Rattle.m51_asm.specs.Parts.{publics_by, publics_before}
-use Rattle.m51_asm.specs.AnswerRows.{place_of, row_of, rows_from, rows}
-use Rattle.m51_asm.specs.declared.stepping.LinePlace.{LinePlace}
-use Rattle.m51_asm.specs.Fitting.{last_set, Fits}
-use Rattle.m51_asm.specs.OpenSegments.{text_segment}
-use Rattle.m51_asm.specs.Placing.{here_of, IsPlaceOf}
+use Rattle.m51_asm.specs.AnswerRows.{place_of, listing_row}
+use Rattle.m51_asm.specs.Fitting.{last_set}
 use Rattle.m51_asm.proofs.FinalNames.{place_is}
 use Rattle.m51_emit.specs.Rows.{has_place, place_in, row_in}
-use Rattle.m51_asm.specs.ValuesAt.{IsSetAt}
-use Rattle.m51_asm.specs.Publishing.{publics_among, fault_among}
-use Rattle.m51_asm.specs.Repeats.{publics_in}
-use Rattle.m51_asm.specs.Contents.{nothing_given, AreContents, IsGivenTo}
-use Rattle.m51_asm.proofs.PassedLines.{pushed_each}
+use Rattle.m51_asm.specs.Publishing.{publics_among}
+use Rattle.m51_asm.specs.Contents.{nothing_given}
 use Rattle.m51_asm.proofs.PublishedNames.{publics_fault}
 
 -- the items from one on are that one and those after it
@@ -83,6 +74,21 @@ fault_before : (line : LineTree) (fault : Option ℕ) (more : List Fault)
 fault_before line (Some number) more = refl
 fault_before line None more = refl
 
+-- what a line gives by its names is its content
+pub content_is : (lines : List LineTree) (a : Assignment) (k : ℕ) (line : LineTree) → slice_get lines k ≡ Some line
+    → (names : Meanings) (form : Jump) → names ≡ final lines a k → form ≡ a.form k → (c : EmittedContent)
+    → c ≡ content_by names form line.stmt.body → c ≡ content_at lines a k
+unfolding content_at
+content_is lines a k line is names form same jumps c e =
+    e ∙ (λ i. content_by (same i) (jumps i) (body_of (sym is i)))
+
+-- where there is no fault after a line, there was none before it, and the line has none
+pub unfaulted : (line : LineTree) (fault : Option ℕ) (before : List Fault) → before ++ if_fault line fault [] ≡ []
+    → (before ≡ []) × (fault ≡ None)
+unfaulted line None [] e = (refl, refl)
+unfaulted line (Some number) [] e = absurd (cc e)
+unfaulted line fault (x ∷ xs) e = absurd (cc e)
+
 module _ (lines : List LineTree) (a : Assignment) (k : ℕ) (line : LineTree) (is : slice_get lines k ≡ Some line)
     (before after : Contents)
     (h : IsGivenTo lines a k before) (names : Meanings) (form : Jump) (same : names ≡ final lines a k)
@@ -95,18 +101,23 @@ module _ (lines : List LineTree) (a : Assignment) (k : ℕ) (line : LineTree) (i
       e ∙ (λ i. made_with_all (h.made i) (outcomes_by (same i) (jumps i) (body_of (sym is i))))
       ∙ made_is lines a k (made_before lines a k) (body_at lines k)
 
-  faults_next : after.faults
-      ≡ before.faults ++ if_fault line
-      (or_next (leftmost_fault before.made (outcomes_by names form line.stmt.body))
-      (fault_among of (publics_in line.stmt.body))) []
-      → after.faults ++ faults_from (content_fault lines a) (suc k) (drop (suc k) lines) ≡ content_faults lines a
+  -- the fault of the line
+  abbrev fault : Option ℕ
+  fault = or_next (leftmost_fault before.made (outcomes_by names form line.stmt.body))
+      (fault_among of (publics_in line.stmt.body))
+
+  fault_here : fault ≡ content_fault lines a k
   unfolding content_fault line_outcomes
+  fault_here =
+      (λ i. or_next (leftmost_fault (h.made i) (outcomes_by (same i) (jumps i) (body_of (sym is i))))
+      (fault_among (publish i) (publics_in (body_of (sym is i)))))
+      ∙ fault_is lines a k (made_before lines a k) (body_at lines k)
+
+  faults_next : after.faults ≡ before.faults ++ if_fault line fault []
+      → after.faults ++ faults_from (content_fault lines a) (suc k) (drop (suc k) lines) ≡ content_faults lines a
   faults_next e =
       ap (λ fs. fs ++ faults_from (content_fault lines a) (suc k) (drop (suc k) lines))
-      (e ∙ ap (λ o. before.faults ++ if_fault line o [])
-      ((λ i. or_next (leftmost_fault (h.made i) (outcomes_by (same i) (jumps i) (body_of (sym is i))))
-      (fault_among (publish i) (publics_in (body_of (sym is i)))))
-      ∙ fault_is lines a k (made_before lines a k) (body_at lines k)))
+      (e ∙ ap (λ o. before.faults ++ if_fault line o []) fault_here)
       ∙ append_assoc before.faults (if_fault line (content_fault lines a k) [])
       (faults_from (content_fault lines a) (suc k) (drop (suc k) lines))
       ∙ ap (λ fs. before.faults ++ fs)
@@ -115,12 +126,12 @@ module _ (lines : List LineTree) (a : Assignment) (k : ℕ) (line : LineTree) (i
       ∙ h.faults
 
   rows_next : (row : Row) (c : EmittedContent) → after.rows ≡ before.rows ++ row ∷ []
-      → row ≡ row_of line (place_of a k line) c → c ≡ content_at lines a k
+      → row ≡ listing_row line (place_of a k line) c → c ≡ content_at lines a k
       → after.rows ++ rows_from lines a (suc k) (drop (suc k) lines) ≡ rows lines a
   rows_next row c e r is_content =
       ap (λ rs. rs ++ rows_from lines a (suc k) (drop (suc k) lines))
-      (e ∙ ap (λ x. before.rows ++ x ∷ []) (r ∙ ap (row_of line (place_of a k line)) is_content))
-      ∙ append_assoc before.rows (row_of line (place_of a k line) (content_at lines a k) ∷ [])
+      (e ∙ ap (λ x. before.rows ++ x ∷ []) (r ∙ ap (listing_row line (place_of a k line)) is_content))
+      ∙ append_assoc before.rows (listing_row line (place_of a k line) (content_at lines a k) ∷ [])
       (rows_from lines a (suc k) (drop (suc k) lines))
       ∙ ap (λ ls. before.rows ++ rows_from lines a k ls) (sym (drop_at lines k line is))
       ∙ h.rows
@@ -132,41 +143,32 @@ module _ (lines : List LineTree) (a : Assignment) (k : ℕ) (line : LineTree) (i
       e ∙ (λ i. h.publics i ++ publics_among (publish i) (publics_in (body_of (sym is i))))
       ∙ ap (λ ps. publics_before lines a k ++ ps) (publics_are lines a k (body_at lines k))
 
-  content_next : (c : EmittedContent) → c ≡ content_by names form line.stmt.body → c ≡ content_at lines a k
-  unfolding content_at
-  content_next c e = e ∙ (λ i. content_by (same i) (jumps i) (body_of (sym is i)))
-
-  given_next : (c : EmittedContent) → after.given ≡ before.given ++ c ∷ [] → c ≡ content_at lines a k
-      → AreContents lines a after.given
-  given_next c e is_content =
-      subst (AreContents lines a) (sym e)
-      (pushed_each (λ j x. x ≡ content_at lines a j) before.given c h.each
-      (subst (λ n. c ≡ content_at lines a n) (sym h.counted) is_content))
+  clean_next : after.faults ≡ before.faults ++ if_fault line fault [] → after.faults ≡ []
+      → (j : ℕ) → j < suc k → content_fault lines a j ≡ None
+  clean_next e none =
+      let u = unfaulted line fault before.faults (sym e ∙ none) in
+      rw (← add-one) (below_more (λ j. content_fault lines a j ≡ None) k (h.clean u.0) (sym fault_here ∙ u.1))
 
   pub next_given : (row : Row) (c : EmittedContent) → IsSetAt lines a (suc k) after.set
       → after.made ≡ made_with_all before.made (outcomes_by names form line.stmt.body)
       → after.publics ≡ before.publics ++ publics_among of (publics_in line.stmt.body)
-      → after.faults ≡ before.faults
-      ++ if_fault line (or_next (leftmost_fault before.made (outcomes_by names form line.stmt.body))
-      (fault_among of (publics_in line.stmt.body))) []
-      → after.rows ≡ before.rows ++ row ∷ [] → row ≡ row_of line (place_of a k line) c
-      → after.given ≡ before.given ++ c ∷ []
+      → after.faults ≡ before.faults ++ if_fault line fault []
+      → after.rows ≡ before.rows ++ row ∷ [] → row ≡ listing_row line (place_of a k line) c
       → c ≡ content_by names form line.stmt.body → IsGivenTo lines a (suc k) after
-  next_given row c sets made publics faults rows row_is given content = record {
+  next_given row c sets made publics faults rows row_is content = record {
     sets = sets;
     made = made_next made;
     publics = publics_next publics;
     faults = faults_next faults;
-    rows = rows_next row c rows row_is (content_next c content);
-    counted = ap length given ∙ omega (arith, length-append before.given (c ∷ []), h.counted);
-    each = given_next c given (content_next c content);
+    rows = rows_next row c rows row_is (content_is lines a k line is names form same jumps c content);
+    clean = clean_next faults;
   }
 
 -- the row of a line that is placed
 pub row_is : (lines : List LineTree) (a : Assignment) (k : ℕ) (p : LinePlace) → Fits lines a → IsPlaceOf lines a k p
     → (line : LineTree) (c : EmittedContent)
     (number : ℕ) → number ≡ (here_of (text_segment p.segment) p.offset).number
-    → row_in line.file line.line (place_in line.stmt number) c ≡ row_of line (place_of a k line) c
+    → row_in line.file line.line (place_in line.stmt number) c ≡ listing_row line (place_of a k line) c
 row_is lines a k p f place line c number is =
     ap (λ o. row_in line.file line.line o c)
     (ap (place_in line.stmt) (is ∙ ap (λ v. v.number) (place_is lines a k p f place)) ∙ twice line.stmt (a.place k))
@@ -186,10 +188,5 @@ first_given lines a = record {
   publics = refl;
   faults = refl;
   rows = refl;
-  counted = refl;
-  each = none;
+  clean = λ e j below. absurd (omega (arith, below));
 }
-  where
-    none : AreContents lines a []
-    none zero x e = absurd (cc e)
-    none (suc j) x e = absurd (cc e)

@@ -1,20 +1,16 @@
 -- What a line gives to names is what their definitions say, and its externals have numbers.
-use Rattle.std.proofs.Common.{◌≡◌, ℕ, suc, ◌+◌, ◌≤◌, length, Bool, true, false, cond, List, [], ◌∷◌, ◌++◌, map, Option}
-use Rattle.std.proofs.Common.{Some, None, refl, ap, sym, subst, arith, option_map}
-use Rattle.std.specs.Str.{bytes_eq}
-use Rattle.m51_cells.specs.declared.kind.Kind.{Kind}
-use Rattle.m51_stmt.specs.Statement.{BodyTree, StmtTree, Segment, Equ, Set, Address, Extrn}
-use Rattle.m51_text.specs.Answer.{LineTree}
-use Rattle.m51_asm.specs.declared.values.Located.{Located}
-use Rattle.m51_asm.specs.declared.giving.Giving.{Giving}
-use Rattle.m51_asm.specs.Definitions.{Definition, Label, SegmentOf, EquOf, SetOf, AddressOf, ExternOf, externals_from}
-use Rattle.m51_asm.specs.Definitions.{defined_by, label_defined, definitions_in, found_in}
-use Rattle.m51_asm.specs.Assignment.{Assignment, here_at, above}
-use Rattle.m51_asm.specs.Fitting.{externals_in, externals_before}
-use Rattle.m51_asm.specs.Located.{located_value}
-use Rattle.m51_asm.specs.Table.{Brief, how_of, brief}
-use Rattle.m51_asm.specs.ValuesAbove.{line_value, or_kept}
-use Rattle.m51_asm.specs.GivenValues.{expression_given, given_by, given_or, HaveNumbers}
+use Rattle.m51_asm.proofs.Common.{◌≡◌, ℕ, suc, ◌+◌, ◌≤◌, length, Bool, true, false, cond, List, [], ◌∷◌, ◌++◌, map}
+use Rattle.m51_asm.proofs.Common.{Option, Some, None, refl, ap, sym, subst, arith, option_map, bytes_eq, Kind, BodyTree}
+use Rattle.m51_asm.proofs.Common.{StmtTree, Equ, Set, Address, LineTree, Located, Giving, Definition, Label, SegmentOf}
+use Rattle.m51_asm.proofs.Common.{EquOf, SetOf, AddressOf, ExternOf, externals_from, defined_by, label_defined}
+use Rattle.m51_asm.proofs.Common.{definitions_in, found_in, Assignment, here_at, externals_in, located_value, brief}
+use Rattle.m51_asm.proofs.Common.{or_kept, expression_given, given_or}
+use Rattle.m51_stmt.specs.Statement.{Segment, Extrn}
+use Rattle.m51_asm.specs.Assignment.{above}
+use Rattle.m51_asm.specs.Fitting.{externals_before}
+use Rattle.m51_asm.specs.Table.{Brief, how_of}
+use Rattle.m51_asm.specs.ValuesAbove.{line_value}
+use Rattle.m51_asm.specs.GivenValues.{given_by, HaveNumbers}
 
 module _ (lines : List LineTree) (a : Assignment) (k : ℕ) (g : Giving) (here : located_value g.here ≡ here_at a k)
     (line : g.line ≡ k)

@@ -1,27 +1,24 @@
 -- What lines of a text say, as far as modules ask for it, and that no line of a text without faults has one.
-use Rattle.std.proofs.Common.{◌≡◌, ◌≢◌, inl, inr, ℕ, zero, suc, ◌+◌, ◌<◌, nat_lt, Bool, true, false, cond, List, []}
-use Rattle.std.proofs.Common.{◌∷◌, length, Option, Some, None, Result, Ok, Err, refl, ap, subst, ◌∙◌, arith, add-zero}
-use Rattle.std.specs.List.{AllByRecursion, list_all}
-use Rattle.std.proofs.lemmas.Bool.{and_parts}
+use Rattle.m51_asm.proofs.Common.{◌≡◌, ◌≢◌, inl, inr, ℕ, zero, suc, ◌+◌, ◌<◌, nat_lt, Bool, true, false, cond, List, []}
+use Rattle.m51_asm.proofs.Common.{◌∷◌, length, Option, Some, None, Result, Ok, Err, refl, ap, subst, ◌∙◌, arith}
+use Rattle.m51_asm.proofs.Common.{add-zero, list_all, and_parts, Kind, Reloc, IsWritten, Fault, SourceFile, BodyTree}
+use Rattle.m51_asm.proofs.Common.{StmtTree, Each, TextLine, faults_of, LineTree, Lines, with_statement, statements_of}
+use Rattle.m51_asm.proofs.Common.{text_of, Assignment, body_at, Fits, is_misplaced, operand_fault, if_fault}
+use Rattle.m51_asm.proofs.Common.{faults_from, content_faults, AreFree, first_fault}
+use Rattle.std.specs.List.{AllByRecursion}
 use Rattle.std.proofs.lemmas.Bool.Decides.{nat_tests}
 use Rattle.std.proofs.lemmas.List.Elements.{All-from_recursion}
-use Rattle.m51_cells.specs.declared.kind.Kind.{Kind}
 use Rattle.m51_cells.specs.declared.kind.Kind.TheVariants as kind
-use Rattle.m51_cells.specs.declared.kind.Reloc.{Reloc}
 use Rattle.m51_cells.specs.declared.kind.Reloc.TheVariants as reloc
-use Rattle.m51_cells.specs.Name.{IsWritten}
-use Rattle.m51_module.specs.declared.source.Fault.{Fault}
-use Rattle.m51_module.specs.declared.source.SourceFile.{SourceFile}
 use Rattle.m51_expr.specs.Looks.{has_form}
 use Rattle.m51_stmt.specs.Statement as body
-use Rattle.m51_stmt.specs.Statement.{BodyTree, StmtTree}
 use Rattle.m51_stmt.specs.Kinds.{reloc_of}
 use Rattle.m51_stmt.specs.Definitions.{is_allowed}
 use Rattle.m51_stmt.specs.Directives.{select_of, directive_of}
 use Rattle.m51_stmt.specs.Lines.{any_line, statement_of}
 use Rattle.m51_stmt.specs.Printing.{reloc_word}
 use Rattle.m51_stmt.specs.Laws.{IsByte}
-use Rattle.m51_stmt.proofs.ListWords.{Each, some_each}
+use Rattle.m51_stmt.proofs.ListWords.{some_each}
 use Rattle.m51_stmt.proofs.PrintedTrees.{IsLeafName}
 use Rattle.m51_stmt.proofs.PrintedExterns.{IsExtern}
 use Rattle.m51_stmt.proofs.PrintedLists.{IsItem}
@@ -29,16 +26,13 @@ use Rattle.m51_stmt.proofs.PrintedBodies.{IsSelected, IsBody}
 use Rattle.m51_stmt.proofs.PrintedStatements.{IsControl, IsLine}
 use Rattle.m51_stmt.proofs.ReadStatements.{written_is_good}
 use Rattle.m51_text.specs.Said.{is_character, said}
-use Rattle.m51_text.specs.Text.{TextLine, text_lines}
-use Rattle.m51_text.specs.Faults.{faults_of}
-use Rattle.m51_text.specs.Answer.{LineTree, Lines, with_statement, statements_of, faults_or_lines, text_of}
-use Rattle.m51_asm.specs.Assignment.{Assignment, body_at, above}
-use Rattle.m51_asm.specs.Fitting.{Fits}
+use Rattle.m51_text.specs.Text.{text_lines}
+use Rattle.m51_text.specs.Answer.{faults_or_lines}
+use Rattle.m51_asm.specs.Assignment.{above}
 use Rattle.m51_asm.specs.Repeats.{is_repeated}
-use Rattle.m51_asm.specs.PlacedFaults.{is_past, is_misplaced, is_too_many, operand_fault, placed_fault}
-use Rattle.m51_asm.specs.ContentFaults.{if_fault, faults_from, content_fault, content_faults}
-use Rattle.m51_asm.specs.FirstFault.{AreFree}
-use Rattle.m51_asm.specs.Answer.{fault_or, first_fault}
+use Rattle.m51_asm.specs.PlacedFaults.{is_past, is_too_many, placed_fault}
+use Rattle.m51_asm.specs.ContentFaults.{content_fault}
+use Rattle.m51_asm.specs.Answer.{fault_or}
 use Rattle.m51_asm.specs.ValidTexts.{IsFaultless}
 
 -- a segment that can be declared

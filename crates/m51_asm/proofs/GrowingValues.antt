@@ -1,19 +1,16 @@
 -- How the values of names grow with a line that repeats nothing.
-use Rattle.std.proofs.Common.{◌≡◌, ℕ, suc, ◌||◌, Bool, true, false, cond, List, [], ◌∷◌, ◌++◌, take, Option, Some, None}
-use Rattle.std.proofs.Common.{refl, ap, sym, ◌∙◌, option_map, slice_get}
-use Rattle.std.proofs.lemmas.Slice.Eq.{bytes_eq-Decides}
-use Rattle.std.proofs.lemmas.Bool.{or_parts}
-use Rattle.std.specs.Str.{bytes_eq}
-use Rattle.m51_expr.specs.declared.value.Value.{Value}
-use Rattle.m51_expr.specs.Meanings.{Meanings}
-use Rattle.m51_text.specs.Answer.{LineTree}
-use Rattle.m51_asm.specs.Definitions.{Definition, Defined, Label, SegmentOf, EquOf, SetOf, AddressOf, ExternOf}
-use Rattle.m51_asm.specs.Definitions.{found_in, definitions_in, definition_of}
-use Rattle.m51_asm.specs.Assignment.{Assignment, body_at, line_definitions, defined_of, here_at, above}
-use Rattle.m51_asm.specs.Fitting.{set_by, last_set, externals_before, value_by}
-use Rattle.m51_asm.specs.Repeats.{clashes, or_here, earlier, repeats_from, repeats_a_name, is_repeated, publics_again}
-use Rattle.m51_asm.specs.Repeats.{renames_module, publics_in}
-use Rattle.m51_asm.specs.ValuesAbove.{defined_value, value_above, or_kept}
+use Rattle.m51_asm.proofs.Common.{◌≡◌, ℕ, suc, ◌||◌, Bool, true, false, cond, List, [], ◌∷◌, ◌++◌, take, Option, Some}
+use Rattle.m51_asm.proofs.Common.{None, refl, ap, sym, ◌∙◌, option_map, slice_get, bytes_eq-Decides, or_parts, bytes_eq}
+use Rattle.m51_asm.proofs.Common.{Value, Meanings, LineTree, Definition, Defined, Label, SegmentOf, EquOf, SetOf}
+use Rattle.m51_asm.proofs.Common.{AddressOf, ExternOf, found_in, definitions_in, Assignment, body_at, line_definitions}
+use Rattle.m51_asm.proofs.Common.{defined_of, here_at, set_by, value_by, clashes, or_here, earlier, repeats_from}
+use Rattle.m51_asm.proofs.Common.{publics_again, publics_in, defined_value, or_kept}
+use Rattle.m51_asm.specs.Definitions.{definition_of}
+use Rattle.m51_asm.specs.Assignment.{above}
+use Rattle.m51_asm.specs.Fitting.{last_set, externals_before}
+use Rattle.m51_asm.specs.Repeats.{repeats_a_name, is_repeated}
+use Rattle.m51_asm.specs.Repeats.{renames_module}
+use Rattle.m51_asm.specs.ValuesAbove.{value_above}
 use Rattle.m51_asm.proofs.DefinedLines.{at_line, defined_more}
 
 -- a definition that clashes with none of two clashes with none of the first

@@ -1,30 +1,20 @@
 -- DB and DW without a fault give the bytes of their items, and no more references than fixups are counted.
-use Rattle.std.proofs.Common.{◌≡◌, inl, inr, ℕ, ◌+◌, ◌*◌, ◌≤◌, false, List, [], ◌∷◌, ◌++◌, map, length, Option, Some}
-use Rattle.std.proofs.Common.{None, Ok, Err, refl, sym, ap, subst, ◌∙◌, arith, length-append}
-use Rattle.std.proofs.lemmas.List.{length-map}
-use Rattle.m51_module.specs.Validity.{field_len}
-use Rattle.m51_expr.specs.declared.value.Value.{Value}
-use Rattle.m51_expr.specs.Tree.{Tree}
-use Rattle.m51_expr.specs.Value.{Valued}
-use Rattle.m51_expr.specs.Meanings.{Meanings}
+use Rattle.m51_asm.proofs.Common.{◌≡◌, inl, inr, ℕ, ◌+◌, ◌≤◌, false, List, [], ◌∷◌, ◌++◌, map, length, Option, Some}
+use Rattle.m51_asm.proofs.Common.{None, Ok, Err, refl, sym, ap, subst, ◌∙◌, arith, length-append, length-map, field_len}
+use Rattle.m51_asm.proofs.Common.{Value, Tree, Valued, Meanings, OperandOutcome, Faulty, FieldValue, Number, Linked}
+use Rattle.m51_asm.proofs.Common.{Reference, reference_of, Answer, linked_is, Each, ReferenceAt, EmittedContent}
+use Rattle.std.proofs.Common.{◌*◌}
 use Rattle.m51_expr.specs.Evaluation.{value_of}
 use Rattle.m51_expr.specs.Operand.{ItemTree, Value as ValueItem, Text}
 use Rattle.m51_encode.specs.declared.item.Width.{Width}
 use Rattle.m51_encode.specs.declared.item.Width.TheVariants.{Byte, Word}
-use Rattle.m51_encode.specs.declared.outcome.OperandOutcome.{OperandOutcome}
-use Rattle.m51_encode.specs.declared.outcome.OperandOutcome.TheVariants.{Faulty, Fixes, Stands}
-use Rattle.m51_encode.specs.declared.reference.FieldValue.{FieldValue}
-use Rattle.m51_encode.specs.declared.reference.FieldValue.TheVariants.{Number, Linked}
-use Rattle.m51_encode.specs.declared.reference.Reference.{Reference}
-use Rattle.m51_encode.specs.Reference.{reference_of}
+use Rattle.m51_encode.specs.declared.outcome.OperandOutcome.TheVariants.{Fixes, Stands}
 use Rattle.m51_encode.specs.FieldValues.{field_of}
-use Rattle.m51_encode.specs.Filling.{Answer, and_then, or_out_of_range, fielded}
+use Rattle.m51_encode.specs.Filling.{and_then, or_out_of_range, fielded}
 use Rattle.m51_encode.specs.Items.{item_field, field_of_width, number_bytes}
-use Rattle.m51_encode.proofs.BitNumbers.{linked_is}
-use Rattle.m51_stmt.proofs.ListWords.{Each}
 use Rattle.m51_stmt.proofs.PrintedLists.{IsItem}
 use Rattle.m51_emit.specs.Sizes.{item_size, items_size}
-use Rattle.m51_asm.specs.Content.{ReferenceAt, EmittedContent, item_outcome, item_given, item_content, later}
+use Rattle.m51_asm.specs.Content.{item_outcome, item_given, item_content, later}
 use Rattle.m51_asm.specs.Content.{followed_by, joined}
 use Rattle.m51_asm.proofs.Members.{Every, Pairs, in_cons, no_element, in_map, every_append, pairs_append, pairs_map}
 use Rattle.m51_asm.proofs.Members.{pairs_weaker}

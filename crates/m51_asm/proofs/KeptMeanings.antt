@@ -1,24 +1,17 @@
 -- What names mean by the state after the lines above.
-use Rattle.std.proofs.Common.{◌≡◌, ℕ, Bool, true, false, cond, List, [], ◌∷◌, Option, Some, None, refl, ap, sym, ◌∙◌}
-use Rattle.std.proofs.Common.{option_map}
-use Rattle.std.proofs.lemmas.Slice.Eq.{bytes_eq-Decides}
-use Rattle.std.specs.Map.{lookup}
-use Rattle.std.specs.Global.{Vec}
-use Rattle.std.specs.Str.{bytes_eq}
-use Rattle.m51_cells.specs.Kinds.{is_absolute}
+use Rattle.m51_asm.proofs.Common.{◌≡◌, ℕ, Bool, true, false, cond, List, [], ◌∷◌, Option, Some, None, refl, ap, sym}
+use Rattle.m51_asm.proofs.Common.{◌∙◌, option_map, nat_lt, bytes_eq-Decides, lookup, Vec, bytes_eq, is_absolute, Value}
+use Rattle.m51_asm.proofs.Common.{LineTree, absolute_register_of, Located, Definition, Assignment, is_bitaddressable}
+use Rattle.m51_asm.proofs.Common.{segment_reloc, value_before, mod51, register_or_predefined, Fits, located_value}
+use Rattle.m51_asm.proofs.Common.{Table, first_in, first_definition, defined_value, FirstDefinition, Valuation}
+use Rattle.m51_asm.proofs.Common.{value_in, kept_meanings}
 use Rattle.indexmap.specs.IndexMap.{insert_entry}
-use Rattle.m51_expr.specs.declared.value.Value.{Value}
-use Rattle.m51_text.specs.Answer.{LineTree}
-use Rattle.m51_predefined.specs.Predefined.{absolute_register_of}
-use Rattle.m51_asm.specs.declared.values.Located.{Located}
-use Rattle.m51_asm.specs.Definitions.{Definition, definition_of}
-use Rattle.m51_asm.specs.Assignment.{Assignment, is_bitaddressable, reloc_of, above, value_before}
-use Rattle.m51_asm.specs.Fitting.{mod51, bank_before, register_or_predefined, undefined_value, Fits}
-use Rattle.m51_asm.specs.Located.{located_value}
-use Rattle.m51_asm.specs.Table.{Table, first_in, first_of}
+use Rattle.m51_asm.specs.Definitions.{definition_of}
+use Rattle.m51_asm.specs.Assignment.{above}
+use Rattle.m51_asm.specs.Fitting.{bank_before, undefined_value}
 use Rattle.m51_asm.specs.ValuesAbove.{value_above, seen_value}
-use Rattle.m51_asm.specs.Above.{Valuation, valuation_of, value_in, known, value_seen, kept_meanings, IsKeptOf, Puts}
-use Rattle.m51_asm.proofs.SeenValues.{seen}
+use Rattle.m51_asm.specs.Above.{valuation_of, known, value_seen, IsKeptOf, Puts}
+use Rattle.m51_asm.proofs.SeenValues.{below, front_of_text, seen}
 
 -- the map's entry of a name
 pub lookup_value : (name : List ℕ) (entries : List (Vec ℕ × Option Located))
@@ -73,32 +66,54 @@ put_value (e ∷ es) key v other =
     put_step (bytes_eq key.items e.0.items) e es (insert_entry (λ (a b : Vec ℕ). bytes_eq a.items b.items) es key v) key
     v other refl (put_value es key v other)
 
-seen_first : (k : ℕ) (x undefined : Option Value) (o : Option (ℕ × Definition))
-    → value_seen k x undefined (option_map first_of o) ≡ seen_value k x undefined o
-seen_first k x undefined (Some d) = refl
-seen_first k x undefined None = refl
+-- of a name that the text defines, a line sees the value that is kept
+kept_is_seen : (x undefined : Option Value) (first : FirstDefinition) → value_seen x undefined (Some first) ≡ x
+kept_is_seen (Some v) undefined first = refl
+kept_is_seen None undefined first = refl
+
+module _ (lines : List LineTree) (a : Assignment) (k : ℕ) (name : List ℕ) (u : Option Value) where
+  seen_if : (d : ℕ × Definition) (b : Bool)
+      → value_seen (defined_value lines a k name (cond b (Some d) None)) u (Some (first_definition d))
+      ≡ cond b (defined_value lines a k name (cond b (Some d) None)) None
+  seen_if d true = kept_is_seen (defined_value lines a k name (Some d)) u (first_definition d)
+  seen_if d false = refl
+
+  seen_by : (o : Option (ℕ × Definition))
+      → value_seen (defined_value lines a k name (below k o)) u (option_map first_definition o)
+      ≡ seen_value k (defined_value lines a k name (below k o)) u o
+  seen_by None = refl
+  seen_by (Some d) = seen_if d (nat_lt d.0 k)
+
+  seen_first : value_seen (value_above lines a k name) u (option_map first_definition (definition_of lines name))
+      ≡ seen_value k (value_above lines a k name) u (definition_of lines name)
+  unfolding value_above definition_of
+  seen_first =
+      ap (λ o. value_seen (defined_value lines a k name o) u (option_map first_definition (definition_of lines name)))
+      (front_of_text lines k name)
+      ∙ seen_by (definition_of lines name)
+      ∙ ap (λ o. seen_value k (defined_value lines a k name o) u (definition_of lines name))
+      (sym (front_of_text lines k name))
 
 pub means : (lines : List LineTree) (a : Assignment) → Fits lines a
     → (k : ℕ) (table : Table) (values : Valuation) (predefines : Bool) (bank : ℕ) (here : Located)
-    → IsKeptOf lines a k table values predefines bank here → kept_meanings lines table values k predefines bank here
+    → IsKeptOf lines a k table values predefines bank here → kept_meanings lines table values predefines bank here
     ≡ above lines a k
 unfolding above undefined_value
 means lines a f k table values predefines bank here s =
     λ i. record {
       value = λ name. value_is name i;
       here = s.place i;
-      fixed = λ id. is_absolute (reloc_of lines id);
-      bitaddressable = λ id. is_bitaddressable (reloc_of lines id);
+      fixed = λ id. is_absolute (segment_reloc lines id);
+      bitaddressable = λ id. is_bitaddressable (segment_reloc lines id);
     }
   where
     value_is : (name : List ℕ)
-        → value_seen k (option_map located_value (value_in values name))
+        → value_seen (option_map located_value (value_in values name))
         (register_or_predefined predefines bank name (absolute_register_of name)) (first_in table name)
         ≡ value_before lines a k k name
     value_is name =
-        (λ i. value_seen k (s.known name i)
+        (λ i. value_seen (s.known name i)
         (register_or_predefined (s.predefined i) (s.selected i) name (absolute_register_of name)) (s.names name i))
-        ∙ seen_first k (value_above lines a k name)
+        ∙ seen_first lines a k name
         (register_or_predefined (mod51 lines) (bank_before lines a k) name (absolute_register_of name))
-        (definition_of lines name)
         ∙ sym (seen lines a f k name)

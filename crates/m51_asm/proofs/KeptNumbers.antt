@@ -1,11 +1,10 @@
 -- The numbers of segments in a module: each counts from 1 in the order of ids, and leads to the segment.
-use Rattle.std.proofs.Common.{◌≡◌, ◌≢◌, inl, inr, ℕ, suc, ◌<◌, ◌==◌, Bool, true, false, cond, List, [], ◌∷◌, map}
-use Rattle.std.proofs.Common.{Option, Some, None, option_map, refl, sym, ap, ◌∙◌, arith, eq-eqb}
+use Rattle.m51_asm.proofs.Common.{◌≡◌, ◌≢◌, inl, inr, ℕ, suc, ◌<◌, ◌==◌, Bool, true, false, cond, List, [], ◌∷◌, map}
+use Rattle.m51_asm.proofs.Common.{Option, Some, None, option_map, refl, sym, ap, ◌∙◌, arith, eq-eqb, eqb-true, ne_eqb}
+use Rattle.m51_asm.proofs.Common.{numbered, Kept, from_one, place_in}
 use Rattle.std.specs.Prelude.{slice_get}
-use Rattle.std.proofs.lemmas.Bool.{eqb-true, ne_eqb}
 use Rattle.std.proofs.lemmas.Option.{slice_get-map}
-use Rattle.m51_module.specs.Validity.{numbered}
-use Rattle.m51_asm.specs.ObjectSegments.{Kept, from_one, place_in, number_in}
+use Rattle.m51_asm.specs.ObjectSegments.{number_in}
 use Rattle.m51_asm.proofs.Members.{In, Every, Pairs, in_cons, no_element, in_first, in_later}
 
 -- the ids of segments
@@ -18,7 +17,7 @@ Ascend xs = Pairs (λ s t. s.id < t.id) xs
 -- a segment is at the index that its number gives
 pub record StandsAt (xs : List Kept) (s : Kept) : Type 0 where
   pub index : ℕ
-  pub place : place_in (ids xs) s.id ≡ Some index
+  pub found : place_in (ids xs) s.id ≡ Some index
   pub got : slice_get xs index ≡ Some s
 
 later_place : (x : Kept) (xs : List Kept) (id : ℕ) → x.id ≢ id
@@ -32,20 +31,20 @@ pub stands : (xs : List Kept) → Ascend xs → (s : Kept) → In s xs → Stand
 unfolding Pairs Every
 stands [] h s i = absurd (no_element s i)
 stands (x ∷ xs) h s i = elim (in_cons s x xs i) [
-  | inl e ↦ record { index = 0; place = first_place x xs s.id (ap (λ (k : Kept). k.id) e); got = ap (λ y. Some y) e }
+  | inl e ↦ record { index = 0; found = first_place x xs s.id (ap (λ (k : Kept). k.id) e); got = ap (λ y. Some y) e }
   | inr j ↦
       let r = stands xs h.1 s j in
       let less : x.id < s.id = h.0 s j in
       record {
         index = suc r.index;
-        place = later_place x xs s.id (omega (arith, less)) ∙ ap (option_map (λ n. suc n)) r.place;
+        found = later_place x xs s.id (omega (arith, less)) ∙ ap (option_map (λ n. suc n)) r.found;
         got = r.got;
       }
 ]
 
 pub number_is : (xs : List Kept) (s : Kept) (r : StandsAt xs s) → number_in xs s.id ≡ suc r.index
 unfolding number_in
-number_is xs s r = ap from_one r.place
+number_is xs s r = ap from_one r.found
 
 -- the number of a segment of the module leads to it
 pub leads_to : (xs : List Kept) → Ascend xs → (s : Kept) → In s xs
@@ -97,7 +96,7 @@ numbers_ascend (x ∷ xs) h = (
       let less : x.id < t.id = h.0 t i in
       let first : from_one (place_in (ids (x ∷ xs)) x.id) ≡ 1 = ap from_one (first_place x xs x.id refl) in
       let second : from_one (place_in (ids (x ∷ xs)) t.id) ≡ suc (suc r.index) =
-      ap from_one (later_place x xs t.id (omega (arith, less)) ∙ ap (option_map (λ n. suc n)) r.place) in
+      ap from_one (later_place x xs t.id (omega (arith, less)) ∙ ap (option_map (λ n. suc n)) r.found) in
       omega (arith, first, second),
   shifted xs x h.1 h.0 xs (λ s i. i) (numbers_ascend xs h.1),
 )
@@ -107,7 +106,7 @@ numbers_ascend (x ∷ xs) h = (
     one_more xs x order above s i =
         let r = stands xs order s i in
         let less : x.id < s.id = above s i in
-        ap from_one (later_place x xs s.id (omega (arith, less)) ∙ ap (option_map (λ n. suc n)) r.place)
+        ap from_one (later_place x xs s.id (omega (arith, less)) ∙ ap (option_map (λ n. suc n)) r.found)
         ∙ ap suc (sym (number_is xs s r))
 
     shifted : (xs : List Kept) (x : Kept) → Ascend xs → ((t : Kept) → In t xs → x.id < t.id) → (ys : List Kept)

@@ -1,26 +1,20 @@
 -- The segments of the module of a text: each is valid, is known by its id, and they are in the order of ids.
-use Rattle.std.proofs.Common.{◌≡◌, ◌≢◌, ◌⊎◌, inl, inr, ℕ, zero, suc, ◌+◌, ◌<◌, ◌≤◌, ◌==◌, Bool, true, false, not, ◌&&◌}
-use Rattle.std.proofs.Common.{◌||◌, cond, List, [], ◌∷◌, ◌++◌, length, refl, sym, ap, subst, ◌∙◌, arith}
-use Rattle.std.proofs.lemmas.Bool.{eqb-true, and_parts}
-use Rattle.m51_cells.specs.declared.kind.Kind.{Kind}
+use Rattle.m51_asm.proofs.Common.{◌≡◌, ◌≢◌, ◌⊎◌, inl, inr, ℕ, zero, suc, ◌+◌, ◌<◌, ◌≤◌, ◌==◌, Bool, true, false, not}
+use Rattle.m51_asm.proofs.Common.{◌&&◌, ◌||◌, cond, List, [], ◌∷◌, ◌++◌, length, refl, sym, ap, subst, ◌∙◌, arith}
+use Rattle.m51_asm.proofs.Common.{eqb-true, and_parts, Kind, Reloc, same_kind, kind_same, Segment, BodyTree, LineTree}
+use Rattle.m51_asm.proofs.Common.{TextSegment, Assignment, opening, body_at, kind_end, Kept, size_of, kept_by}
+use Rattle.m51_asm.proofs.Common.{declared_or, segment_of}
 use Rattle.m51_cells.specs.declared.kind.Kind.TheVariants as kind
-use Rattle.m51_cells.specs.declared.kind.Reloc.{Reloc}
 use Rattle.m51_cells.specs.declared.kind.Reloc.TheVariants as reloc
-use Rattle.m51_cells.specs.Kinds.{allows, largest, may_overlay, same_kind}
+use Rattle.m51_cells.specs.Kinds.{allows, largest, may_overlay}
 use Rattle.m51_cells.specs.Fits.{Fits as FitsIn'}
-use Rattle.m51_cells.proofs.KindLaws.{kind_same}
-use Rattle.m51_module.specs.declared.segment.Segment.{Segment}
 use Rattle.m51_module.specs.Arguments.{is_argument_name}
 use Rattle.m51_module.specs.Validity.{IsSegmentValid}
 use Rattle.m51_stmt.specs.Statement as body
-use Rattle.m51_stmt.specs.Statement.{BodyTree}
 use Rattle.m51_stmt.specs.Definitions.{is_allowed}
-use Rattle.m51_text.specs.Answer.{LineTree}
-use Rattle.m51_asm.specs.Assignment.{TextSegment, Assignment, opening, body_at}
 use Rattle.m51_asm.specs.Fitting.{declared_in}
-use Rattle.m51_asm.specs.PlacedFaults.{end_of}
-use Rattle.m51_asm.specs.ObjectSegments.{Kept, size_of, relocatable, absolute_of, if_filled, begun_by, kept_by}
-use Rattle.m51_asm.specs.ObjectSegments.{kept_before, kept, declared_or, segment_of}
+use Rattle.m51_asm.specs.ObjectSegments.{relocatable, absolute_of, if_filled, begun_by}
+use Rattle.m51_asm.specs.ObjectSegments.{kept_before, kept}
 use Rattle.m51_asm.proofs.Members.{In, Every, Pairs, in_cons, no_element, every_append, pairs_append}
 use Rattle.m51_asm.proofs.GoodLines.{IsFreeText, IsDeclared, IsGood}
 use Rattle.m51_asm.proofs.KnownSegments.{IsTyped, Absolute, Relocatable, IsKnown, known, two_more}
@@ -44,13 +38,13 @@ allows_absolute : (k : Kind) → k ≢ kind.Number → allows k reloc.Abs ≡ tr
 allows_absolute kind.Number h = absurd (h refl)
 allows_absolute k h = refl
 
-within_largest : (k : Kind) (base size : ℕ) → base + size ≤ end_of k → size ≤ 65535 → size ≤ largest k
+within_largest : (k : Kind) (base size : ℕ) → base + size ≤ kind_end k → size ≤ 65535 → size ≤ largest k
 within_largest kind.Direct base size end most = omega arith
 within_largest kind.Bits base size end most = omega arith
 within_largest kind.Idata base size end most = omega arith
 within_largest k base size end most = most
 
-fits_absolute : (k : Kind) (base size : ℕ) → k ≢ kind.Number → base + size ≤ end_of k → FitsIn' k reloc.Abs base size
+fits_absolute : (k : Kind) (base size : ℕ) → k ≢ kind.Number → base + size ≤ kind_end k → FitsIn' k reloc.Abs base size
 fits_absolute kind.Number base size ne end = absurd (ne refl)
 fits_absolute k base size ne end = end
 

@@ -1,25 +1,18 @@
 -- The segments of a text are known by their ids: that of a line is the one of its id, and has a kind.
-use Rattle.std.proofs.Common.{◌≡◌, ◌≢◌, ◌⊎◌, inl, inr, ℕ, zero, suc, ◌+◌, ◌<◌, ◌≤◌, nat_lt, Bool, true, false, cond}
-use Rattle.std.proofs.Common.{List, [], ◌∷◌, ◌++◌, Option, Some, None, refl, sym, ap, subst, ◌∙◌, arith}
+use Rattle.m51_asm.proofs.Common.{◌≡◌, ◌≢◌, ◌⊎◌, inl, inr, ℕ, zero, suc, ◌+◌, ◌<◌, ◌≤◌, nat_lt, Bool, true, false, cond}
+use Rattle.m51_asm.proofs.Common.{List, [], ◌∷◌, ◌++◌, Option, Some, None, refl, sym, ap, subst, ◌∙◌, arith, bytes_eq}
+use Rattle.m51_asm.proofs.Common.{ltb-true, Kind, Reloc, is_absolute, Tree, BodyTree, LineTree, Definition, Label}
+use Rattle.m51_asm.proofs.Common.{SegmentOf, EquOf, SetOf, AddressOf, ExternOf, definitions_in, label_defined}
+use Rattle.m51_asm.proofs.Common.{defined_by, externals_from, found_in, or_later, definition_from, TextSegment}
+use Rattle.m51_asm.proofs.Common.{Assignment, opening, body_at, is_absolute_of, segment_by, declared_or, segment_of}
 use Rattle.std.specs.Prelude.{unwrap_or}
-use Rattle.std.specs.Str.{bytes_eq}
-use Rattle.std.proofs.lemmas.Bool.{ltb-true}
 use Rattle.std.proofs.lemmas.Option.{some_pair_parts}
-use Rattle.m51_cells.specs.declared.kind.Kind.{Kind}
 use Rattle.m51_cells.specs.declared.kind.Kind.TheVariants as kind
-use Rattle.m51_cells.specs.declared.kind.Reloc.{Reloc}
 use Rattle.m51_cells.specs.declared.kind.Reloc.TheVariants as reloc
-use Rattle.m51_cells.specs.Kinds.{is_absolute}
-use Rattle.m51_expr.specs.Tree.{Tree}
 use Rattle.m51_stmt.specs.Statement as body
-use Rattle.m51_stmt.specs.Statement.{BodyTree}
-use Rattle.m51_text.specs.Answer.{LineTree}
-use Rattle.m51_asm.specs.Definitions.{Definition, Label, SegmentOf, EquOf, SetOf, AddressOf, ExternOf, definitions_in}
-use Rattle.m51_asm.specs.Definitions.{label_defined, defined_by, externals_from, found_in, or_later, definition_from}
 use Rattle.m51_asm.specs.Definitions.{definition_of}
-use Rattle.m51_asm.specs.Assignment.{TextSegment, Assignment, absolute, opening, body_at, above, number_of}
-use Rattle.m51_asm.specs.Fitting.{is_absolute_of, last_absolute, declared_in, declared_by, segment_by, segment_behind}
-use Rattle.m51_asm.specs.ObjectSegments.{declared_or, segment_of}
+use Rattle.m51_asm.specs.Assignment.{absolute, above, number_or_zero}
+use Rattle.m51_asm.specs.Fitting.{last_absolute, declared_in, declared_by, segment_behind}
 use Rattle.m51_asm.proofs.GoodLines.{IsFreeText, IsGood}
 
 -- what is found is of a test that passes
@@ -63,10 +56,11 @@ body_found b name k h = absurd (cc h)
 line_found : (label : Option (List ℕ)) (b : BodyTree) (name : List ℕ) (k : Kind)
     → found_in (label_defined label ++ defined_by b) name ≡ Some (SegmentOf k) → Declares b k
 line_found None b name k h = body_found b name k h
-line_found (Some t) b name k h = elim (found_if (bytes_eq name t) Label (SegmentOf k) (found_in (defined_by b) name) h) [
-  | inl e ↦ absurd (cc e)
-  | inr e ↦ body_found b name k e
-]
+line_found (Some t) b name k h =
+    elim (found_if (bytes_eq name t) Label (SegmentOf k) (found_in (defined_by b) name) h) [
+      | inl e ↦ absurd (cc e)
+      | inr e ↦ body_found b name k e
+    ]
 
 abbrev pub defined_there : ℕ → Definition → Option (ℕ × Definition)
 defined_there line d = Some (line, d)
@@ -81,10 +75,10 @@ declared_from : (lines : List LineTree) (n : ℕ) (name : List ℕ) (line : ℕ)
     → definition_from n lines name ≡ Some (line, SegmentOf k)
     → (j : ℕ) × (line ≡ n + j) × Declares (body_at lines j) k
 declared_from [] n name line k h = absurd (cc h)
-declared_from (l ∷ lines) n name line k h =
-    elim (later_is n (found_in (definitions_in l.stmt) name) (definition_from (suc n) lines name) line (SegmentOf k) h) [
+declared_from (l ∷ lines) n name at k h =
+    elim (later_is n (found_in (definitions_in l.stmt) name) (definition_from (suc n) lines name) at (SegmentOf k) h) [
       | inl p ↦ (0, omega (arith, p.0), line_found l.stmt.label l.stmt.body name k p.1)
-      | inr e ↦ let r = declared_from lines (suc n) name line k e in (suc r.0, omega (arith, r.1), r.2)
+      | inr e ↦ let r = declared_from lines (suc n) name at k e in (suc r.0, omega (arith, r.1), r.2)
     ]
 
 -- what is defined as a segment is declared by its line
@@ -197,11 +191,12 @@ module _ (lines : List LineTree) (a : Assignment) (c : IsFreeText lines a) where
       (subst IsGood is (c.good k)) refl
 
   org_known : (k : ℕ) (t : Tree) (b : Bool) → Below k → body_at lines k ≡ body.Org t
-      → a.segment (suc k) ≡ cond b (absolute (k + 2) (a.segment k).kind (number_of (above lines a k) t)) (a.segment k)
+      → a.segment (suc k)
+      ≡ cond b (absolute (k + 2) (a.segment k).kind (number_or_zero (above lines a k) t)) (a.segment k)
       → IsKnown lines a (suc k) (a.segment (suc k))
   unfolding Below
   org_known k t true below is e =
-      begun lines a k (body.Org t) (absolute (k + 2) (a.segment k).kind (number_of (above lines a k) t)) (sym is)
+      begun lines a k (body.Org t) (absolute (k + 2) (a.segment k).kind (number_or_zero (above lines a k) t)) (sym is)
       (λ ls n s. refl) e refl (below k (omega arith)).kind_is refl
   org_known k t false below is e = known_as k (suc k) (omega arith) e (below k (omega arith))
 
@@ -211,7 +206,7 @@ module _ (lines : List LineTree) (a : Assignment) (c : IsFreeText lines a) where
   unfolding Below
   next_known k (body.Rseg name) below is e = declared_known k name (definition_of lines name) below refl e
   next_known k (body.Select j (Some t)) below is e =
-      begun lines a k (body.Select j (Some t)) (absolute (k + 2) j (number_of (above lines a k) t)) (sym is)
+      begun lines a k (body.Select j (Some t)) (absolute (k + 2) j (number_or_zero (above lines a k) t)) (sym is)
       (λ ls n s. refl) e refl (subst IsGood is (c.good k)) refl
   next_known k (body.Select j None) below is e = selected_known k j (last_absolute a.segment j k) below is refl e
   next_known k (body.Org t) below is e = org_known k t (is_absolute (a.segment k).reloc) below is e

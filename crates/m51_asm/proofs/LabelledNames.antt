@@ -1,17 +1,13 @@
 -- The form of a JMP or CALL follows from the lines above and the label of its own line.
-use Rattle.std.proofs.Common.{◌≡◌, ℕ, suc, nat_lt, Bool, true, false, not, ◌&&◌, cond, List, [], take, Option, Some}
-use Rattle.std.proofs.Common.{None, refl, ap, sym, ◌∙◌, option_map, slice_get}
-use Rattle.std.specs.Str.{bytes_eq}
-use Rattle.m51_cells.specs.Kinds.{is_absolute}
-use Rattle.m51_expr.specs.declared.value.Value.{Value}
-use Rattle.m51_expr.specs.Meanings.{Meanings}
-use Rattle.m51_stmt.specs.Statement.{BodyTree, Code}
-use Rattle.m51_text.specs.Answer.{LineTree}
-use Rattle.m51_asm.specs.Definitions.{Definition, Label, found_in, definitions_in, definition_of}
-use Rattle.m51_asm.specs.Assignment.{Assignment, line_definitions, defined_of, body_of, reloc_of, is_bitaddressable}
-use Rattle.m51_asm.specs.Assignment.{here_at, if_before, value_before, above, down_to}
-use Rattle.m51_asm.specs.Fitting.{named_value, form_by, Fits}
-use Rattle.m51_asm.specs.Repeats.{is_set, clashes, or_here, is_repeated}
+use Rattle.m51_asm.proofs.Common.{◌≡◌, ℕ, suc, nat_lt, Bool, true, false, not, ◌&&◌, cond, List, [], take, Option, Some}
+use Rattle.m51_asm.proofs.Common.{None, refl, ap, sym, ◌∙◌, option_map, slice_get, bytes_eq, is_absolute, Value}
+use Rattle.m51_asm.proofs.Common.{Meanings, BodyTree, LineTree, Definition, Label, found_in, definitions_in, Assignment}
+use Rattle.m51_asm.proofs.Common.{line_definitions, defined_of, body_of, segment_reloc, is_bitaddressable, here_at}
+use Rattle.m51_asm.proofs.Common.{if_before, value_before, named_value, form_by, Fits, is_set, clashes, or_here}
+use Rattle.m51_stmt.specs.Statement.{Code}
+use Rattle.m51_asm.specs.Definitions.{definition_of}
+use Rattle.m51_asm.specs.Assignment.{above, down_to}
+use Rattle.m51_asm.specs.Repeats.{is_repeated}
 use Rattle.m51_asm.specs.LabelledNames.{or_label, with_label}
 use Rattle.m51_asm.proofs.DefinedLines.{or_none, at_line, defined_more}
 use Rattle.m51_asm.proofs.GrowingValues.{no_clash_in, not_again}
@@ -125,8 +121,8 @@ module _ (lines : List LineTree) (a : Assignment) (k : ℕ) (line : LineTree) (i
   down f = λ i. record {
     value = λ name. down_value f name i;
     here = here_at a k;
-    fixed = λ id. is_absolute (reloc_of lines id);
-    bitaddressable = λ id. is_bitaddressable (reloc_of lines id);
+    fixed = λ id. is_absolute (segment_reloc lines id);
+    bitaddressable = λ id. is_bitaddressable (segment_reloc lines id);
   }
 
 pub form_told : (lines : List LineTree) (a : Assignment) → Fits lines a → (k : ℕ) (line : LineTree)

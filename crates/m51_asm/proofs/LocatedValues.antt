@@ -1,28 +1,23 @@
 -- An expression has the same value by the numbers of a table that has the segments of its names.
-use Rattle.std.proofs.Common.{◌≡◌, ℕ, suc, ◌-◌, ◌==◌, ◌&&◌, Bool, true, false, cond, List, [], ◌∷◌, ◌++◌, Option, Some}
-use Rattle.std.proofs.Common.{None, Ok, Err, refl, ap, sym, subst, ◌∙◌, arith, option_map, is_some, slice_get}
-use Rattle.std.proofs.Common.{unwrap_or, inl, inr, length, take, ◌≤◌}
-use Rattle.std.proofs.lemmas.List.{take_all}
-use Rattle.std.proofs.lemmas.Bool.{eqb-true, eq-eqb, ne_eqb, and_from, and_parts}
+use Rattle.m51_asm.proofs.Common.{◌≡◌, ℕ, suc, ◌-◌, ◌==◌, ◌&&◌, Bool, true, false, cond, List, [], ◌∷◌, ◌++◌, Option}
+use Rattle.m51_asm.proofs.Common.{Some, None, Ok, Err, refl, ap, sym, subst, ◌∙◌, arith, option_map, is_some, slice_get}
+use Rattle.m51_asm.proofs.Common.{inl, inr, length, take, ◌≤◌, take_all, eqb-true, ne_eqb, and_from, and_parts, Base}
+use Rattle.m51_asm.proofs.Common.{Value, Tree, Name, Here, One, Two, and_then, Valued, Meanings, applied, unary}
+use Rattle.m51_asm.proofs.Common.{from_one, place_in, object_base, object_value, base_ids, ids_in, IsEnough}
+use Rattle.std.proofs.Common.{unwrap_or}
+use Rattle.std.proofs.lemmas.Bool.{eq-eqb}
 use Rattle.std.proofs.lemmas.Bool.Decides.{eqb_tells}
-use Rattle.m51_cells.specs.declared.kind.Base.{Base}
 use Rattle.m51_cells.specs.declared.kind.Base.TheVariants as base
-use Rattle.m51_expr.specs.declared.value.Value.{Value}
 use Rattle.m51_expr.specs.declared.fault.ExprError.{ExprError}
-use Rattle.m51_expr.specs.Tree.{Tree, Number, Name, Here, One, Two}
-use Rattle.m51_cells.specs.Outcome.{and_then}
-use Rattle.m51_expr.specs.Value.{Valued}
-use Rattle.m51_expr.specs.Meanings.{Meanings}
-use Rattle.m51_expr.specs.Evaluation.{or_unknown, applied, value_of}
-use Rattle.m51_expr.specs.Operators.{unary}
+use Rattle.m51_expr.specs.Tree.{Number}
+use Rattle.m51_expr.specs.Evaluation.{or_unknown, value_of}
 use Rattle.m51_isa.specs.declared.generics.Verb.{Verb}
 use Rattle.m51_encode.specs.Bases.{same_segment}
 use Rattle.m51_encode.specs.JumpForm.{jump_form_of}
-use Rattle.m51_asm.specs.ObjectSegments.{from_one, place_in, local_number}
-use Rattle.m51_asm.specs.ObjectMeanings.{object_base, object_value}
+use Rattle.m51_asm.specs.ObjectSegments.{local_number}
 use Rattle.m51_asm.specs.Renumbering.{SameBase, with_base, SameValue, SameValued, Renumbers, IsRenumbering, IsUnchanged}
-use Rattle.m51_asm.specs.Located.{is_in, id_at, base_ids, value_ids, ids_in, has_base, if_there, restricted, local}
-use Rattle.m51_asm.specs.Located.{global_value, global, AreIn, IsEnough}
+use Rattle.m51_asm.specs.Located.{is_id_in, id_at, value_ids, has_base, if_there, restricted, local}
+use Rattle.m51_asm.specs.Located.{global_value, global, AreIn}
 use Rattle.m51_asm.proofs.RenumberedValues.{unchanged}
 
 step_in : (b : Bool) (o p : Option ℕ) → (is_some o ≡ true → is_some p ≡ true)
@@ -38,11 +33,11 @@ step_past true p h = refl
 step_past false (Some n) h = refl
 step_past false None h = h
 
-pub in_left : (xs ys : List ℕ) (id : ℕ) → is_in xs id ≡ true → is_in (xs ++ ys) id ≡ true
+pub in_left : (xs ys : List ℕ) (id : ℕ) → is_id_in xs id ≡ true → is_id_in (xs ++ ys) id ≡ true
 in_left [] ys id h = absurd (cc h)
 in_left (x ∷ xs) ys id h = step_in (x == id) (place_in xs id) (place_in (xs ++ ys) id) (in_left xs ys id) h
 
-pub in_right : (xs ys : List ℕ) (id : ℕ) → is_in ys id ≡ true → is_in (xs ++ ys) id ≡ true
+pub in_right : (xs ys : List ℕ) (id : ℕ) → is_id_in ys id ≡ true → is_id_in (xs ++ ys) id ≡ true
 in_right [] ys id h = h
 in_right (x ∷ xs) ys id h = step_past (x == id) (place_in (xs ++ ys) id) (in_right xs ys id h)
 
@@ -58,7 +53,7 @@ step_back x id xs true o e h k = e refl
 step_back x id xs false (Some n) e h k = h refl
 step_back x id xs false None e h k = absurd (cc k)
 
-found : (table : List ℕ) (id : ℕ) → is_in table id ≡ true → at_place table (place_in table id) ≡ id
+found : (table : List ℕ) (id : ℕ) → is_id_in table id ≡ true → at_place table (place_in table id) ≡ id
 found [] id h = absurd (cc h)
 found (x ∷ xs) id h = step_back x id xs (x == id) (place_in xs id) (eqb-true x id) (found xs id) h
 
@@ -70,7 +65,7 @@ by_number table (Some n) h = ap (λ m. unwrap_or (slice_get table m) 0) (the_sam
 by_number table None h = absurd (cc h)
 
 -- the number of an id in a table leads back to it
-pub id_back : (table : List ℕ) (id : ℕ) → is_in table id ≡ true → id_at table (local_number table id) ≡ id
+pub id_back : (table : List ℕ) (id : ℕ) → is_id_in table id ≡ true → id_at table (local_number table id) ≡ id
 id_back table id h = by_number table (place_in table id) h ∙ found table id h
 
 there_first : (b : Bool) → b ≡ true → is_some (cond b (Some 0) (option_map (λ n. suc n) None)) ≡ true
@@ -110,7 +105,7 @@ same_number s u t v f g = elim (eqb_tells s u) [
 
 -- an id of the table and its number
 abbrev links : List ℕ → ℕ → ℕ → Bool
-links table s t = is_in table s && local_number table s == t
+links table s t = is_id_in table s && local_number table s == t
 
 abbrev faulty : ExprError → Valued Value
 faulty e = Err e
@@ -120,11 +115,12 @@ valued v = Ok v
 
 module _ (names : Meanings) (table : List ℕ) (here_in : AreIn table (base_ids names.here.base)) where
   number_of : (s t : ℕ) → links table s t ≡ true → t ≡ local_number table s
-  number_of s t h = sym (eqb-true (local_number table s) t (and_parts (is_in table s) (local_number table s == t) h).1)
+  number_of s t h =
+      sym (eqb-true (local_number table s) t (and_parts (is_id_in table s) (local_number table s == t) h).1)
 
   back : (s t : ℕ) → links table s t ≡ true → id_at table t ≡ s
   back s t h = ap (id_at table) (number_of s t h)
-      ∙ id_back table s (and_parts (is_in table s) (local_number table s == t) h).0
+      ∙ id_back table s (and_parts (is_id_in table s) (local_number table s == t) h).0
 
   linked_apart : (s t u v : ℕ) → links table s t ≡ true → links table u v ≡ true → (s == u) ≡ (t == v)
   linked_apart s t u v h k =
@@ -142,7 +138,7 @@ module _ (names : Meanings) (table : List ℕ) (here_in : AreIn table (base_ids 
   same_base_of : (b : Base) → has_base table b ≡ true
       → SameBase (Renumbers (links table)) b (object_base (local_number table) b)
   same_base_of (base.Segment id) h =
-      and_from (is_in table id) (local_number table id == local_number table id) h
+      and_from (is_id_in table id) (local_number table id == local_number table id) h
       (eq-eqb (local_number table id) (local_number table id) refl)
   same_base_of base.None h = tt
   same_base_of (base.External n) h = refl

@@ -1,12 +1,10 @@
 -- The outcomes of the parts of a line: where none has a fault, the fixups of all are made, never more than 65,535.
-use Rattle.std.proofs.Common.{◌≡◌, ℕ, suc, ◌+◌, ◌<◌, ◌≤◌, nat_lt, Bool, true, false, cond, List, [], ◌∷◌, length, Some}
-use Rattle.std.proofs.Common.{None, refl, sym, ◌∙◌, arith, add-zero}
-use Rattle.std.proofs.lemmas.Bool.{ltb-true}
-use Rattle.m51_expr.specs.Meanings.{Meanings}
-use Rattle.m51_encode.specs.declared.outcome.OperandOutcome.{OperandOutcome}
-use Rattle.m51_encode.specs.declared.outcome.OperandOutcome.TheVariants.{Faulty, Fixes, Stands}
+use Rattle.m51_asm.proofs.Common.{◌≡◌, ℕ, suc, ◌+◌, ◌<◌, ◌≤◌, nat_lt, Bool, true, false, cond, List, [], ◌∷◌, length}
+use Rattle.m51_asm.proofs.Common.{Some, None, refl, sym, ◌∙◌, arith, add-zero, ltb-true, Meanings, OperandOutcome}
+use Rattle.m51_asm.proofs.Common.{Faulty, EmittedContent}
+use Rattle.m51_encode.specs.declared.outcome.OperandOutcome.TheVariants.{Fixes, Stands}
 use Rattle.m51_asm.specs.Outcomes.{made_with_all, or_next, leftmost_fault}
-use Rattle.m51_asm.specs.Content.{EmittedContent, nothing}
+use Rattle.m51_asm.specs.Content.{nothing}
 use Rattle.m51_asm.proofs.Members.{Every, Pairs, no_element}
 use Rattle.m51_asm.proofs.ContentFields.{IsContent}
 

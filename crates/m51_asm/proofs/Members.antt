@@ -1,8 +1,8 @@
 -- Elements of lists, and what holds of each or of any two in their order.
-use Rattle.std.proofs.Common.{◌≡◌, ◌⊎◌, inl, inr, ℕ, zero, suc, ◌+◌, ◌<◌, ◌≤◌, List, [], ◌∷◌, ◌++◌, map, length, get_or}
-use Rattle.std.proofs.Common.{Some, refl, sym, ap, subst, arith}
+use Rattle.m51_asm.proofs.Common.{◌≡◌, ◌⊎◌, inl, inr, ℕ, zero, suc, ◌+◌, ◌<◌, ◌≤◌, List, [], ◌∷◌, ◌++◌, map, length}
+use Rattle.m51_asm.proofs.Common.{get_or, Some, refl, sym, ap, subst, arith, flat_map, range_with_len}
 use Rattle.std.specs.Prelude.{slice_get}
-use Rattle.std.specs.List.{All, AllPairs, Contains, flat_map, range_with_len}
+use Rattle.std.specs.List.{All, AllPairs, Contains}
 
 -- an element of a list
 unfoldable pub In : {A : Type 0} → A → List A → Type 0
@@ -101,7 +101,7 @@ got_in [] k x h = absurd (cc h)
 got_in (y ∷ xs) zero x h = inl (cc h)
 got_in (y ∷ xs) (suc k) x h = inr (got_in xs k x h)
 
--- the place of an element
+-- the index of an element
 pub record At {A : Type 0} (xs : List A) (x : A) : Type 0 where
   pub index : ℕ
   pub below : index < length xs

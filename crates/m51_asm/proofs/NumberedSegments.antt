@@ -1,21 +1,19 @@
 -- The segments of a module and the numbers of ids, line by line.
-use Rattle.std.proofs.Common.{◌≡◌, ℕ, zero, suc, ◌+◌, ◌<◌, ◌≤◌, ◌==◌, Bool, true, false, cond, List, [], ◌∷◌, ◌++◌, map}
-use Rattle.std.proofs.Common.{length, length-append, Option, Some, None, option_map, is_some, ◌&&◌, refl, ap, sym, ◌∙◌}
-use Rattle.std.proofs.Common.{arith, eq-eqb, append-nil}
-use Rattle.std.proofs.lemmas.Bool.{eqb-true, eqb-false, ne_eqb}
-use Rattle.std.proofs.lemmas.List.{map-append, length-map}
-use Rattle.m51_module.specs.declared.segment.Segment.{Segment}
-use Rattle.m51_stmt.specs.Statement.{BodyTree, Segment as Declares}
-use Rattle.m51_text.specs.Answer.{LineTree}
+use Rattle.m51_asm.proofs.Common.{◌≡◌, ℕ, zero, suc, ◌+◌, ◌<◌, ◌≤◌, ◌==◌, Bool, true, false, cond, List, [], ◌∷◌, ◌++◌}
+use Rattle.m51_asm.proofs.Common.{map, length, length-append, Option, Some, None, option_map, is_some, ◌&&◌, refl, ap}
+use Rattle.m51_asm.proofs.Common.{sym, ◌∙◌, arith, eq-eqb, eqb-true, eqb-false, ne_eqb, length-map, Segment, BodyTree}
+use Rattle.m51_asm.proofs.Common.{LineTree, TextSegment, Assignment, opening, body_at, or_here, Kept, size_of, kept_by}
+use Rattle.m51_asm.proofs.Common.{from_one, place_in, number_at, IsNumberedTo}
+use Rattle.std.proofs.Common.{append-nil}
+use Rattle.std.proofs.lemmas.List.{map-append}
+use Rattle.m51_stmt.specs.Statement.{Segment as Declares}
 use Rattle.m51_asm.specs.declared.numbering.Numbering.{Numbering}
-use Rattle.m51_asm.specs.Assignment.{TextSegment, Assignment, opening, body_at}
-use Rattle.m51_asm.specs.Repeats.{or_here}
 use Rattle.m51_asm.proofs.DefinedLines.{or_none}
-use Rattle.m51_asm.specs.ObjectSegments.{Kept, size_of, if_filled, kept_by, kept_before, kept, from_one, place_in}
+use Rattle.m51_asm.specs.ObjectSegments.{if_filled, kept_before, kept}
 use Rattle.m51_asm.specs.ObjectSegments.{number_in}
 use Rattle.m51_asm.proofs.FewSegments.{kept_most}
 use Rattle.m51_asm.proofs.GoodLines.{IsFreeText}
-use Rattle.m51_asm.specs.Numbering.{number_at, segment_filled, segment_added, as_list, next_number, IsNumberedTo}
+use Rattle.m51_asm.specs.Numbering.{segment_filled, segment_added, as_list, next_number}
 use Rattle.m51_asm.specs.Numbering.{IsNumbering}
 
 -- a segment of this id, or none
@@ -73,7 +71,7 @@ or_later (Some i) b n = refl
 or_later None true n = refl
 or_later None false n = refl
 
--- the place of an id in a table with one more
+-- the index of an id in a table with one more
 pub place_pushed : (table : List ℕ) (new id : ℕ)
     → place_in (table ++ new ∷ []) id ≡ or_here (place_in table id) (cond (new == id) (Some (length table)) None)
 place_pushed [] new id = refl
@@ -93,7 +91,7 @@ ids segments = map (λ s. s.id) segments
 other_id : (new id : ℕ) → (new ≡ id → ⊥) → (n : ℕ) → cond (new == id) (Some n) None ≡ None
 other_id new id ne n = ap (λ b. cond b (Some n) None) (ne_eqb new id ne)
 
--- the place of an id after what a line adds
+-- the index of an id after what a line adds
 place_added : (segments : List Kept) (id : ℕ) (o : Option Segment) (other : ℕ)
     → place_in (ids (segments ++ kept_as id o)) other
     ≡ or_here (place_in (ids segments) other) (cond (is_some o && id == other) (Some (length (ids segments))) None)

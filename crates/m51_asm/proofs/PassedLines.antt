@@ -1,17 +1,14 @@
 -- Pass 1 line by line: where it stops, and how one more line is passed.
-use Rattle.std.proofs.Common.{◌≡◌, ℕ, zero, suc, ◌<◌, ◌≤◌, true, false, List, [], ◌∷◌, ◌++◌, length, Option, Some, None}
-use Rattle.std.proofs.Common.{refl, ap, sym, subst, ◌∙◌, slice_get, arith, add-one, below_more, length-append}
+use Rattle.m51_asm.proofs.Common.{◌≡◌, ℕ, zero, suc, ◌<◌, ◌≤◌, true, false, List, [], ◌∷◌, ◌++◌, length, Option, Some}
+use Rattle.m51_asm.proofs.Common.{None, refl, ap, sym, subst, ◌∙◌, slice_get, arith, add-one, length-append, LineTree}
+use Rattle.m51_asm.proofs.Common.{PassOneState, LinePlace, Assignment, IsAt, IsPlaceOf, AreFree, IsFirstFault}
+use Rattle.m51_asm.proofs.Common.{ArePlaces, IsPassedTo}
+use Rattle.std.proofs.Common.{below_more}
 use Rattle.std.proofs.lemmas.Bool.{leb-false, leb-true}
 use Rattle.m51_cells.specs.declared.fault.TheConstants.{DEFINED_TWICE}
-use Rattle.m51_text.specs.Answer.{LineTree}
-use Rattle.m51_asm.specs.declared.placing.PassOneState.{PassOneState}
-use Rattle.m51_asm.specs.declared.stepping.LinePlace.{LinePlace}
-use Rattle.m51_asm.specs.Assignment.{Assignment}
 use Rattle.m51_asm.specs.Repeats.{is_repeated, IsFirstRepeat}
 use Rattle.m51_asm.specs.PlacedFaults.{placed_fault}
-use Rattle.m51_asm.specs.Placing.{IsAt, IsPlaceOf}
-use Rattle.m51_asm.specs.FirstFault.{AreFree, IsFirstFault}
-use Rattle.m51_asm.specs.Passing.{is_reached, ArePlaces, IsPassedTo}
+use Rattle.m51_asm.specs.Passing.{is_reached}
 
 repeat_is_fault : (lines : List LineTree) (a : Assignment) (k : ℕ) → is_repeated lines k ≡ true
     → placed_fault lines a k ≡ Some DEFINED_TWICE

@@ -1,33 +1,29 @@
 -- What is kept grows with a line as the definitions say, and the fault of the line follows from what is counted.
-use Rattle.std.proofs.Common.{◌≡◌, inl, inr, ℕ, suc, ◌+◌, ◌-◌, ◌^◌, ◌<◌, ◌≤◌, ◌==◌, ◌&&◌, ◌||◌, not, min, nat_lt, Bool}
-use Rattle.std.proofs.Common.{true, false, cond, List, [], ◌∷◌, map, Option, Some, None, refl, ap, sym, subst, ◌∙◌}
-use Rattle.std.proofs.Common.{option_map, slice_get, add-zero, arith}
-use Rattle.std.proofs.lemmas.Bool.{eqb-true, ltb-false, or_parts}
-use Rattle.m51_cells.specs.declared.kind.Kind.{Kind}
+use Rattle.m51_asm.proofs.Common.{◌≡◌, inl, inr, ℕ, suc, ◌+◌, ◌-◌, ◌<◌, ◌≤◌, ◌==◌, ◌&&◌, ◌||◌, not, min, nat_lt, Bool}
+use Rattle.m51_asm.proofs.Common.{true, false, cond, List, [], ◌∷◌, map, Option, Some, None, refl, ap, sym, subst, ◌∙◌}
+use Rattle.m51_asm.proofs.Common.{option_map, slice_get, add-zero, arith, eqb-true, ltb-false, or_parts, Kind}
+use Rattle.m51_asm.proofs.Common.{is_absolute, BodyTree, LineTree, Giving, PassOneState, definitions_in, found_in}
+use Rattle.m51_asm.proofs.Common.{TextSegment, Assignment, body_of, defined_of, body_at, is_absolute_of, bank_by}
+use Rattle.m51_asm.proofs.Common.{externals_in, Fits, kind_end, is_misplaced, operand_fault, brief, or_kept}
+use Rattle.m51_asm.proofs.Common.{located_value, value_in, text_segment, size_in, expression_given, given_or, IsAt}
+use Rattle.m51_asm.proofs.Common.{AreLineFacts}
+use Rattle.std.proofs.Common.{◌^◌}
 use Rattle.m51_cells.specs.declared.kind.Kind.TheVariants as kind
-use Rattle.m51_cells.specs.Kinds.{is_absolute}
-use Rattle.m51_stmt.specs.Statement.{BodyTree, Segment}
-use Rattle.m51_text.specs.Answer.{LineTree}
+use Rattle.m51_stmt.specs.Statement.{Segment}
 use Rattle.m51_asm.specs.declared.counts.Counts.{Counts}
-use Rattle.m51_asm.specs.declared.giving.Giving.{Giving}
-use Rattle.m51_asm.specs.declared.placing.PassOneState.{PassOneState}
 use Rattle.m51_asm.specs.declared.told.LineFacts.{LineFacts}
-use Rattle.m51_asm.specs.Definitions.{definitions_in, found_in, definition_of}
-use Rattle.m51_asm.specs.Assignment.{TextSegment, Assignment, body_of, defined_of, body_at, above}
-use Rattle.m51_asm.specs.Fitting.{is_absolute_of, last_absolute, size_at, given_to, filled, bank_by, bank_before}
-use Rattle.m51_asm.specs.Fitting.{externals_in, externals_before, Fits}
+use Rattle.m51_asm.specs.Definitions.{definition_of}
+use Rattle.m51_asm.specs.Assignment.{above}
+use Rattle.m51_asm.specs.Fitting.{last_absolute, size_at, given_to, filled, bank_before}
+use Rattle.m51_asm.specs.Fitting.{externals_before}
 use Rattle.m51_asm.specs.Repeats.{is_repeated}
-use Rattle.m51_asm.specs.PlacedFaults.{end_of, is_past, is_misplaced, is_numbered_by, segments_before, is_too_many}
-use Rattle.m51_asm.specs.PlacedFaults.{operand_fault, placed_fault}
-use Rattle.m51_asm.specs.Table.{brief}
-use Rattle.m51_asm.specs.ValuesAbove.{value_above, or_kept}
-use Rattle.m51_asm.specs.Located.{located_value}
-use Rattle.m51_asm.specs.Above.{value_in}
-use Rattle.m51_asm.specs.OpenSegments.{text_segment, last_with, last_in}
-use Rattle.m51_asm.specs.Filled.{size_in, saturated, Sets}
-use Rattle.m51_asm.specs.GivenValues.{expression_given, given_or}
-use Rattle.m51_asm.specs.Operands.{fault_of, given_in, bank_in}
-use Rattle.m51_asm.specs.Placing.{IsAt, IsTold, IsCounted, numbers_one, passes, are_too_many, fault_by}
+use Rattle.m51_asm.specs.PlacedFaults.{is_past, is_numbered_by, segments_before, is_too_many}
+use Rattle.m51_asm.specs.PlacedFaults.{placed_fault}
+use Rattle.m51_asm.specs.ValuesAbove.{value_above}
+use Rattle.m51_asm.specs.OpenSegments.{last_with, last_in}
+use Rattle.m51_asm.specs.Filled.{saturated, Sets}
+use Rattle.m51_asm.specs.Operands.{evaluated_fault, given_in, bank_in}
+use Rattle.m51_asm.specs.Placing.{IsCounted, numbers_one, exceeds_end, are_too_many, fault_by}
 use Rattle.m51_asm.proofs.GrowingValues.{grown}
 use Rattle.m51_asm.proofs.GivenValues.{given}
 use Rattle.m51_asm.proofs.GoodLines.{IsFaultFree}
@@ -62,7 +58,7 @@ given_sum : (b : Bool) (before n : ℕ) → saturated (before + cond b (saturate
 given_sum true before n = small_sum before n (2 ^ 64 - 1)
 given_sum false before n = refl
 
-end_most : (k : Kind) → end_of k ≤ 65536
+end_most : (k : Kind) → kind_end k ≤ 65536
 end_most kind.Direct = omega arith
 end_most kind.Bits = omega arith
 end_most kind.Idata = omega arith
@@ -70,10 +66,10 @@ end_most kind.Code = omega arith
 end_most kind.Xdata = omega arith
 end_most kind.Number = omega arith
 
-passes_same : (s : TextSegment) (n : ℕ) → passes s (saturated n) ≡ passes s n
+passes_same : (s : TextSegment) (n : ℕ) → exceeds_end s (saturated n) ≡ exceeds_end s n
 passes_same s n =
-    let less : end_of s.kind < 2 ^ 64 - 1 = below_most (end_of s.kind) (end_most s.kind) in
-    λ i. small_end (end_of s.kind) s.base n (2 ^ 64 - 1) less i || small_over 65535 n (2 ^ 64 - 1) (omega arith) i
+    let less : kind_end s.kind < 2 ^ 64 - 1 = below_most (kind_end s.kind) (end_most s.kind) in
+    λ i. small_end (kind_end s.kind) s.base n (2 ^ 64 - 1) less i || small_over 65535 n (2 ^ 64 - 1) (omega arith) i
 
 numbers_whole : (s : TextSegment) (before n : ℕ) (body : BodyTree)
     → numbers_one s before (saturated n) body ≡ numbers_one s before n body
@@ -88,7 +84,7 @@ nothing_more n false = add-zero n
 -- what is counted
 pub counted : (lines : List LineTree) (a : Assignment) (k : ℕ) (s : PassOneState) (t : LineFacts) (c : Counts)
     (body : BodyTree)
-    → IsAt lines a k s → IsTold lines a k t → body ≡ body_at lines k
+    → IsAt lines a k s → AreLineFacts lines a k t → body ≡ body_at lines k
     → c.next ≡ saturated (size_in s.filled t.next.id + given_to t.next.id (text_segment s.segment) t.size)
     → c.segments ≡ s.segments + cond (numbers_one (text_segment s.segment) (size_in s.filled s.segment.id) t.size body)
     1 0
@@ -115,21 +111,21 @@ counted lines a k s t c body at told is next segments externals = record {
 -- the fault of a line that repeats nothing
 pub fault_told : (lines : List LineTree) (a : Assignment) (k : ℕ) (s : PassOneState) (t : LineFacts) (c : Counts)
     (body : BodyTree) → Fits lines a
-    → IsAt lines a k s → IsTold lines a k t → IsCounted lines a k c → body ≡ body_at lines k
+    → IsAt lines a k s → AreLineFacts lines a k t → IsCounted lines a k c → body ≡ body_at lines k
     → is_repeated lines k ≡ false
-    → fault_by (passes (text_segment t.next) c.next) (is_misplaced (text_segment s.segment) body)
-    (are_too_many c.segments c.externals) (fault_of t.operand)
+    → fault_by (exceeds_end (text_segment t.next) c.next) (is_misplaced (text_segment s.segment) body)
+    (are_too_many c.segments c.externals) (evaluated_fault t.operand)
     ≡ placed_fault lines a k
 unfolding placed_fault
 fault_told lines a k s t c body f at told counts is once =
-    (λ i. fault_by (passes (told.next i) (counts.next i)) (is_misplaced (at.segment i) (is i))
+    (λ i. fault_by (exceeds_end (told.next i) (counts.next i)) (is_misplaced (at.segment i) (is i))
     (are_too_many (counts.segments i) (counts.externals i)) (told.operand.fault_is i))
     ∙ (λ i. fault_by (passes_same (a.segment (suc k)) (filled lines a (a.segment (suc k)).id (suc k)) i)
     (is_misplaced (a.segment k) (body_at lines k))
     (nat_lt 254 (segments_before lines a (suc k)) || small_over 255 (externals_before lines (suc k)) (2 ^ 64 - 1)
     (omega arith) i)
     (operand_fault lines (above lines a k) k (body_at lines k)))
-    ∙ ap (λ p. fault_by (nat_lt (end_of (a.segment (suc k)).kind) p
+    ∙ ap (λ p. fault_by (nat_lt (kind_end (a.segment (suc k)).kind) p
     || nat_lt 65535 (filled lines a (a.segment (suc k)).id (suc k)))
     (is_misplaced (a.segment k) (body_at lines k)) (is_too_many lines a k)
     (operand_fault lines (above lines a k) k (body_at lines k))) (sym (f.places (suc k)))
@@ -151,10 +147,10 @@ none_past false true many operand h = absurd (cc h)
 none_past false false true operand h = absurd (cc h)
 
 pub small_counts : (s : TextSegment) (c : Counts) (misplaced : Bool) (operand : Option ℕ)
-    → fault_by (passes s c.next) misplaced (are_too_many c.segments c.externals) operand ≡ None → IsSmall c
+    → fault_by (exceeds_end s c.next) misplaced (are_too_many c.segments c.externals) operand ≡ None → IsSmall c
 small_counts s c misplaced operand h =
-    let p = none_past (passes s c.next) misplaced (are_too_many c.segments c.externals) operand h in
-    let past = or_parts (nat_lt (end_of s.kind) (s.base + c.next)) (nat_lt 65535 c.next) p.0 in
+    let p = none_past (exceeds_end s c.next) misplaced (are_too_many c.segments c.externals) operand h in
+    let past = or_parts (nat_lt (kind_end s.kind) (s.base + c.next)) (nat_lt 65535 c.next) p.0 in
     let many = or_parts (nat_lt 254 c.segments) (nat_lt 255 c.externals) p.1 in
     let segments : c.segments ≤ 254 = ltb-false 254 c.segments many.0 in
     record {
@@ -173,7 +169,7 @@ small_sum_is above here counted h less =
 -- the bank after a line without a fault
 pub bank_after : (lines : List LineTree) (a : Assignment) (k : ℕ) → IsFaultFree lines a k → (s : PassOneState)
     → IsAt lines a k s
-    → (t : LineFacts) → IsTold lines a k t → bank_in s.bank t.operand ≡ bank_before lines a (suc k)
+    → (t : LineFacts) → AreLineFacts lines a k t → bank_in s.bank t.operand ≡ bank_before lines a (suc k)
 unfolding bank_before
 bank_after lines a k free s at t told =
     told.operand.bank_is free.operand s.bank ∙ ap (λ b. bank_by (above lines a k) b (body_at lines k)) at.selected
@@ -181,7 +177,7 @@ bank_after lines a k free s at t told =
 module _ (lines : List LineTree) (a : Assignment) (f : Fits lines a) (k : ℕ) (line : LineTree)
     (is : slice_get lines k ≡ Some line)
     (free : IsFaultFree lines a k) (s : PassOneState) (at : IsAt lines a k s) (t : LineFacts)
-    (told : IsTold lines a k t)
+    (told : AreLineFacts lines a k t)
     (c : Counts) (counts : IsCounted lines a k c) (small : IsSmall c) (g : Giving) (here : g.here ≡ t.here)
     (expression : option_map located_value g.expression ≡ given_in t.operand) (number : g.line ≡ k)
     (externals : g.externals ≡ s.externals) (n : PassOneState) where

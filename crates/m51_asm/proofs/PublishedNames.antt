@@ -1,29 +1,24 @@
 -- What PUBLIC makes of names by what is kept for pass 2 is what the definitions say.
-use Rattle.std.proofs.Common.{◌≡◌, ℕ, zero, suc, ◌+◌, ◌-◌, ◌≤◌, List, [], ◌∷◌, map, length, Option, Some, None}
-use Rattle.std.proofs.Common.{option_map, Ok, Err, refl, ap, sym, ◌∙◌, slice_get, arith}
+use Rattle.m51_asm.proofs.Common.{◌≡◌, ℕ, zero, suc, ◌+◌, ◌-◌, ◌≤◌, List, [], ◌∷◌, map, length, Option, Some, None}
+use Rattle.m51_asm.proofs.Common.{option_map, Ok, Err, refl, ap, sym, ◌∙◌, slice_get, arith, Base, Value, BodyTree}
+use Rattle.m51_asm.proofs.Common.{LineTree, or_next, PlacedText, LinePlace, Definition, Label, SegmentOf, EquOf, SetOf}
+use Rattle.m51_asm.proofs.Common.{AddressOf, ExternOf, Assignment, body_of, body_at, segment_by, Fits, first_definition}
+use Rattle.m51_asm.proofs.Common.{segment_number, segment_of, declared_or, object_base, object_value, text_segment}
+use Rattle.m51_asm.proofs.Common.{IsAssignedText, AreNamesAt, fault_among}
 use Rattle.std.proofs.lemmas.Option.{slice_get_past}
-use Rattle.m51_cells.specs.declared.kind.Base.{Base}
 use Rattle.m51_cells.specs.declared.kind.Base.TheVariants as base
-use Rattle.m51_expr.specs.declared.value.Value.{Value}
-use Rattle.m51_stmt.specs.Statement.{BodyTree, Segment as Declares}
-use Rattle.m51_text.specs.Answer.{LineTree}
-use Rattle.m51_emit.specs.Outcomes.{or_next, leftmost_fault}
+use Rattle.m51_stmt.specs.Statement.{Segment as Declares}
+use Rattle.m51_emit.specs.Outcomes.{leftmost_fault}
 use Rattle.m51_emit.specs.PublicNames.{Published, public_outcome}
 use Rattle.m51_emit.specs.PublicNames as content
 use Rattle.m51_asm.specs.declared.object_names.ObjectNames.{ObjectNames}
-use Rattle.m51_asm.specs.declared.object_names.PlacedText.{PlacedText}
-use Rattle.m51_asm.specs.declared.stepping.LinePlace.{LinePlace}
-use Rattle.m51_asm.specs.Definitions.{Definition, Label, SegmentOf, EquOf, SetOf, AddressOf, ExternOf, definition_of}
-use Rattle.m51_asm.specs.Assignment.{Assignment, body_of, body_at, reloc_by, above}
-use Rattle.m51_asm.specs.Fitting.{segment_by, segment_behind, last_absolute, Fits}
-use Rattle.m51_asm.specs.Table.{first_of}
-use Rattle.m51_asm.specs.ObjectSegments.{segment_number, segment_of, declared_or}
-use Rattle.m51_asm.specs.ObjectMeanings.{object_base, object_value, final}
-use Rattle.m51_asm.specs.OpenSegments.{text_segment}
+use Rattle.m51_asm.specs.Definitions.{definition_of}
+use Rattle.m51_asm.specs.Assignment.{reloc_by, above}
+use Rattle.m51_asm.specs.Fitting.{segment_behind, last_absolute}
+use Rattle.m51_asm.specs.ObjectMeanings.{final}
 use Rattle.m51_asm.specs.PublicNames.{public_of_value, public_valued, public_by, published}
-use Rattle.m51_asm.specs.ObjectNames.{IsReady, AreNamesAt}
 use Rattle.m51_asm.specs.Publishing.{definer_of, declared_as, next_of, counted_from, counted_by, segment_in}
-use Rattle.m51_asm.specs.Publishing.{published_from, published_by, fault_of_public, fault_among}
+use Rattle.m51_asm.specs.Publishing.{published_from, published_by, fault_of_public}
 
 -- the public of a value over the numbers of the module
 module _ (lines : List LineTree) (a : Assignment) (name : List ℕ) where
@@ -45,7 +40,7 @@ module _ (lines : List LineTree) (a : Assignment) (name : List ℕ) where
   of_value None = refl
 
   by_definition : (value : Option Value) (d : Option (ℕ × Definition))
-      → published_from name (definer_of (option_map first_of d)) (counted_by (segment_of lines a) value)
+      → published_from name (definer_of (option_map first_definition d)) (counted_by (segment_of lines a) value)
       (option_map (object_value (segment_number lines a)) value)
       ≡ public_by lines a name value d
   by_definition value (Some (line, Label)) = of_value value
@@ -83,7 +78,7 @@ module _ (lines : List LineTree) (a : Assignment) (f : Fits lines a) where
       let same : (k - length lines) + length lines ≡ k = omega (arith, h) in
       ap a.segment (sym same) ∙ stays (k - length lines)
 
-module _ (lines : List LineTree) (a : Assignment) (t : PlacedText) (h : IsReady lines a t) where
+module _ (lines : List LineTree) (a : Assignment) (t : PlacedText) (h : IsAssignedText lines a t) where
   after_is : (k : ℕ) → next_of (text_segment t.end.now.segment) (slice_get t.places.now k) ≡ a.segment (suc k)
   after_is k = by_place (slice_get t.places.now k) refl
     where

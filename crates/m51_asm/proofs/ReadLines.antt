@@ -1,12 +1,8 @@
 -- A line that is read in a loop over the lines of a text, and its place.
-use Rattle.std.proofs.Common.{◌≡◌, ℕ, ◌<◌, List, map, length, Some, get_or, refl, ap, ◌∙◌, slice_get, option_map}
+use Rattle.m51_asm.proofs.Common.{◌≡◌, ℕ, ◌<◌, List, map, length, Some, get_or, refl, ap, ◌∙◌, slice_get, option_map}
+use Rattle.m51_asm.proofs.Common.{LineTree, line_tree, LinePlace, Assignment, IsPlaceOf, ArePlaces}
 use Rattle.std.proofs.lemmas.Option.{slice_get-map, slice_get_read, slice_get-get_or}
 use Rattle.m51_text.specs.declared.text.Line.{Line}
-use Rattle.m51_text.specs.Answer.{LineTree, line_tree}
-use Rattle.m51_asm.specs.declared.stepping.LinePlace.{LinePlace}
-use Rattle.m51_asm.specs.Assignment.{Assignment}
-use Rattle.m51_asm.specs.Placing.{IsPlaceOf}
-use Rattle.m51_asm.specs.Passing.{ArePlaces}
 
 pub line_at : (lines : List Line) (k : ℕ) (line : Line) → k < length lines → line ≡ get_or lines k line
     → slice_get (map line_tree lines) k ≡ Some (line_tree line)

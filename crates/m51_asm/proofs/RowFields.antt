@@ -1,15 +1,13 @@
 -- The fields of a row of the instruction table end in its bytes, and none lies over another.
 -- lie in these bytes, one after another.
-use Rattle.std.proofs.Common.{◌≡◌, ◌⊎◌, inl, inr, ℕ, ◌+◌, ◌<◌, ◌≤◌, nat_le, Bool, true, ◌&&◌, ◌||◌, Option, Some, None}
-use Rattle.std.proofs.Common.{refl, sym, ap, ◌∙◌, arith}
-use Rattle.std.proofs.lemmas.Bool.{leb-true, or_cases, and_parts}
-use Rattle.m51_isa.specs.declared.instr.Instr.{Instr}
+use Rattle.m51_asm.proofs.Common.{◌≡◌, ◌⊎◌, inl, inr, ℕ, ◌+◌, ◌<◌, ◌≤◌, Bool, true, ◌&&◌, ◌||◌, Option, Some, None}
+use Rattle.m51_asm.proofs.Common.{refl, sym, ap, ◌∙◌, arith, and_parts, Instr, Field, row_length}
+use Rattle.std.proofs.Common.{nat_le}
+use Rattle.std.proofs.lemmas.Bool.{leb-true, or_cases}
 use Rattle.m51_isa.specs.declared.instr.Instr.TheVariants.{Nop}
-use Rattle.m51_isa.specs.declared.slot.Field.{Field}
 use Rattle.m51_isa.specs.declared.slot.Field.TheVariants as field
 use Rattle.m51_isa.specs.declared.slot.FieldSlot.{FieldSlot}
 use Rattle.m51_isa.specs.Spelling.{field_in, text_of}
-use Rattle.m51_isa.specs.Table.{length_of as row_length}
 
 -- how many bytes a field has
 abbrev pub width : Field → ℕ

@@ -1,12 +1,12 @@
 -- What names mean at a line, by the values of names that lines above define.
-use Rattle.std.proofs.Common.{◌≡◌, ℕ, zero, suc, ◌+◌, ◌<◌, ◌≤◌, nat_lt, Bool, true, false, cond, List, [], ◌∷◌, take}
-use Rattle.std.proofs.Common.{Option, Some, None, refl, ap, sym, ◌∙◌, arith}
+use Rattle.m51_asm.proofs.Common.{◌≡◌, ℕ, zero, suc, ◌+◌, ◌<◌, ◌≤◌, nat_lt, Bool, true, false, cond, List, [], ◌∷◌}
+use Rattle.m51_asm.proofs.Common.{take, Option, Some, None, refl, ap, sym, ◌∙◌, arith, LineTree, Definition, found_in}
+use Rattle.m51_asm.proofs.Common.{definitions_in, or_later, definition_from, Assignment, if_before, value_before}
+use Rattle.m51_asm.proofs.Common.{named_value, Fits, defined_value}
 use Rattle.std.proofs.lemmas.Bool.{lt-ltb, le-ltb}
-use Rattle.m51_text.specs.Answer.{LineTree}
-use Rattle.m51_asm.specs.Definitions.{Definition, found_in, definitions_in, or_later, definition_from, definition_of}
-use Rattle.m51_asm.specs.Assignment.{Assignment, if_before, value_before}
-use Rattle.m51_asm.specs.Fitting.{undefined_value, named_value, Fits}
-use Rattle.m51_asm.specs.ValuesAbove.{defined_value, value_above, seen_value}
+use Rattle.m51_asm.specs.Definitions.{definition_of}
+use Rattle.m51_asm.specs.Fitting.{undefined_value}
+use Rattle.m51_asm.specs.ValuesAbove.{value_above, seen_value}
 
 -- a definition in a line below a bound
 abbrev pub below : ℕ → Option (ℕ × Definition) → Option (ℕ × Definition)

@@ -1,23 +1,17 @@
 -- Where no line has a fault by the lines above it, no segment goes past the end of its kind.
-use Rattle.std.proofs.Common.{◌≡◌, ◌⊎◌, inl, inr, ℕ, zero, suc, ◌+◌, ◌<◌, ◌≤◌, ◌==◌, nat_lt, Bool, true, false, cond}
-use Rattle.std.proofs.Common.{List, length, Option, refl, sym, ap, subst, ◌∙◌, arith, add-zero}
-use Rattle.std.proofs.lemmas.Bool.{ltb-false, eqb-true, or_parts}
-use Rattle.m51_cells.specs.declared.kind.Kind.{Kind}
-use Rattle.m51_isa.specs.declared.generics.Jump.{Jump}
-use Rattle.m51_expr.specs.Meanings.{Meanings}
+use Rattle.m51_asm.proofs.Common.{◌≡◌, ◌⊎◌, inl, inr, ℕ, zero, suc, ◌+◌, ◌<◌, ◌≤◌, ◌==◌, nat_lt, Bool, true, false}
+use Rattle.m51_asm.proofs.Common.{cond, List, length, Option, refl, sym, ap, subst, ◌∙◌, arith, add-zero, ltb-false}
+use Rattle.m51_asm.proofs.Common.{eqb-true, or_parts, Kind, Jump, Meanings, BodyTree, LineTree, TextSegment, Assignment}
+use Rattle.m51_asm.proofs.Common.{body_at, segment_by, size_by, Fits, kind_end, segment_of}
 use Rattle.m51_stmt.specs.Statement as body
-use Rattle.m51_stmt.specs.Statement.{BodyTree}
-use Rattle.m51_text.specs.Answer.{LineTree}
-use Rattle.m51_asm.specs.Assignment.{TextSegment, Assignment, body_at, above}
-use Rattle.m51_asm.specs.Fitting.{segment_by, segment_behind, size_by, size_at, filled, last_absolute, Fits}
-use Rattle.m51_asm.specs.PlacedFaults.{end_of}
-use Rattle.m51_asm.specs.ObjectSegments.{segment_of}
+use Rattle.m51_asm.specs.Assignment.{above}
+use Rattle.m51_asm.specs.Fitting.{segment_behind, size_at, filled, last_absolute}
 use Rattle.m51_asm.proofs.GoodLines.{IsFreeText, IsFaultFree, free}
 use Rattle.m51_asm.proofs.KnownSegments.{known}
 
 -- this size fits in the segment
 pub record HasRoom (s : TextSegment) (size : ℕ) : Type 0 where
-  pub end : s.base + size ≤ end_of s.kind
+  pub end : s.base + size ≤ kind_end s.kind
   pub most : size ≤ 65535
 
 -- a segment that holds nothing, or in which this size fits
@@ -75,13 +69,13 @@ module _ (lines : List LineTree) (a : Assignment) (c : IsFreeText lines a) where
   room_after : (k : ℕ) → k < length lines → HasRoom (a.segment (suc k)) (filled lines a (a.segment (suc k)).id (suc k))
   room_after k below =
       let f : IsFaultFree lines a k = free lines a k (c.placed k below) in
-      let p = or_parts (nat_lt (end_of (a.segment (suc k)).kind) (a.place (suc k)))
+      let p = or_parts (nat_lt (kind_end (a.segment (suc k)).kind) (a.place (suc k)))
       (nat_lt 65535 (filled lines a (a.segment (suc k)).id (suc k))) f.inside in
-      let end : a.place (suc k) ≤ end_of (a.segment (suc k)).kind =
-      ltb-false (end_of (a.segment (suc k)).kind) (a.place (suc k)) p.0 in
+      let end : a.place (suc k) ≤ kind_end (a.segment (suc k)).kind =
+      ltb-false (kind_end (a.segment (suc k)).kind) (a.place (suc k)) p.0 in
       let most : filled lines a (a.segment (suc k)).id (suc k) ≤ 65535 =
       ltb-false 65535 (filled lines a (a.segment (suc k)).id (suc k)) p.1 in
-      record { end = subst (λ n. n ≤ end_of (a.segment (suc k)).kind) (c.fits.places (suc k)) end; most = most }
+      record { end = subst (λ n. n ≤ kind_end (a.segment (suc k)).kind) (c.fits.places (suc k)) end; most = most }
 
   -- a segment holds nothing, or what it holds fits
   pub room : (n : ℕ) → n ≤ length lines → (s : TextSegment) → segment_of lines a s.id ≡ s

@@ -1,10 +1,9 @@
 -- Which banks the lines of a text select.
-use Rattle.std.proofs.Common.{◌≡◌, ℕ, suc, ◌||◌, Bool, List, refl, ap, ◌∙◌}
-use Rattle.m51_expr.specs.Meanings.{Meanings}
-use Rattle.m51_stmt.specs.Statement.{BodyTree, Using}
-use Rattle.m51_text.specs.Answer.{LineTree}
-use Rattle.m51_asm.specs.Assignment.{Assignment, body_at, above}
-use Rattle.m51_asm.specs.Fitting.{bank_by, bank_before}
+use Rattle.m51_asm.proofs.Common.{◌≡◌, ℕ, suc, ◌||◌, Bool, List, refl, ap, ◌∙◌, Meanings, BodyTree, LineTree}
+use Rattle.m51_asm.proofs.Common.{Assignment, body_at, bank_by}
+use Rattle.m51_stmt.specs.Statement.{Using}
+use Rattle.m51_asm.specs.Assignment.{above}
+use Rattle.m51_asm.specs.Fitting.{bank_before}
 use Rattle.m51_asm.specs.Parts.{selects_by, is_selected}
 use Rattle.m51_asm.specs.Banks.{selects}
 

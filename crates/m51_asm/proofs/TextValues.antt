@@ -1,31 +1,19 @@
 -- What names mean at a line, by the values that the whole text gives and by what its SET statements gave.
-use Rattle.std.proofs.Common.{◌≡◌, ℕ, suc, Bool, true, false, cond, List, [], ◌∷◌, ◌++◌, length, Option, Some, None}
-use Rattle.std.proofs.Common.{refl, ap, sym, ◌∙◌, slice_get, option_map, arith}
-use Rattle.std.proofs.lemmas.List.{take_all}
-use Rattle.std.proofs.lemmas.Slice.Eq.{bytes_eq-Decides}
-use Rattle.std.specs.Str.{bytes_eq}
-use Rattle.m51_cells.specs.declared.kind.Kind.{Kind}
-use Rattle.m51_expr.specs.declared.value.Value.{Value}
+use Rattle.m51_asm.proofs.Common.{◌≡◌, ℕ, suc, Bool, true, false, cond, List, [], ◌∷◌, ◌++◌, length, Option, Some, None}
+use Rattle.m51_asm.proofs.Common.{refl, ap, sym, ◌∙◌, slice_get, option_map, arith, take_all, bytes_eq-Decides}
+use Rattle.m51_asm.proofs.Common.{bytes_eq, Kind, Value, Meanings, Tree, BodyTree, Equ, Set, Address, LineTree}
+use Rattle.m51_asm.proofs.Common.{absolute_register_of, LinePlace, Located, Definition, Defined, Label, SegmentOf}
+use Rattle.m51_asm.proofs.Common.{EquOf, SetOf, AddressOf, ExternOf, externals_from, defined_by, label_defined}
+use Rattle.m51_asm.proofs.Common.{found_in, Assignment, body_of, defined_of, set_by, register_or_predefined}
+use Rattle.m51_asm.proofs.Common.{named_value, mod51, Fits, located_value, Table, first_definition, defined_value}
+use Rattle.m51_asm.proofs.Common.{Valuation, value_in, expression_given, IsPlaceOf, IsSetAt}
 use Rattle.m51_expr.specs.Evaluation.{value_of}
-use Rattle.m51_expr.specs.Meanings.{Meanings}
-use Rattle.m51_expr.specs.Tree.{Tree}
-use Rattle.m51_stmt.specs.Statement.{BodyTree, Segment, Equ, Set, Address, Extrn}
-use Rattle.m51_text.specs.Answer.{LineTree}
-use Rattle.m51_predefined.specs.Predefined.{absolute_register_of}
-use Rattle.m51_asm.specs.declared.stepping.LinePlace.{LinePlace}
-use Rattle.m51_asm.specs.declared.values.Located.{Located}
-use Rattle.m51_asm.specs.Definitions.{Definition, Defined, Label, SegmentOf, EquOf, SetOf, AddressOf, ExternOf}
-use Rattle.m51_asm.specs.Definitions.{externals_from, defined_by, label_defined, found_in, definition_of}
-use Rattle.m51_asm.specs.Assignment.{Assignment, body_of, defined_of, value_or_none, above}
-use Rattle.m51_asm.specs.Fitting.{bank_before, last_set, set_by, undefined_value, register_or_predefined, named_value}
-use Rattle.m51_asm.specs.Fitting.{mod51, Fits}
-use Rattle.m51_asm.specs.Located.{located_value}
-use Rattle.m51_asm.specs.Table.{Table, first_of}
-use Rattle.m51_asm.specs.ValuesAbove.{defined_value, value_above}
-use Rattle.m51_asm.specs.Above.{Valuation, value_in}
-use Rattle.m51_asm.specs.GivenValues.{expression_given}
-use Rattle.m51_asm.specs.Placing.{IsPlaceOf}
-use Rattle.m51_asm.specs.ValuesAt.{value_by_first, value_at, IsSetAt, if_put, PutsIf, set_in, IsKnownAt}
+use Rattle.m51_stmt.specs.Statement.{Segment, Extrn}
+use Rattle.m51_asm.specs.Definitions.{definition_of}
+use Rattle.m51_asm.specs.Assignment.{value_or_none, above}
+use Rattle.m51_asm.specs.Fitting.{bank_before, last_set, undefined_value}
+use Rattle.m51_asm.specs.ValuesAbove.{value_above}
+use Rattle.m51_asm.specs.ValuesAt.{value_by_first, value_at, if_put, PutsIf, set_in, IsKnownAt}
 
 -- what all lines give to a name is what its definition in the text gives
 defined_in_all : (lines : List LineTree) (a : Assignment) (name : List ℕ)
@@ -38,7 +26,8 @@ defined_in_all lines a name =
 -- a name that SET does not define has one value, and one that it does the last of them
 module _ (lines : List LineTree) (a : Assignment) (k n : ℕ) (name : List ℕ) (undefined : Option Value) where
   by_definition : (o : Option (ℕ × Definition)) → undefined ≡ undefined_value lines a k name
-      → value_by_first undefined (last_set lines a name k) (defined_value lines a n name o) (option_map first_of o)
+      → value_by_first undefined (last_set lines a name k) (defined_value lines a n name o)
+      (option_map first_definition o)
       ≡ named_value lines a k name o
   by_definition None h = h
   by_definition (Some (d, Label)) h = refl

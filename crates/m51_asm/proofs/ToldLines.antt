@@ -1,29 +1,21 @@
 -- What follows for a line from the state after the lines above it is what the definitions say of it.
-use Rattle.std.proofs.Common.{◌≡◌, ℕ, suc, ◌%◌, Bool, false, List, Option, Some, None, refl, ap, sym, subst, ◌∙◌}
-use Rattle.std.proofs.Common.{is_some, option_map, slice_get}
+use Rattle.m51_asm.proofs.Common.{◌≡◌, ℕ, suc, ◌%◌, Bool, false, List, Option, Some, None, refl, ap, sym, subst, ◌∙◌}
+use Rattle.m51_asm.proofs.Common.{is_some, option_map, slice_get, Whole, Meanings, BodyTree, LineTree, PassOneState}
+use Rattle.m51_asm.proofs.Common.{Located, Assignment, body_of, body_at, here_at, size_by, bank_by, mod51, form_by}
+use Rattle.m51_asm.proofs.Common.{Fits, operand_fault, Table, first_in, located_value, kept_meanings, text_segment}
+use Rattle.m51_asm.proofs.Common.{size_in, expression_given, IsAt, AreLineFacts, here_of}
 use Rattle.m51_cells.specs.declared.kind.Base.TheVariants as base
-use Rattle.m51_expr.specs.declared.value.Part.TheVariants.{Whole}
-use Rattle.m51_expr.specs.Meanings.{Meanings}
-use Rattle.m51_stmt.specs.Statement.{BodyTree}
-use Rattle.m51_text.specs.Answer.{LineTree}
-use Rattle.m51_asm.specs.declared.placing.PassOneState.{PassOneState}
 use Rattle.m51_asm.specs.declared.segments.OpenSegment.{OpenSegment}
 use Rattle.m51_asm.specs.declared.told.LineFacts.{LineFacts}
-use Rattle.m51_asm.specs.declared.values.Located.{Located}
-use Rattle.m51_asm.specs.Assignment.{Assignment, body_of, body_at, here_at, above}
-use Rattle.m51_asm.specs.Fitting.{last_absolute, declared, size_by, size_at, filled, bank_by, mod51, form_by, Fits}
+use Rattle.m51_asm.specs.Assignment.{above}
+use Rattle.m51_asm.specs.Fitting.{last_absolute, declared, size_at, filled}
 use Rattle.m51_asm.specs.Repeats.{is_repeated}
-use Rattle.m51_asm.specs.PlacedFaults.{operand_fault}
-use Rattle.m51_asm.specs.Table.{Table, first_in}
-use Rattle.m51_asm.specs.Located.{located_value}
-use Rattle.m51_asm.specs.Above.{kept_meanings}
 use Rattle.m51_asm.specs.LineFaults.{operand_fault_by}
-use Rattle.m51_asm.specs.OpenSegments.{text_segment, declared_first, last_in, open_behind, named_by}
+use Rattle.m51_asm.specs.OpenSegments.{declared_first, last_in, open_behind, named_by}
 use Rattle.m51_asm.specs.LabelledNames.{with_label}
-use Rattle.m51_asm.specs.Filled.{size_in, saturated}
-use Rattle.m51_asm.specs.GivenValues.{expression_given}
+use Rattle.m51_asm.specs.Filled.{saturated}
 use Rattle.m51_asm.specs.Operands.{operand_number, IsOperand}
-use Rattle.m51_asm.specs.Placing.{IsTableOf, IsAt, IsTold, here_of}
+use Rattle.m51_asm.specs.Placing.{IsTableOf}
 use Rattle.m51_asm.proofs.KeptMeanings.{means}
 use Rattle.m51_asm.proofs.LabelledNames.{form_told}
 use Rattle.m51_asm.proofs.Opening.{behind, told, operand_told}
@@ -52,7 +44,7 @@ module _ (lines : List LineTree) (a : Assignment) (f : Fits lines a) (k : ℕ) (
     pub names_are : (table : Table) → IsTableOf lines table → (predefines : Bool) → predefines ≡ mod51 lines
         → (here : Located)
         → located_value here ≡ here_of (text_segment s.segment) (size_in s.filled s.segment.id)
-        → kept_meanings lines table s.values k predefines s.bank here ≡ above lines a k
+        → kept_meanings lines table s.values predefines s.bank here ≡ above lines a k
     names_are table names predefines p here h = means lines a f k table s.values predefines s.bank here (record {
       names = names;
       known = at.known;
@@ -120,7 +112,7 @@ module _ (lines : List LineTree) (a : Assignment) (f : Fits lines a) (k : ℕ) (
       → t.size ≡ saturated (size_by m t.form line.stmt.body)
       → text_segment t.next ≡ open_behind k m (last_in s.last) (option_map text_segment named) (text_segment s.segment)
       line.stmt.body
-      → IsIts (operand_fault_by m (is_some named) line.stmt.body) m line.stmt.body → IsTold lines a k t
+      → IsIts (operand_fault_by m (is_some named) line.stmt.body) m line.stmt.body → AreLineFacts lines a k t
   told_line here form size next operand =
       let the : t.form ≡ a.form k = the_form form in
       record {

@@ -1,22 +1,18 @@
 -- The module that is given for a source is valid, and each of its rows is of a line that exists.
-use Rattle.std.proofs.Common.{◌≡◌, ℕ, suc, ◌≤◌, min, List, [], ◌∷◌, length, Option, Some, None, refl, sym, subst, arith}
+use Rattle.m51_asm.proofs.Common.{◌≡◌, ℕ, suc, ◌≤◌, min, List, [], ◌∷◌, length, Option, Some, None, refl, sym, subst}
+use Rattle.m51_asm.proofs.Common.{arith, Fault, Row, SourceFile, IsValid, LineTree, Lines, text_of, Assignment}
+use Rattle.m51_asm.proofs.Common.{content_faults, rows_from, rows, first_fault, content_or_faults}
 use Rattle.std.proofs.Common.{All}
 use Rattle.std.proofs.lemmas.List.Elements.{All-nil, All-cons, All-head, All-tail}
 use Rattle.m51_module.specs.declared.parts.ModuleParts.{ModuleParts}
-use Rattle.m51_module.specs.declared.source.Fault.{Fault}
-use Rattle.m51_module.specs.declared.source.Row.{Row}
-use Rattle.m51_module.specs.declared.source.SourceFile.{SourceFile}
-use Rattle.m51_module.specs.Validity.{IsValid}
-use Rattle.m51_text.specs.Answer.{LineTree, TextTree, Lines, Faults as TextFaults, text_of}
+use Rattle.m51_text.specs.Answer.{TextTree, Faults as TextFaults}
 use Rattle.m51_text.specs.Laws.{IsLineOf}
 use Rattle.m51_text.proofs.Numbered.{lines_are_of_files}
-use Rattle.m51_asm.specs.Assignment.{Assignment}
 use Rattle.m51_asm.specs.PlacedFaults.{placed_fault}
-use Rattle.m51_asm.specs.ContentFaults.{content_faults}
-use Rattle.m51_asm.specs.AnswerRows.{place_of, row_of, rows_from, rows}
+use Rattle.m51_asm.specs.AnswerRows.{place_of, listing_row}
 use Rattle.m51_asm.specs.Pieces.{content_at}
 use Rattle.m51_asm.specs.Parts.{parts}
-use Rattle.m51_asm.specs.Answer.{AnswerTree, Gives, first_fault, content_or_faults, placed_or_fault, answer_of_lines}
+use Rattle.m51_asm.specs.Answer.{AnswerTree, Gives, placed_or_fault, answer_of_lines}
 use Rattle.m51_asm.specs.Answer.{IsAnswerOf, IsAnswer}
 use Rattle.m51_asm.specs.ValidTexts.{IsFaultless, IsRowOfText, CanBeGiven, AnswersAreValid}
 use Rattle.m51_asm.proofs.AnAssignment.{fitting, fits}
@@ -33,7 +29,7 @@ module _ (source : SourceFile) (includes : List SourceFile) where
       → All (IsRowOfText source includes) (rows_from lines a k ls)
   all_listed lines a k [] h = All-nil (IsRowOfText source includes)
   all_listed lines a k (l ∷ ls) h =
-      All-cons (IsRowOfText source includes) (row_of l (place_of a k l) (content_at lines a k))
+      All-cons (IsRowOfText source includes) (listing_row l (place_of a k l) (content_at lines a k))
       (rows_from lines a (suc k) ls)
       (record { line = All-head IsLine l ls h; count = few_bytes (length (content_at lines a k).bytes) })
       (all_listed lines a (suc k) ls (All-tail IsLine l ls h))

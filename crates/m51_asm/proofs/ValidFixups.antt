@@ -1,19 +1,14 @@
 -- The fixups of the module of a text: their fields lie in pieces, one after another, and they are not too many.
-use Rattle.std.proofs.Common.{◌≡◌, ◌≢◌, inl, inr, ℕ, suc, ◌+◌, ◌<◌, ◌≤◌, ◌==◌, Bool, true, false, cond, List, [], ◌∷◌}
-use Rattle.std.proofs.Common.{◌++◌, map, length, refl, sym, ap, subst, ◌∙◌, arith, length-append, eq-eqb}
-use Rattle.std.specs.List.{flat_map}
-use Rattle.std.proofs.lemmas.Bool.{eqb-true, ne_eqb}
-use Rattle.std.proofs.lemmas.List.{length-map}
-use Rattle.m51_module.specs.declared.content.Fixup.{Fixup}
-use Rattle.m51_module.specs.declared.segment.Segment.{Segment}
-use Rattle.m51_module.specs.Validity.{field_len, FieldBefore, EarlierSegmentOf, BeforeIn, IsHeld}
-use Rattle.m51_text.specs.Answer.{LineTree}
-use Rattle.m51_asm.specs.Assignment.{Assignment}
+use Rattle.m51_asm.proofs.Common.{◌≡◌, ◌≢◌, inl, inr, ℕ, suc, ◌+◌, ◌<◌, ◌≤◌, ◌==◌, Bool, true, false, cond, List, []}
+use Rattle.m51_asm.proofs.Common.{◌∷◌, ◌++◌, map, length, refl, sym, ap, subst, ◌∙◌, arith, length-append, eq-eqb}
+use Rattle.m51_asm.proofs.Common.{flat_map, eqb-true, ne_eqb, length-map, Fixup, Segment, field_len, LineTree}
+use Rattle.m51_asm.proofs.Common.{Assignment, Kept, object_segments, segment_number, ReferenceAt, offset_at, pieces}
+use Rattle.m51_asm.proofs.Common.{fixups}
+use Rattle.m51_module.specs.Validity.{FieldBefore, EarlierSegmentOf, BeforeIn, IsHeld}
 use Rattle.m51_asm.specs.Fitting.{filled}
-use Rattle.m51_asm.specs.ObjectSegments.{Kept, kept, object_segments, segment_number}
-use Rattle.m51_asm.specs.Content.{ReferenceAt}
+use Rattle.m51_asm.specs.ObjectSegments.{kept}
 use Rattle.m51_asm.specs.ContentFaults.{made_before}
-use Rattle.m51_asm.specs.Pieces.{content_at, offset_at, pieces, fixup_of, line_fixups, fixups_from, fixups}
+use Rattle.m51_asm.specs.Pieces.{content_at, fixup_of, line_fixups, fixups_from}
 use Rattle.m51_asm.proofs.Members.{In, Every, Pairs, no_element, in_append, in_map, in_flat, in_first, in_later}
 use Rattle.m51_asm.proofs.Members.{pairs_append, pairs_map, pairs_weaker, pairs_flat}
 use Rattle.m51_asm.proofs.GoodLines.{IsClean, free_text}
@@ -112,11 +107,11 @@ module _ (lines : List LineTree) (a : Assignment) (c : IsClean lines a) where
   held f t k less =
       let o = t.of in
       let at = offset_at lines a o.line in
-      let place = at + o.reference.0 + k in
+      let offset = at + o.reference.0 + k in
       let short : k < field_len o.reference.1.form = subst (λ (x : Fixup). k < field_len x.form) (sym o.is) less in
       let inside = (given lines a c o.line o.below).content.inside o.reference o.there in
-      let h : IsHeld (pieces lines a) (number t.segment) place =
-      line_held lines a c t.segment t.kept_there o.line place o.here o.below (omega arith)
+      let h : IsHeld (pieces lines a) (number t.segment) offset =
+      line_held lines a c t.segment t.kept_there o.line offset o.here o.below (omega arith)
       (omega (arith, short, inside)) in
       subst (λ (x : Fixup). IsHeld (pieces lines a) x.segment (x.offset + k)) o.is h
 

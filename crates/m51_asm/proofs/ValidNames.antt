@@ -1,21 +1,16 @@
 -- The names of the module of a text: the module's own, and those of its externals and segments.
-use Rattle.std.proofs.Common.{◌≡◌, ◌≢◌, inl, inr, ℕ, suc, ◌+◌, ◌<◌, ◌≤◌, List, [], ◌∷◌, ◌++◌, length, take, filter}
-use Rattle.std.proofs.Common.{refl, sym, ap, subst, ◌∙◌, arith, add-zero}
-use Rattle.std.specs.List.{flat_map, range_with_len}
-use Rattle.m51_cells.specs.declared.kind.Kind.{Kind}
-use Rattle.m51_cells.specs.Name.{is_name_byte, IsWritten}
+use Rattle.m51_asm.proofs.Common.{◌≡◌, ◌≢◌, inl, inr, ℕ, suc, ◌+◌, ◌<◌, ◌≤◌, List, [], ◌∷◌, ◌++◌, length, take, filter}
+use Rattle.m51_asm.proofs.Common.{refl, sym, ap, subst, ◌∙◌, arith, add-zero, flat_map, range_with_len, Kind}
+use Rattle.m51_asm.proofs.Common.{is_name_byte, IsWritten, BodyTree, Each, LineTree, SegmentOf, ExternOf}
+use Rattle.m51_asm.proofs.Common.{externals_from, defined_by, Assignment, body_at, with_front, Kept, object_segments}
+use Rattle.m51_asm.proofs.Common.{external, externals, name_in}
 use Rattle.m51_cells.proofs.NameLaws.{name_written}
 use Rattle.m51_module.specs.declared.symbol.External.{External}
 use Rattle.m51_module.specs.Validity.{Differ}
 use Rattle.m51_stmt.specs.Statement as body
-use Rattle.m51_stmt.specs.Statement.{BodyTree}
-use Rattle.m51_stmt.proofs.ListWords.{Each}
-use Rattle.m51_text.specs.Answer.{LineTree}
-use Rattle.m51_asm.specs.Definitions.{SegmentOf, ExternOf, externals_from, defined_by}
-use Rattle.m51_asm.specs.Assignment.{Assignment, body_at}
-use Rattle.m51_asm.specs.Naming.{stem_of, folderless, with_front, module_name}
-use Rattle.m51_asm.specs.ObjectSegments.{Kept, kept, object_segments}
-use Rattle.m51_asm.specs.Parts.{external, externals_by, externals, name_by, name_in}
+use Rattle.m51_asm.specs.Naming.{stem_of, folderless, module_name}
+use Rattle.m51_asm.specs.ObjectSegments.{kept}
+use Rattle.m51_asm.specs.Parts.{externals_by, name_by}
 use Rattle.m51_asm.proofs.Written.{file_named}
 use Rattle.m51_asm.proofs.Members.{In, Every, Pairs, Comes, in_cons, no_element, in_first, in_later, in_map, in_flat}
 use Rattle.m51_asm.proofs.Members.{in_range, pairs_map, pairs_weaker, pairs_flat, pairs_range}

@@ -1,23 +1,14 @@
 -- The module that a text without faults gives is valid.
-use Rattle.std.proofs.Common.{◌≡◌, inl, inr, ℕ, ◌+◌, ◌%◌, ◌<◌, ◌≤◌, Bool, true, false, cond, List, [], ◌∷◌, length}
-use Rattle.std.proofs.Common.{refl, ap, subst, ◌∙◌, arith}
-use Rattle.std.specs.List.{list_any}
+use Rattle.m51_asm.proofs.Common.{◌≡◌, inl, inr, ℕ, ◌+◌, ◌%◌, ◌<◌, ◌≤◌, Bool, true, false, cond, List, [], ◌∷◌, length}
+use Rattle.m51_asm.proofs.Common.{refl, ap, subst, ◌∙◌, arith, list_any, length-map, IsWritten, Segment, LiesBefore}
+use Rattle.m51_asm.proofs.Common.{IsValid, SourceFile, LineTree, Lines, text_of, AreFree, Fits, content_faults}
+use Rattle.m51_asm.proofs.Common.{Assignment, Kept, object_segments, externals, pieces, fixups}
 use Rattle.std.proofs.lemmas.Bool.{or_left, or_right}
-use Rattle.std.proofs.lemmas.List.{length-map}
-use Rattle.m51_cells.specs.Name.{IsWritten}
-use Rattle.m51_module.specs.declared.segment.Segment.{Segment}
-use Rattle.m51_module.specs.Validity.{IsVersion, IsSegmentValid, IsPublicValid, IsPieceValid, IsFixupValid, LiesBefore}
-use Rattle.m51_module.specs.Validity.{FieldBefore, Differ, IsValid}
-use Rattle.m51_module.specs.declared.source.SourceFile.{SourceFile}
-use Rattle.m51_text.specs.Answer.{LineTree, Lines, text_of}
-use Rattle.m51_asm.specs.FirstFault.{AreFree}
-use Rattle.m51_asm.specs.Fitting.{Fits}
-use Rattle.m51_asm.specs.ContentFaults.{content_faults}
-use Rattle.m51_asm.specs.Assignment.{Assignment}
+use Rattle.m51_module.specs.Validity.{IsVersion, IsSegmentValid, IsPublicValid, IsPieceValid, IsFixupValid}
+use Rattle.m51_module.specs.Validity.{FieldBefore, Differ}
 use Rattle.m51_asm.specs.Naming.{module_name}
-use Rattle.m51_asm.specs.ObjectSegments.{Kept, kept, object_segments}
-use Rattle.m51_asm.specs.Parts.{externals, publics_before, is_selected, version_of, parts}
-use Rattle.m51_asm.specs.Pieces.{pieces, fixups}
+use Rattle.m51_asm.specs.ObjectSegments.{kept}
+use Rattle.m51_asm.specs.Parts.{publics_before, is_selected, version_of, parts}
 use Rattle.m51_asm.specs.ValidTexts.{PartsAreValid}
 use Rattle.m51_asm.proofs.Members.{In, Every, Comes, in_cons, no_element, in_map, every_all, pairs_all}
 use Rattle.m51_asm.proofs.GoodLines.{IsClean, clean_where, clean, free_text}

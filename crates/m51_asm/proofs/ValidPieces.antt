@@ -1,17 +1,16 @@
 -- The pieces of the module of a text: each lies in a segment of program memory, they lie in their order, and they hold
 -- what
 -- the lines give.
-use Rattle.std.proofs.Common.{◌≡◌, inl, inr, ℕ, suc, ◌+◌, ◌<◌, ◌≤◌, ◌==◌, ◌-◌, Bool, true, false, cond, List, [], ◌∷◌}
-use Rattle.std.proofs.Common.{length, refl, sym, ap, subst, ◌∙◌, arith, eq-eqb}
-use Rattle.std.proofs.lemmas.Bool.{eqb-true, cases_eq}
+use Rattle.m51_asm.proofs.Common.{◌≡◌, inl, inr, ℕ, suc, ◌+◌, ◌<◌, ◌≤◌, ◌==◌, ◌-◌, Bool, true, false, cond, List, []}
+use Rattle.m51_asm.proofs.Common.{◌∷◌, length, refl, sym, ap, subst, ◌∙◌, arith, eq-eqb, eqb-true, Piece, numbered}
+use Rattle.m51_asm.proofs.Common.{LiesBefore, LineTree, TextSegment, Assignment, Kept, object_segments, segment_of}
+use Rattle.m51_asm.proofs.Common.{segment_number, Run, if_bytes, offset_at, pieces_of_run, pieces}
+use Rattle.std.proofs.lemmas.Bool.{cases_eq}
 use Rattle.m51_cells.specs.declared.kind.Kind.TheVariants as kind
-use Rattle.m51_module.specs.declared.content.Piece.{Piece}
-use Rattle.m51_module.specs.Validity.{numbered, LiesBefore, EarlierSegment, IsPieceValid, IsHeld}
-use Rattle.m51_text.specs.Answer.{LineTree}
-use Rattle.m51_asm.specs.Assignment.{TextSegment, Assignment}
+use Rattle.m51_module.specs.Validity.{EarlierSegment, IsPieceValid, IsHeld}
 use Rattle.m51_asm.specs.Fitting.{filled, size_at}
-use Rattle.m51_asm.specs.ObjectSegments.{Kept, kept, object_segments, segment_of, segment_number}
-use Rattle.m51_asm.specs.Pieces.{Run, if_bytes, content_at, offset_at, runs_from, pieces_of_run, segment_pieces, pieces}
+use Rattle.m51_asm.specs.ObjectSegments.{kept}
+use Rattle.m51_asm.specs.Pieces.{content_at, runs_from, segment_pieces}
 use Rattle.m51_asm.proofs.Members.{In, Every, Pairs, no_element, in_flat, flat_in, pairs_flat, contains_in}
 use Rattle.m51_asm.proofs.CutRuns.{AreRuns, runs_lower, runs_before, IsBefore, run_in, runs_pairs, Holds, held_first}
 use Rattle.m51_asm.proofs.CutRuns.{held_later, IsOfRun, piece_of_run, pieces_in_order, runs_in_order, run_is_cut}
@@ -22,16 +21,20 @@ use Rattle.m51_asm.proofs.KeptSegments.{AreKept, all_kept}
 use Rattle.m51_asm.proofs.KeptNumbers.{leads_to, numbers_ascend}
 use Rattle.m51_asm.proofs.GivenContents.{given}
 
+-- what a line gives to its segment ends where the next begins
+pub ends_by : (lines : List LineTree) (a : Assignment) (k id : ℕ) → ((a.segment k).id == id) ≡ true
+    → length (content_at lines a k).bytes ≤ size_at lines a k
+    → offset_at lines a k + length (content_at lines a k).bytes ≤ filled lines a id (suc k)
+ends_by lines a k id test within =
+    let same : (a.segment k).id ≡ id = eqb-true (a.segment k).id id test in
+    let at : offset_at lines a k ≡ filled lines a id k = ap (λ i. filled lines a i k) same in
+    let end : filled lines a id (suc k) ≡ filled lines a id k + size_at lines a k = filled_here lines a k id test in
+    omega (arith, at, end, within)
+
 module _ (lines : List LineTree) (a : Assignment) (c : IsClean lines a) where
-  -- what a line gives to its segment ends where the next begins
   pub line_ends : (k id : ℕ) → k < length lines → ((a.segment k).id == id) ≡ true
       → offset_at lines a k + length (content_at lines a k).bytes ≤ filled lines a id (suc k)
-  line_ends k id below test =
-      let same : (a.segment k).id ≡ id = eqb-true (a.segment k).id id test in
-      let at : offset_at lines a k ≡ filled lines a id k = ap (λ i. filled lines a i k) same in
-      let end : filled lines a id (suc k) ≡ filled lines a id k + size_at lines a k = filled_here lines a k id test in
-      let within = (given lines a c k below).within in
-      omega (arith, at, end, within)
+  line_ends k id below test = ends_by lines a k id test (given lines a c k below).within
 
   pub filled_up : (id j k : ℕ) → j ≤ k → filled lines a id j ≤ filled lines a id k
   filled_up id j k h =
@@ -149,40 +152,40 @@ module _ (lines : List LineTree) (a : Assignment) (c : IsClean lines a) where
       EarlierSegment (omega (arith, less, one, two)))
 
   -- a byte of a line in a run of its segment
-  holds_by : (id k j place : ℕ) (rest : List Run) (b : Bool) → ((a.segment k).id == id) ≡ b → (a.segment j).id ≡ id
-      → k ≤ j → (suc k ≤ j → Holds rest place)
-      → offset_at lines a j ≤ place → place < offset_at lines a j + length (content_at lines a j).bytes
-      → Holds (cond b (if_bytes (offset_at lines a k) (content_at lines a k).bytes rest) rest) place
-  holds_by id k j place rest true test is from go at end = elim (cases_eq k j) [
+  holds_by : (id k j offset : ℕ) (rest : List Run) (b : Bool) → ((a.segment k).id == id) ≡ b → (a.segment j).id ≡ id
+      → k ≤ j → (suc k ≤ j → Holds rest offset)
+      → offset_at lines a j ≤ offset → offset < offset_at lines a j + length (content_at lines a j).bytes
+      → Holds (cond b (if_bytes (offset_at lines a k) (content_at lines a k).bytes rest) rest) offset
+  holds_by id k j offset rest true test is from go at end = elim (cases_eq k j) [
     | inl e ↦
-        held_first (offset_at lines a k) (content_at lines a k).bytes rest place
-        (subst (λ n. offset_at lines a n ≤ place) (sym e) at)
-        (subst (λ n. place < offset_at lines a n + length (content_at lines a n).bytes) (sym e) end)
-    | inr ne ↦ held_later (offset_at lines a k) (content_at lines a k).bytes rest place (go (omega (arith, ne, from)))
+        held_first (offset_at lines a k) (content_at lines a k).bytes rest offset
+        (subst (λ n. offset_at lines a n ≤ offset) (sym e) at)
+        (subst (λ n. offset < offset_at lines a n + length (content_at lines a n).bytes) (sym e) end)
+    | inr ne ↦ held_later (offset_at lines a k) (content_at lines a k).bytes rest offset (go (omega (arith, ne, from)))
   ]
-  holds_by id k j place rest false test is from go at end = elim (cases_eq k j) [
+  holds_by id k j offset rest false test is from go at end = elim (cases_eq k j) [
     | inl e ↦ absurd (cc (test, eq-eqb (a.segment k).id id (ap (λ n. (a.segment n).id) e ∙ is)))
     | inr ne ↦ go (omega (arith, ne, from))
   ]
 
-  holds_to : (id k : ℕ) (ls : List LineTree) (j place : ℕ) → k + length ls ≡ length lines → (a.segment j).id ≡ id
+  holds_to : (id k : ℕ) (ls : List LineTree) (j offset : ℕ) → k + length ls ≡ length lines → (a.segment j).id ≡ id
       → k ≤ j → j < length lines
-      → offset_at lines a j ≤ place → place < offset_at lines a j + length (content_at lines a j).bytes
-      → Holds (runs_from lines a id k ls) place
-  holds_to id k [] j place e is from below at end = let len : length {A = LineTree} [] ≡ 0 = refl in
+      → offset_at lines a j ≤ offset → offset < offset_at lines a j + length (content_at lines a j).bytes
+      → Holds (runs_from lines a id k ls) offset
+  holds_to id k [] j offset e is from below at end = let len : length {A = LineTree} [] ≡ 0 = refl in
       absurd (omega (arith, e, from, below, len))
-  holds_to id k (l ∷ ls) j place e is from below at end =
+  holds_to id k (l ∷ ls) j offset e is from below at end =
       let len : length (l ∷ ls) ≡ suc (length ls) = refl in
-      holds_by id k j place (runs_from lines a id (suc k) ls) ((a.segment k).id == id) refl is from
-      (λ more. holds_to id (suc k) ls j place (omega (arith, e, len)) is more below at end) at end
+      holds_by id k j offset (runs_from lines a id (suc k) ls) ((a.segment k).id == id) refl is from
+      (λ more. holds_to id (suc k) ls j offset (omega (arith, e, len)) is more below at end) at end
 
   -- a byte that a line gives to a segment of the module is in a piece
-  pub line_held : (s : Kept) → In s (kept lines a) → (j place : ℕ) → (a.segment j).id ≡ s.id → j < length lines
-      → offset_at lines a j ≤ place → place < offset_at lines a j + length (content_at lines a j).bytes
-      → IsHeld (pieces lines a) (segment_number lines a s.id) place
-  line_held s i j place is below at end =
-      let h = holds_to s.id 0 lines j place (zero_more (length lines)) is (omega arith) below at end in
-      let p = run_is_cut (segment_number lines a s.id) h.run place h.from h.below in
+  pub line_held : (s : Kept) → In s (kept lines a) → (j offset : ℕ) → (a.segment j).id ≡ s.id → j < length lines
+      → offset_at lines a j ≤ offset → offset < offset_at lines a j + length (content_at lines a j).bytes
+      → IsHeld (pieces lines a) (segment_number lines a s.id) offset
+  line_held s i j offset is below at end =
+      let h = holds_to s.id 0 lines j offset (zero_more (length lines)) is (omega arith) below at end in
+      let p = run_is_cut (segment_number lines a s.id) h.run offset h.from h.below in
       let there : In p.piece (pieces lines a) =
       flat_in (segment_pieces lines a) (kept lines a) s p.piece i
       (flat_in (pieces_of_run (segment_number lines a s.id)) (runs_from lines a s.id 0 lines) h.run p.piece h.there

@@ -1,26 +1,18 @@
 -- The publics of the module of a text: their names, and what they count from.
-use Rattle.std.proofs.Common.{◌≡◌, ◌≢◌, inl, inr, ℕ, zero, suc, ◌<◌, ◌≤◌, ◌==◌, Bool, true, false, not, cond, List, []}
-use Rattle.std.proofs.Common.{◌∷◌, length, Option, Some, None, Ok, Err, refl, sym, ap, subst, ◌∙◌, arith}
-use Rattle.std.proofs.lemmas.Bool.{eqb-false}
-use Rattle.m51_cells.specs.declared.kind.Base.{Base}
+use Rattle.m51_asm.proofs.Common.{◌≡◌, ◌≢◌, inl, inr, ℕ, zero, suc, ◌<◌, ◌≤◌, ◌==◌, Bool, true, false, not, cond, List}
+use Rattle.m51_asm.proofs.Common.{[], ◌∷◌, length, Option, Some, None, Ok, Err, refl, sym, ap, subst, ◌∙◌, arith}
+use Rattle.m51_asm.proofs.Common.{eqb-false, Base, same_kind, IsWritten, kind_same, numbered, Value, is_whole, BodyTree}
+use Rattle.m51_asm.proofs.Common.{LineTree, Definition, SegmentOf, SetOf, ExternOf, Assignment, body_at, publics_in}
+use Rattle.m51_asm.proofs.Common.{object_segments, segment_of, segment_number, external}
 use Rattle.m51_cells.specs.declared.kind.Base.TheVariants as base
-use Rattle.m51_cells.specs.Kinds.{same_kind}
-use Rattle.m51_cells.specs.Name.{IsWritten}
-use Rattle.m51_cells.proofs.KindLaws.{kind_same}
 use Rattle.m51_module.specs.declared.symbol.Public.{Public}
-use Rattle.m51_module.specs.Validity.{numbered, IsPublicBase, IsPublicValid}
-use Rattle.m51_expr.specs.declared.value.Value.{Value}
-use Rattle.m51_expr.specs.Value.{is_whole}
+use Rattle.m51_module.specs.Validity.{IsPublicBase, IsPublicValid}
 use Rattle.m51_stmt.specs.Statement as body
-use Rattle.m51_stmt.specs.Statement.{BodyTree}
-use Rattle.m51_text.specs.Answer.{LineTree}
-use Rattle.m51_asm.specs.Definitions.{Definition, SegmentOf, SetOf, ExternOf, definition_of}
-use Rattle.m51_asm.specs.Assignment.{Assignment, body_at}
-use Rattle.m51_asm.specs.Repeats.{publics_in}
-use Rattle.m51_asm.specs.ObjectSegments.{kept, object_segments, segment_of, number_in, segment_number}
+use Rattle.m51_asm.specs.Definitions.{definition_of}
+use Rattle.m51_asm.specs.ObjectSegments.{kept, number_in}
 use Rattle.m51_asm.specs.PublicNames.{Published, public, from_base, public_in, public_of_value, public_valued}
 use Rattle.m51_asm.specs.PublicNames.{public_by, published, if_public, publics_of}
-use Rattle.m51_asm.specs.Parts.{external, publics_by, publics_before}
+use Rattle.m51_asm.specs.Parts.{publics_by, publics_before}
 use Rattle.m51_asm.proofs.Members.{In, Every, Pairs, in_cons, no_element, in_first, in_later, in_append, pairs_append}
 use Rattle.m51_asm.proofs.GoodLines.{IsClean, IsGood, free_text}
 use Rattle.m51_asm.proofs.KeptSegments.{AreKept, all_kept}

@@ -1,34 +1,23 @@
 -- The target of each fixup of a text is a segment or an external of its module, and its bit is one that a module takes.
-use Rattle.std.proofs.Common.{◌≡◌, ◌⊎◌, inl, inr, ℕ, zero, suc, ◌%◌, ◌<◌, ◌≤◌, Bool, true, false, cond, List, [], ◌∷◌}
-use Rattle.std.proofs.Common.{length, Option, Some, None, option_map, refl, sym, ap, subst, ◌∙◌, arith}
+use Rattle.m51_asm.proofs.Common.{◌≡◌, ◌⊎◌, inl, inr, ℕ, zero, suc, ◌%◌, ◌<◌, ◌≤◌, Bool, true, false, cond, List, []}
+use Rattle.m51_asm.proofs.Common.{◌∷◌, length, Option, Some, None, option_map, refl, sym, ap, subst, ◌∙◌, arith, Base}
+use Rattle.m51_asm.proofs.Common.{Field, Fixup, Segment, numbered, Value, Meanings, FieldValue, Number, Linked}
+use Rattle.m51_asm.proofs.Common.{Reference, reference_of, linked_is, LineTree, Assignment, here_at, object_segments}
+use Rattle.m51_asm.proofs.Common.{segment_number, object_base, object_value, externals, pieces, fixups}
 use Rattle.std.specs.Prelude.{slice_get}
 use Rattle.std.proofs.lemmas.Bool.{cases_eq}
-use Rattle.m51_cells.specs.declared.kind.Base.{Base}
 use Rattle.m51_cells.specs.declared.kind.Base.TheVariants as base
 use Rattle.m51_cells.proofs.Passing.{guarded}
-use Rattle.m51_isa.specs.declared.slot.Field.{Field}
 use Rattle.m51_isa.specs.declared.slot.Field.TheVariants as field
-use Rattle.m51_module.specs.declared.content.Fixup.{Fixup}
-use Rattle.m51_module.specs.declared.segment.Segment.{Segment}
 use Rattle.m51_module.specs.declared.symbol.External.{External}
-use Rattle.m51_module.specs.Validity.{numbered, IsBitNumber, IsTarget, IsFixupValid}
-use Rattle.m51_expr.specs.declared.value.Value.{Value}
+use Rattle.m51_module.specs.Validity.{IsBitNumber, IsTarget, IsFixupValid}
 use Rattle.m51_expr.specs.Value.{counted}
-use Rattle.m51_expr.specs.Meanings.{Meanings}
-use Rattle.m51_encode.specs.declared.reference.FieldValue.{FieldValue}
-use Rattle.m51_encode.specs.declared.reference.FieldValue.TheVariants.{Number, Linked}
-use Rattle.m51_encode.specs.declared.reference.Reference.{Reference}
 use Rattle.m51_encode.specs.Taking.{held_of}
-use Rattle.m51_encode.specs.Reference.{reference_of}
 use Rattle.m51_encode.specs.Bases.{is_current, stands_absolute, is_linked}
 use Rattle.m51_encode.specs.FieldValues.{is_taken, distance, is_near, same_block, rel_of, addr11_of, taken_of, field_of}
-use Rattle.m51_encode.proofs.BitNumbers.{linked_is, references_have_bits}
-use Rattle.m51_text.specs.Answer.{LineTree}
-use Rattle.m51_asm.specs.Assignment.{Assignment, here_at}
-use Rattle.m51_asm.specs.ObjectSegments.{kept, object_segments, segment_number, number_in}
-use Rattle.m51_asm.specs.ObjectMeanings.{object_base, object_value, final}
-use Rattle.m51_asm.specs.Parts.{externals}
-use Rattle.m51_asm.specs.Pieces.{pieces, fixups}
+use Rattle.m51_encode.proofs.BitNumbers.{references_have_bits}
+use Rattle.m51_asm.specs.ObjectSegments.{kept, number_in}
+use Rattle.m51_asm.specs.ObjectMeanings.{final}
 use Rattle.m51_asm.proofs.Members.{Every}
 use Rattle.m51_asm.proofs.GoodLines.{IsClean, free_text}
 use Rattle.m51_asm.proofs.KeptSegments.{AreKept, all_kept}

@@ -1,5 +1,5 @@
 -- The state after the lines above a line, and what names mean by it.
-use Rattle.std.specs.Prelude.{◌≡◌, ℕ, Bool, nat_lt, if◌then◌else◌, List, [], ◌∷◌, map, Option, Some, None, option_map}
+use Rattle.std.specs.Prelude.{◌≡◌, ℕ, Bool, if◌then◌else◌, List, [], ◌∷◌, map, Option, Some, None, option_map}
 use Rattle.std.specs.Global.{Vec}
 use Rattle.std.specs.Str.{bytes_eq}
 use Rattle.m51_cells.specs.Kinds.{is_absolute}
@@ -10,10 +10,10 @@ use Rattle.m51_text.specs.Answer.{LineTree}
 use Rattle.m51_predefined.specs.Predefined.{absolute_register_of}
 use Rattle.m51_asm.specs.declared.names.FirstDefinition.{FirstDefinition}
 use Rattle.m51_asm.specs.Definitions.{definition_of}
-use Rattle.m51_asm.specs.Assignment.{Assignment, is_bitaddressable, reloc_of, here_at, above}
+use Rattle.m51_asm.specs.Assignment.{Assignment, is_bitaddressable, segment_reloc, here_at, above}
 use Rattle.m51_asm.specs.Fitting.{mod51, bank_before, register_or_predefined, Fits}
 use Rattle.m51_asm.specs.Located.{located_value}
-use Rattle.m51_asm.specs.Table.{Table, first_in, first_of}
+use Rattle.m51_asm.specs.Table.{Table, first_in, first_definition}
 use Rattle.m51_asm.specs.ValuesAbove.{value_above}
 use Rattle.m51_asm.specs.declared.values.Origin.TheVariants as origin
 use Rattle.m51_asm.specs.declared.values.Located.{Located}
@@ -45,26 +45,27 @@ abbrev pub Puts : Valuation → Valuation → List ℕ → Option Located → Ty
 Puts old new name value =
     (other : List ℕ) → value_in new other ≡ (if bytes_eq other name then value else value_in old other)
 
--- the value of a name of this first definition, which this line sees
-abbrev pub value_seen : ℕ → Option Value → Option Value → Option FirstDefinition → Option Value
-value_seen k above undefined None = undefined
-value_seen k above undefined (Some first) = if nat_lt first.line k then above else None
+-- the value of a name of this first definition, which a line sees
+abbrev pub value_seen : Option Value → Option Value → Option FirstDefinition → Option Value
+value_seen (Some above) undefined first = Some above
+value_seen None undefined (Some first) = None
+value_seen None undefined None = undefined
 
 -- what names and the place of line k mean, by the state after the lines above
-abbrev pub kept_meanings : List LineTree → Table → Valuation → ℕ → Bool → ℕ → Located → Meanings
-kept_meanings lines table values k mod51 bank here = record {
+abbrev pub kept_meanings : List LineTree → Table → Valuation → Bool → ℕ → Located → Meanings
+kept_meanings lines table values mod51 bank here = record {
   value = λ name.
-      value_seen k (option_map located_value (value_in values name))
+      value_seen (option_map located_value (value_in values name))
       (register_or_predefined mod51 bank name (absolute_register_of name)) (first_in table name);
   here = located_value here;
-  fixed = λ id. is_absolute (reloc_of lines id);
-  bitaddressable = λ id. is_bitaddressable (reloc_of lines id);
+  fixed = λ id. is_absolute (segment_reloc lines id);
+  bitaddressable = λ id. is_bitaddressable (segment_reloc lines id);
 }
 
 -- what is kept is what the lines above line k give under the assignment
 pub record IsKeptOf (lines : List LineTree) (a : Assignment) (k : ℕ) (table : Table) (values : Valuation)
     (predefines : Bool) (bank : ℕ) (here : Located) : Type 0 where
-  pub names : (name : List ℕ) → first_in table name ≡ option_map first_of (definition_of lines name)
+  pub names : (name : List ℕ) → first_in table name ≡ option_map first_definition (definition_of lines name)
   pub known : (name : List ℕ) → option_map located_value (value_in values name) ≡ value_above lines a k name
   pub predefined : predefines ≡ mod51 lines
   pub selected : bank ≡ bank_before lines a k
@@ -76,4 +77,4 @@ KeptMeans =
     (lines : List LineTree) (a : Assignment) → Fits lines a
     → (k : ℕ) (table : Table) (values : Valuation) (predefines : Bool) (bank : ℕ) (here : Located)
     → IsKeptOf lines a k table values predefines bank here
-    → kept_meanings lines table values k predefines bank here ≡ above lines a k
+    → kept_meanings lines table values predefines bank here ≡ above lines a k

@@ -12,14 +12,14 @@ abbrev pub place_of : Assignment → ℕ → LineTree → Option ℕ
 place_of a k line = place_in line.stmt (a.place k)
 
 -- the row of a line with this place and this content
-abbrev pub row_of : LineTree → Option ℕ → EmittedContent → Row
-row_of line place c = row_in line.file line.line place c
+abbrev pub listing_row : LineTree → Option ℕ → EmittedContent → Row
+listing_row line place c = row_in line.file line.line place c
 
 -- the rows of these lines, which begin with line k
 abbrev pub rows_from : List LineTree → Assignment → ℕ → List LineTree → List Row
 rows_from lines a k [] = []
 rows_from lines a k (line ∷ more) =
-    row_of line (place_of a k line) (content_at lines a k) ∷ rows_from lines a (suc k) more
+    listing_row line (place_of a k line) (content_at lines a k) ∷ rows_from lines a (suc k) more
 
 -- the rows of a text
 abbrev pub rows : List LineTree → Assignment → List Row

@@ -3,12 +3,7 @@ use Rattle.std.specs.Prelude.{◌≡◌, ℕ, zero, suc, ◌==◌, if◌then◌e
 use Rattle.m51_module.specs.declared.source.SourceFile.{SourceFile}
 use Rattle.m51_text.specs.Answer.{LineTree, Lines, text_of}
 use Rattle.m51_emit.specs.Gathering.{Gathered, PlacedContent, gathered_of}
-use Rattle.m51_emit.specs.declared.content.EmittedContent.{EmittedContent}
-use Rattle.m51_asm.specs.declared.object_names.PlacedText.{PlacedText}
 use Rattle.m51_asm.specs.Assignment.{Assignment}
-use Rattle.m51_asm.specs.ContentFaults.{content_faults}
-use Rattle.m51_asm.specs.Contents.{AreContents}
-use Rattle.m51_asm.specs.ObjectNames.{IsReady}
 use Rattle.m51_asm.specs.ObjectSegments.{Kept, kept, object_segments, segment_number}
 use Rattle.m51_asm.specs.Pieces.{content_at, offset_at}
 
@@ -27,9 +22,9 @@ changed_at change zero (x ∷ xs) = change x ∷ xs
 changed_at change (suc index) (x ∷ xs) = x ∷ changed_at change index xs
 
 -- a list with a change of the element of this number, counted from 1; with none where the number is 0
-abbrev pub changed : {A : Type 0} → (A → A) → ℕ → List A → List A
-changed change zero xs = xs
-changed change (suc index) xs = changed_at change index xs
+abbrev pub changed_element : {A : Type 0} → (A → A) → ℕ → List A → List A
+changed_element change zero xs = xs
+changed_element change (suc index) xs = changed_at change index xs
 
 -- what line k gives, with its place from the base of its segment
 abbrev pub placed_at : List LineTree → Assignment → ℕ → PlacedContent
@@ -57,10 +52,3 @@ pub record IsText (lines : List LineTree) : Type 0 where
   pub source : SourceFile
   pub includes : List SourceFile
   pub read : text_of source includes ≡ Lines lines
-
--- What is kept of a text without faults is what it gives, and this is the content of each line.
-pub record IsGiven (lines : List LineTree) (a : Assignment) (t : PlacedText) (given : List EmittedContent)
-    : Type 0 where
-  pub ready : IsReady lines a t
-  pub content : content_faults lines a ≡ []
-  pub each : AreContents lines a given

@@ -19,8 +19,8 @@ use Rattle.m51_asm.specs.ObjectSegments.{place_in, local_number}
 use Rattle.m51_asm.specs.ObjectMeanings.{object_value}
 
 -- the id is in the table
-abbrev pub is_in : List ℕ → ℕ → Bool
-is_in table id = is_some (place_in table id)
+abbrev pub is_id_in : List ℕ → ℕ → Bool
+is_id_in table id = is_some (place_in table id)
 
 -- the id that has the number
 abbrev pub id_at : List ℕ → ℕ → ℕ
@@ -43,7 +43,7 @@ ids_in names (Two op left right) = ids_in names left ++ ids_in names right
 ids_in names e = []
 
 abbrev pub has_base : List ℕ → Base → Bool
-has_base table (base.Segment id) = is_in table id
+has_base table (base.Segment id) = is_id_in table id
 has_base table b = true
 
 abbrev pub if_there : List ℕ → Option Value → Option Value
@@ -78,7 +78,7 @@ global table (Err e) = Err e
 
 -- each of these is in the table
 pub record AreIn (table ids : List ℕ) : Type 0 where
-  pub each : (id : ℕ) → is_in ids id ≡ true → is_in table id ≡ true
+  pub each : (id : ℕ) → is_id_in ids id ≡ true → is_id_in table id ≡ true
 
 -- by the numbers of a table an expression has the same value or fault, and JMP or CALL to it the same form
 pub record IsEnough (names : Meanings) (table : List ℕ) (e : Tree) : Type 0 where

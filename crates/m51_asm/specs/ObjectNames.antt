@@ -27,7 +27,7 @@ object_names n =
 
 -- What is kept of a text is what it gives under an assignment that fits it: its names, whether those of the 8052 are
 -- predefined, the places of the lines and what all of them give, and the numbers of segments.
-pub record IsReady (lines : List LineTree) (a : Assignment) (t : PlacedText) : Type 0 where
+pub record IsAssignedText (lines : List LineTree) (a : Assignment) (t : PlacedText) : Type 0 where
   pub read : map line_tree t.text.lines.now ≡ lines
   pub fits : Fits lines a
   pub names : IsTableOf lines t.text.names.now

@@ -83,7 +83,7 @@ abbrev pub from_one : Option ℕ → ℕ
 from_one None = 0
 from_one (Some index) = suc index
 
--- the place of an id in a table, counted from 0
+-- the index of an id in a table, counted from 0
 abbrev pub place_in : List ℕ → ℕ → Option ℕ
 place_in [] id = None
 place_in (other ∷ more) id = if other == id then Some 0 else option_map (λ n. suc n) (place_in more id)

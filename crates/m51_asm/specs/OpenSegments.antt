@@ -12,9 +12,9 @@ use Rattle.m51_asm.specs.declared.names.FirstDefinition.{FirstDefinition}
 use Rattle.m51_asm.specs.declared.segments.OpenSegment.{OpenSegment}
 use Rattle.m51_asm.specs.declared.segments.LastAbsolute.{LastAbsolute}
 use Rattle.m51_asm.specs.Definitions.{definition_of}
-use Rattle.m51_asm.specs.Assignment.{TextSegment, Assignment, absolute, body_at, above, number_of}
+use Rattle.m51_asm.specs.Assignment.{TextSegment, Assignment, absolute, body_at, above, number_or_zero}
 use Rattle.m51_asm.specs.Fitting.{is_absolute_of, last_absolute, declared, declared_in, segment_behind}
-use Rattle.m51_asm.specs.Table.{first_of}
+use Rattle.m51_asm.specs.Table.{first_definition}
 
 -- a segment as it is kept
 abbrev pub text_segment : OpenSegment → TextSegment
@@ -46,10 +46,10 @@ last_in last kind.Number = option_map text_segment last.number
 abbrev pub open_behind :
     ℕ → Meanings → (Kind → Option TextSegment) → Option TextSegment → TextSegment → BodyTree → TextSegment
 open_behind k names last named segment (Rseg name) = unwrap_or named segment
-open_behind k names last named segment (Select kind (Some e)) = absolute (k + 2) kind (number_of names e)
+open_behind k names last named segment (Select kind (Some e)) = absolute (k + 2) kind (number_or_zero names e)
 open_behind k names last named segment (Select kind None) = unwrap_or (last kind) (absolute (k + 2) kind 0)
 open_behind k names last named segment (Org e) =
-    if is_absolute segment.reloc then absolute (k + 2) segment.kind (number_of names e) else segment
+    if is_absolute segment.reloc then absolute (k + 2) segment.kind (number_or_zero names e) else segment
 open_behind k names last named segment body = segment
 
 abbrev pub named_by : (List ℕ → Option TextSegment) → BodyTree → Option TextSegment
@@ -68,4 +68,4 @@ OpenIsBehind =
 abbrev pub DeclaredIsTold : Type 0
 DeclaredIsTold =
     (lines : List LineTree) (name : List ℕ) (k : ℕ)
-    → declared_first lines k (option_map first_of (definition_of lines name)) ≡ declared lines name k
+    → declared_first lines k (option_map first_definition (definition_of lines name)) ≡ declared lines name k

@@ -5,12 +5,12 @@ use Rattle.m51_expr.specs.Meanings.{Meanings}
 use Rattle.m51_stmt.specs.Statement.{BodyTree, Ds, Dbit, Org, Select}
 use Rattle.m51_asm.specs.declared.operands.Evaluated.{Evaluated}
 use Rattle.m51_asm.specs.declared.operands.Evaluated.TheVariants as operand
-use Rattle.m51_asm.specs.Assignment.{number_of}
+use Rattle.m51_asm.specs.Assignment.{number_or_zero}
 use Rattle.m51_asm.specs.Located.{located_value}
 
-abbrev pub fault_of : Evaluated → Option ℕ
-fault_of (operand.Fault number) = Some number
-fault_of o = None
+abbrev pub evaluated_fault : Evaluated → Option ℕ
+evaluated_fault (operand.Fault number) = Some number
+evaluated_fault o = None
 
 -- the count or the base, 0 where it is neither
 abbrev pub number_in : Evaluated → ℕ
@@ -29,16 +29,16 @@ bank_in before o = before
 
 -- the count of DS or DBIT, or the base of ORG or AT, 0 where it has a fault
 abbrev pub operand_number : Meanings → BodyTree → ℕ
-operand_number names (Ds e) = number_of names e
-operand_number names (Dbit e) = number_of names e
-operand_number names (Org e) = number_of names e
-operand_number names (Select kind (Some e)) = number_of names e
+operand_number names (Ds e) = number_or_zero names e
+operand_number names (Dbit e) = number_or_zero names e
+operand_number names (Org e) = number_or_zero names e
+operand_number names (Select kind (Some e)) = number_or_zero names e
 operand_number names body = 0
 
 -- An operand with this fault and this number; where it has no fault, with this value and this bank after the line.
 pub record IsOperand (fault : Option ℕ) (number : ℕ) (given : Option Value) (bank : ℕ → ℕ) (o : Evaluated)
     : Type 0 where
-  pub fault_is : fault_of o ≡ fault
+  pub fault_is : evaluated_fault o ≡ fault
   pub number_is : number_in o ≡ number
   pub given_is : fault ≡ None → given_in o ≡ given
   pub bank_is : fault ≡ None → (before : ℕ) → bank_in before o ≡ bank before

@@ -10,7 +10,7 @@ use Rattle.m51_module.specs.declared.symbol.Public.{Public}
 use Rattle.m51_expr.specs.Meanings.{Meanings}
 use Rattle.m51_stmt.specs.Statement.{BodyTree, Using, Public as Publishes, Extrn, ModuleName}
 use Rattle.m51_text.specs.Answer.{LineTree}
-use Rattle.m51_asm.specs.Assignment.{Assignment, body_at, above, number_of}
+use Rattle.m51_asm.specs.Assignment.{Assignment, body_at, above, number_or_zero}
 use Rattle.m51_asm.specs.Naming.{module_name}
 use Rattle.m51_asm.specs.ObjectSegments.{object_segments}
 use Rattle.m51_asm.specs.PublicNames.{publics_of}
@@ -38,7 +38,7 @@ publics_before lines a zero = []
 publics_before lines a (suc k) = publics_before lines a k ++ publics_by lines a k (body_at lines k)
 
 abbrev pub selects_by : Meanings → ℕ → BodyTree → Bool
-selects_by names bank (Using e) = number_of names e == bank
+selects_by names bank (Using e) = number_or_zero names e == bank
 selects_by names bank body = false
 
 -- one of the first k lines selects the bank by USING

@@ -3,7 +3,7 @@ use Rattle.std.specs.Prelude.{ℕ, suc, ◌==◌, if◌then◌else◌, List, [],
 use Rattle.m51_module.specs.declared.content.Fixup.{Fixup}
 use Rattle.m51_module.specs.declared.content.Piece.{Piece}
 use Rattle.m51_text.specs.Answer.{LineTree}
-pub use Rattle.m51_emit.specs.Pieces.{Run, before_runs, if_bytes, piece_at, pieces_of_run, base_of, target_base}
+pub use Rattle.m51_emit.specs.Pieces.{Run, before_runs, if_bytes, piece_at, pieces_of_run, base_or_zero, target_base}
 pub use Rattle.m51_emit.specs.Pieces.{fixup_of}
 use Rattle.m51_emit.specs.declared.content.EmittedContent.{EmittedContent}
 use Rattle.m51_emit.specs.Content.{content_by}

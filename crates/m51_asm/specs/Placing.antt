@@ -21,8 +21,8 @@ use Rattle.m51_asm.specs.declared.told.LineFacts.{LineFacts}
 use Rattle.m51_asm.specs.Definitions.{definition_of}
 use Rattle.m51_asm.specs.Assignment.{TextSegment, Assignment, body_at, here_at, above}
 use Rattle.m51_asm.specs.Fitting.{last_absolute, size_at, filled, bank_by, bank_before, externals_before}
-use Rattle.m51_asm.specs.PlacedFaults.{end_of, segments_before, operand_fault, placed_fault}
-use Rattle.m51_asm.specs.Table.{Table, first_in, first_of}
+use Rattle.m51_asm.specs.PlacedFaults.{kind_end, segments_before, operand_fault, placed_fault}
+use Rattle.m51_asm.specs.Table.{Table, first_in, first_definition}
 use Rattle.m51_asm.specs.ValuesAbove.{value_above}
 use Rattle.m51_asm.specs.Located.{located_value}
 use Rattle.m51_asm.specs.Above.{value_in}
@@ -33,7 +33,7 @@ use Rattle.m51_asm.specs.Operands.{operand_number, IsOperand}
 
 -- the table has the first definitions of the text
 abbrev pub IsTableOf : List LineTree → Table → Type 0
-IsTableOf lines table = (name : List ℕ) → first_in table name ≡ option_map first_of (definition_of lines name)
+IsTableOf lines table = (name : List ℕ) → first_in table name ≡ option_map first_definition (definition_of lines name)
 
 -- what is kept is what the lines above line k give
 pub record IsAt (lines : List LineTree) (a : Assignment) (k : ℕ) (s : PassOneState) : Type 0 where
@@ -55,7 +55,7 @@ here_of s before = record {
 }
 
 -- these are the place, the form and the size of line k, the segment that it leaves open, and its operand
-pub record IsTold (lines : List LineTree) (a : Assignment) (k : ℕ) (t : LineFacts) : Type 0 where
+pub record AreLineFacts (lines : List LineTree) (a : Assignment) (k : ℕ) (t : LineFacts) : Type 0 where
   pub here : located_value t.here ≡ here_at a k
   pub form : t.form ≡ a.form k
   pub size : t.size ≡ saturated (size_at lines a k)
@@ -76,8 +76,8 @@ pub record IsCounted (lines : List LineTree) (a : Assignment) (k : ℕ) (c : Cou
   pub externals : c.externals ≡ saturated (externals_before lines (suc k))
 
 -- a segment of this size passes the end of its kind or 65,535 bytes
-abbrev pub passes : TextSegment → ℕ → Bool
-passes s size = nat_lt (end_of s.kind) (s.base + size) || nat_lt 65535 size
+abbrev pub exceeds_end : TextSegment → ℕ → Bool
+exceeds_end s size = nat_lt (kind_end s.kind) (s.base + size) || nat_lt 65535 size
 
 -- these are too many segments or externals
 abbrev pub are_too_many : ℕ → ℕ → Bool

@@ -5,7 +5,7 @@ ghost use Rattle.m51_cells.specs.Kinds.{is_absolute};
 ghost use Rattle.m51_stmt.specs.Statement.{body_tree};
 ghost use Rattle.m51_text.specs.Answer.{line_tree};
 ghost use Rattle.m51_predefined.specs.Predefined.{predefined_of, absolute_register_of, register_value};
-ghost use Rattle.m51_asm.specs.Assignment.{body_at, reloc_by, reloc_of, is_bitaddressable};
+ghost use Rattle.m51_asm.specs.Assignment.{body_at, reloc_by, segment_reloc, is_bitaddressable};
 ghost use Rattle.m51_asm.specs.Fitting.{register_or_predefined};
 ghost use Rattle.m51_asm.specs.Located.{located_value};
 ghost use Rattle.m51_asm.specs.Above.{plain_located};
@@ -50,13 +50,13 @@ pub(crate) fn reloc_at(lines: &[Line], k: usize) -> Reloc
 }
 
 /// The type of a segment.
-pub(crate) fn reloc_of(lines: &[Line], id: usize) -> Reloc
-    ensures { result ≡ reloc_of (map line_tree lines.now) id }
+pub(crate) fn segment_reloc(lines: &[Line], id: u32) -> Reloc
+    ensures { result ≡ segment_reloc (map line_tree lines.now) id }
 {
     if id < 2 {
         Reloc::Abs
     } else {
-        reloc_at(lines, id - 2)
+        reloc_at(lines, id as usize - 2)
     }
 }
 
@@ -98,7 +98,6 @@ pub(crate) struct Above<'a> {
     pub(crate) lines: &'a [Line],
     pub(crate) names: &'a TextNames,
     pub(crate) values: &'a Values,
-    pub(crate) line: usize,
     pub(crate) mod51: bool,
     pub(crate) bank: u8,
     pub(crate) here: Located,
@@ -110,18 +109,15 @@ impl<'a> Places for Above<'a> {
     ghost use Rattle.m51_asm.specs.Above.{kept_meanings};
 
     ghost meanings = { λ s. kept_meanings (map line_tree s.lines.now) s.names.now s.values.now
-        s.line s.mod51 s.bank s.here };
+        s.mod51 s.bank s.here };
 
     fn value(&self, name: &Name) -> Option<Located> {
-        match self.names.first(name) {
-            Some(first) => {
-                if first.line < self.line {
-                    self.values.get(name)
-                } else {
-                    None
-                }
-            }
-            None => undefined_value(self.mod51, self.bank, name),
+        match self.values.get(name) {
+            Some(value) => Some(value),
+            None => match self.names.first(name) {
+                Some(_) => None,
+                None => undefined_value(self.mod51, self.bank, name),
+            },
         }
     }
 
@@ -129,11 +125,11 @@ impl<'a> Places for Above<'a> {
         self.here
     }
 
-    fn fixed(&self, id: usize) -> bool {
-        is_absolute(reloc_of(self.lines, id))
+    fn fixed(&self, id: u32) -> bool {
+        is_absolute(segment_reloc(self.lines, id))
     }
 
-    fn bitaddressable(&self, id: usize) -> bool {
-        is_bitaddressable(reloc_of(self.lines, id))
+    fn bitaddressable(&self, id: u32) -> bool {
+        is_bitaddressable(segment_reloc(self.lines, id))
     }
 }

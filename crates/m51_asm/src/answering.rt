@@ -13,8 +13,7 @@ ghost use Rattle.m51_asm.specs.Answer.{IsAnswerOf, tree_of};
 ghost use Rattle.m51_asm.specs.Gathering.{IsText};
 
 use crate::banks::banks;
-use crate::contents::{Contents, give_lines};
-use crate::gathering::gather_lines;
+use crate::contents::{Contents, TextContents, give_lines};
 use crate::naming::module_name;
 use crate::naming_lines::{externals, name_in};
 use crate::numbering::{Numbering, number_segments};
@@ -23,7 +22,7 @@ use crate::outcome::Assembled;
 use crate::placing::{NamedText, PassOneState};
 use crate::stepping::LinePlace;
 use m51_cells::NoMemory;
-use m51_emit::ModuleContent;
+use m51_emit::{ModuleContent, gather};
 use m51_module::{Module, ModuleParts, Publics, Segment, Segments};
 use m51_text::Line;
 use std::alloc::Global;
@@ -98,19 +97,19 @@ pub(crate) fn answer_placed(
         end,
         numbering: &numbering,
     };
-    let contents = give_lines(alloc, &text)?;
+    let given = give_lines(alloc, &text)?;
+    let TextContents { contents, gathered } = given;
     let Contents {
         set: _,
         made: _,
         faults,
         publics,
         rows,
-        given,
     } = contents;
     if !faults.is_empty() {
         return Ok(Assembled::Faults(faults));
     }
-    let content = gather_lines(alloc, &text, given.as_slice())?;
+    let content = gather(alloc, &gathered)?;
     let Numbering {
         segments,
         numbers: _,

@@ -1,14 +1,17 @@
 //! Pass 2 over the lines of a text: what each gives, and the faults of their content.
-ghost use Rattle.std.specs.Prelude.{◌≡◌, ◌++◌, ℕ, suc, Some, List, [], length, slice_get, OnOk, IfOk};
+ghost use Rattle.std.specs.Prelude.{◌≡◌, ◌++◌, ℕ, suc, Some, List, [], length, map, slice_get, OnOk, IfOk};
 ghost use Rattle.m51_text.specs.Answer.{LineTree, line_tree};
 ghost use Rattle.m51_asm.specs.Assignment.{Assignment};
 ghost use Rattle.m51_asm.specs.ContentFaults.{if_fault};
 ghost use Rattle.m51_asm.specs.Fitting.{Fits};
 ghost use Rattle.m51_asm.specs.Placing.{IsPlaceOf};
-ghost use Rattle.m51_asm.specs.AnswerRows.{row_of, place_of};
-ghost use Rattle.m51_asm.specs.ObjectNames.{IsReady};
+ghost use Rattle.m51_asm.specs.AnswerRows.{listing_row, place_of};
+ghost use Rattle.m51_asm.specs.ObjectNames.{IsAssignedText};
+ghost use Rattle.m51_asm.specs.Pieces.{content_at};
 ghost use Rattle.m51_asm.specs.Contents.{nothing_given, IsGivenTo};
+ghost use Rattle.m51_asm.specs.Gathering.{IsText, gathered_before};
 
+use crate::gathering::{gather_line, nothing_gathered};
 use crate::object_names::{PlacedText, names_of};
 use crate::outcome::fault_of_line;
 use crate::placing::here_of;
@@ -18,7 +21,7 @@ use crate::stepping::LinePlace;
 use crate::valuation::Values;
 use crate::values_at::take_set;
 use m51_cells::{ListOf, NoMemory};
-use m51_emit::{EmittedContent, line_content, place_of, row_of};
+use m51_emit::{EmittedContent, SegmentContent, line_content, place_of, row_of};
 use m51_module::{Faults, Publics, Row, Rows};
 use m51_text::Line;
 use std::alloc::Global;
@@ -33,8 +36,14 @@ pub(crate) struct Contents {
     pub(crate) faults: Faults,
     pub(crate) publics: Publics,
     pub(crate) rows: Rows,
-    /// The bytes and references of each.
-    pub(crate) given: ListOf<EmittedContent>,
+}
+
+/// What the lines of a text give.
+#[derive(Drop)]
+pub(crate) struct TextContents {
+    pub(crate) contents: Contents,
+    /// The bytes and references, by segment of the module. They count only where no line has a fault.
+    pub(crate) gathered: Vec<SegmentContent>,
 }
 
 // The fault of a line, if it has one, after others.
@@ -50,38 +59,42 @@ fn push_fault(faults: &mut Faults, line: &Line, fault: Option<u8>) -> Result<(),
 // The row of a line.
 fn row_at(line: &Line, place: &LinePlace, content: &EmittedContent) -> Row
     ensures { (lines : List LineTree) (a : Assignment) (k : ℕ) → Fits lines a → IsPlaceOf lines a k place.now
-        → result ≡ row_of (line_tree line.now) (place_of a k (line_tree line.now)) content.now }
+        → result ≡ listing_row (line_tree line.now) (place_of a k (line_tree line.now)) content.now }
 {
     let here = here_of(place.segment, place.offset);
     let at = place_of(&line.stmt, u64::from(here.number));
     row_of(line.file, line.line, at, content)
 }
 
-// Before the first line.
-fn nothing_given(alloc: Global) -> Contents
-    ensures { result ≡ nothing_given }
+// Before the first of this number of lines.
+fn nothing_given(alloc: Global, lines: usize) -> Result<Contents, NoMemory>
+    ensures { IfOk result (λ contents. contents ≡ nothing_given) }
 {
-    Contents {
+    Ok(Contents {
         set: Values::new(alloc),
         made: 0,
         faults: ListOf::new(alloc),
         publics: ListOf::new(alloc),
-        rows: ListOf::new(alloc),
-        given: ListOf::new(alloc),
-    }
+        rows: Rows::of(Vec::with_capacity(alloc, lines)?),
+    })
 }
 
-// What a line gives, after what the lines above it give.
+// What a line gives, after what the lines above it give: its content is the answer.
 fn give_line(
     alloc: Global,
     text: &PlacedText<'_>,
     line: &Line,
     place: &LinePlace,
     contents: &mut Contents,
-) -> Result<(), NoMemory>
-    ensures { OnOk result ((lines : List LineTree) (a : Assignment) (k : ℕ) → IsReady lines a text.now
+) -> Result<EmittedContent, NoMemory>
+    ensures given { OnOk result ((lines : List LineTree) (a : Assignment) (k : ℕ) → IsAssignedText lines a text.now
         → slice_get lines k ≡ Some (line_tree line.now) → IsPlaceOf lines a k place.now
         → IsGivenTo lines a k contents.old → IsGivenTo lines a (suc k) contents.new) }
+    ensures content { IfOk result (λ content. (lines : List LineTree) (a : Assignment) (k : ℕ)
+        → IsAssignedText lines a text.now → slice_get lines k ≡ Some (line_tree line.now)
+        → IsPlaceOf lines a k place.now
+        → IsGivenTo lines a k contents.old → content ≡ content_at lines a k) }
+    ensures faults { OnOk result (contents.new.faults ≡ [] → contents.old.faults ≡ []) }
 {
     let here = here_of(place.segment, place.offset);
     let names = names_of(
@@ -99,20 +112,30 @@ fn give_line(
     contents.made = told.made;
     push_fault(&mut contents.faults, line, or_next(told.fault, unpublished))?;
     contents.rows.push(row_at(line, place, &told.content))?;
-    contents.given.push(told.content)?;
     take_set(alloc, &mut contents.set, line, place)?;
-    Ok(())
+    Ok(told.content)
 }
 
 /// What all lines of a text give. The only error is out of memory.
-pub(crate) fn give_lines(alloc: Global, text: &PlacedText<'_>) -> Result<Contents, NoMemory>
-    requires { length text.now.places.now ≡ length text.now.text.lines.now }
-    ensures { IfOk result (λ all. (lines : List LineTree) (a : Assignment) → IsReady lines a text.now
-        → IsGivenTo lines a (length lines) all) }
+pub(crate) fn give_lines(alloc: Global, text: &PlacedText<'_>) -> Result<TextContents, NoMemory>
+    requires text { IsText (map line_tree text.now.text.lines.now) }
+    requires places { length text.now.places.now ≡ length text.now.text.lines.now }
+    requires ready { (a : Assignment) → Fits (map line_tree text.now.text.lines.now) a
+        → IsAssignedText (map line_tree text.now.text.lines.now) a text.now }
+    ensures given { let lines = map line_tree text.now.text.lines.now in
+        IfOk result (λ all. (a : Assignment) → Fits lines a → IsGivenTo lines a (length lines) all.contents) }
+    ensures gathered { let lines = map line_tree text.now.text.lines.now in
+        IfOk result (λ all. all.contents.faults ≡ [] → (a : Assignment) → Fits lines a
+        → all.gathered.items ≡ gathered_before lines a (length lines)) }
 {
-    let mut contents = nothing_given(alloc);
-    for (k, line) in text.text.lines.iter().enumerate() {
-        give_line(alloc, text, line, &text.places[k], &mut contents)?;
+    let lines = text.text.lines;
+    let mut contents = nothing_given(alloc, lines.len())?;
+    let mut gathered = nothing_gathered(alloc, text.numbering.segments.len())?;
+    for (k, line) in lines.iter().enumerate() {
+        let place = &text.places[k];
+        let content = give_line(alloc, text, line, place, &mut contents)?;
+        let is_clean = contents.faults.is_empty();
+        gather_line(alloc, &mut gathered, text, is_clean, place, &content)?;
     }
-    Ok(contents)
+    Ok(TextContents { contents, gathered })
 }

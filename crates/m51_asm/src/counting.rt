@@ -6,7 +6,7 @@ ghost use Rattle.m51_expr.specs.Value.{counted};
 ghost use Rattle.m51_cells.specs.Outcome.{and_then};
 ghost use Rattle.m51_expr.specs.Meanings.{is_unplaced, as_number};
 ghost use Rattle.m51_asm.specs.Assignment.{numbered};
-ghost use Rattle.m51_asm.specs.FewNames.{names_in};
+ghost use Rattle.m51_asm.specs.FewNames.{count_of_names};
 ghost use Rattle.m51_asm.specs.Located.{origin_base, located_value, located};
 
 use crate::tables::evaluate;
@@ -64,7 +64,7 @@ pub(crate) fn numbered<P: Places>(
     names: &P,
     e: &Expr,
 ) -> Result<Result<u16, ExprError>, NoMemory>
-    requires { names_in (tree_of e.now) ≤ 254 }
+    requires { count_of_names (tree_of e.now) ≤ 254 }
     ensures { IfOk result (λ number. number ≡ numbered (P.meanings names.now) (tree_of e.now)) }
 {
     let value = evaluate(alloc, names, e)?;

@@ -3,10 +3,10 @@ ghost use Rattle.std.specs.Prelude.{◌≡◌, ◌+◌, ◌&&◌, ◌||◌, not,
 ghost use Rattle.m51_cells.specs.Kinds.{is_absolute};
 ghost use Rattle.m51_stmt.specs.Statement.{body_tree};
 ghost use Rattle.m51_asm.specs.Fitting.{given_to, externals_in};
-ghost use Rattle.m51_asm.specs.PlacedFaults.{end_of, is_misplaced};
+ghost use Rattle.m51_asm.specs.PlacedFaults.{kind_end, is_misplaced};
 ghost use Rattle.m51_asm.specs.OpenSegments.{text_segment};
 ghost use Rattle.m51_asm.specs.Filled.{size_in, saturated};
-ghost use Rattle.m51_asm.specs.Placing.{numbers_one, passes, are_too_many, fault_by};
+ghost use Rattle.m51_asm.specs.Placing.{numbers_one, exceeds_end, are_too_many, fault_by};
 
 use crate::filled::Filled;
 use crate::segments::OpenSegment;
@@ -28,7 +28,7 @@ pub(crate) struct Counts {
 }
 
 // What a line of a segment gives to a segment.
-fn given_to(id: usize, segment: OpenSegment, size: u64) -> u64
+fn given_to(id: u32, segment: OpenSegment, size: u64) -> u64
     ensures { result ≡ given_to id (text_segment segment) size }
 {
     if segment.id == id { size } else { 0 }
@@ -94,8 +94,8 @@ pub(crate) fn count(
 }
 
 // How far the places of a kind go.
-fn end_of(kind: Kind) -> u128
-    ensures { result ≡ end_of kind }
+fn kind_end(kind: Kind) -> u128
+    ensures { result ≡ kind_end kind }
 {
     match kind {
         Kind::Direct | Kind::Bits => 0x80,
@@ -105,10 +105,10 @@ fn end_of(kind: Kind) -> u128
 }
 
 /// Whether a segment of this size passes the end of its memory or 65,535 bytes.
-pub(crate) fn passes(segment: OpenSegment, size: u64) -> bool
-    ensures { result ≡ passes (text_segment segment) size }
+pub(crate) fn exceeds_end(segment: OpenSegment, size: u64) -> bool
+    ensures { result ≡ exceeds_end (text_segment segment) size }
 {
-    end_of(segment.kind) < u128::from(segment.base) + u128::from(size) || 65535 < size
+    kind_end(segment.kind) < u128::from(segment.base) + u128::from(size) || 65535 < size
 }
 
 /// Whether a statement is not allowed in its segment.

@@ -50,21 +50,21 @@ impl Filled {
     }
 
     /// How much is given to a segment.
-    pub(crate) fn of(&self, id: usize) -> u16
+    pub(crate) fn of(&self, id: u32) -> u16
         ensures { result ≡ size_in self.now id }
     {
-        match self.sizes.get(id) {
+        match self.sizes.get(id as usize) {
             Some(size) => *size,
             None => 0,
         }
     }
 
     /// Sets the size of a segment. The only error is out of memory.
-    pub(crate) fn set(&mut self, id: usize, size: u16) -> Result<(), NoMemory>
+    pub(crate) fn set(&mut self, id: u32, size: u16) -> Result<(), NoMemory>
         ensures { OnOk result (Sets self.old self.new id size) }
     {
-        reach(&mut self.sizes, id)?;
-        store(&mut self.sizes, id, size);
+        reach(&mut self.sizes, id as usize)?;
+        store(&mut self.sizes, id as usize, size);
         Ok(())
     }
 }

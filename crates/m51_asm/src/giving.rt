@@ -31,7 +31,7 @@ fn segment_given(kind: Kind, line: usize) -> Located
     Located {
         number: 0,
         class: kind,
-        origin: Origin::Segment(line + 2),
+        origin: Origin::Segment(line as u32 + 2),
         part: Part::Whole,
     }
 }

@@ -3,7 +3,7 @@ ghost use Rattle.std.specs.Prelude.{◌≡◌, ◌≤◌, option_map, IfOk};
 ghost use Rattle.std.specs.Str.{bytes_eq};
 ghost use Rattle.m51_expr.specs.Tree.{tree_of};
 ghost use Rattle.m51_stmt.specs.Statement.{body_tree};
-ghost use Rattle.m51_asm.specs.FewNames.{names_in, HasFewNames};
+ghost use Rattle.m51_asm.specs.FewNames.{count_of_names, HasFewNames};
 ghost use Rattle.m51_asm.specs.Fitting.{verb_of, form_by};
 ghost use Rattle.m51_asm.specs.Fitting as word;
 ghost use Rattle.m51_asm.specs.LabelledNames.{or_label};
@@ -60,11 +60,11 @@ impl<'a, P: Places> Places for Labelled<'a, P> {
         self.names.here()
     }
 
-    fn fixed(&self, id: usize) -> bool {
+    fn fixed(&self, id: u32) -> bool {
         self.names.fixed(id)
     }
 
-    fn bitaddressable(&self, id: usize) -> bool {
+    fn bitaddressable(&self, id: u32) -> bool {
         self.names.bitaddressable(id)
     }
 }
@@ -89,7 +89,7 @@ fn form_of_verb<P: Places>(
     verb: Option<Verb>,
     target: &Expr,
 ) -> Result<Jump, NoMemory>
-    requires { names_in (tree_of target.now) ≤ 254 }
+    requires { count_of_names (tree_of target.now) ≤ 254 }
     ensures { IfOk result (λ form. form ≡ word.form_to (P.meanings names.now) verb (tree_of target.now)) }
 {
     match verb {

@@ -31,10 +31,10 @@ pub(crate) struct Numbering {
 }
 
 // The number of an id, 0 where the module does not have its segment.
-pub(crate) fn number_at(numbers: &[u8], id: usize) -> u8
+pub(crate) fn number_at(numbers: &[u8], id: u32) -> u8
     ensures { result ≡ number_at numbers.now id }
 {
-    match numbers.get(id) {
+    match numbers.get(id as usize) {
         Some(number) => *number,
         None => 0,
     }
@@ -87,7 +87,7 @@ fn segment_begun(filled: &Filled, k: usize, next: OpenSegment) -> Option<Segment
     ensures { result
         ≡ (if next.id == k + 2 then segment_filled (text_segment next) (size_in filled.now next.id) else None) }
 {
-    if next.id == k + 2 {
+    if next.id == k as u32 + 2 {
         segment_filled(next, filled.of(next.id))
     } else {
         None
@@ -101,29 +101,9 @@ fn segment_added(filled: &Filled, k: usize, next: OpenSegment, body: &Body) -> O
 {
     match body {
         Body::Segment(name, kind, reloc, overlay) => {
-            Some(relocatable(name, *kind, *reloc, *overlay, filled.of(k + 2)))
+            Some(relocatable(name, *kind, *reloc, *overlay, filled.of(k as u32 + 2)))
         }
         _ => segment_begun(filled, k, next),
-    }
-}
-
-// The number of a segment that is added after this number of segments.
-fn next_number(count: usize, segment: &Option<Segment>) -> u8
-    requires { count + length (as_list segment.now) ≤ 254 }
-    ensures { result ≡ next_number count segment.now }
-{
-    match segment {
-        Some(_) => count as u8 + 1,
-        None => 0,
-    }
-}
-
-fn push_if(segments: &mut Segments, segment: Option<Segment>) -> Result<(), NoMemory>
-    ensures { OnOk result (segments.new ≡ segments.old ++ as_list segment) }
-{
-    match segment {
-        Some(segment) => segments.push(segment),
-        None => Ok(()),
     }
 }
 
@@ -137,10 +117,14 @@ fn add(
     ensures segments { OnOk result (segments.new ≡ segments.old ++ as_list segment) }
     ensures numbers { OnOk result (numbers.new ≡ numbers.old ++ next_number (length segments.old) segment ∷ []) }
 {
-    let number = next_number(segments.len(), &segment);
-    push_if(segments, segment)?;
-    numbers.push(number)?;
-    Ok(())
+    match segment {
+        Some(segment) => {
+            let number = segments.len() as u8 + 1;
+            segments.push(segment)?;
+            numbers.push(number)
+        }
+        None => numbers.push(0),
+    }
 }
 
 /// The segments of the module of a text whose lines are placed, and their numbers. The only error is out of memory.

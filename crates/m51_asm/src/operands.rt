@@ -11,7 +11,7 @@ ghost use Rattle.m51_asm.specs.PlacedFaults.{is_short, is_address, fault_in, add
 ghost use Rattle.m51_asm.specs.GivenValues.{expression_given};
 ghost use Rattle.m51_asm.specs.Located.{origin_base, located_value, located};
 ghost use Rattle.m51_asm.specs.LineFaults.{has_class, segment_fault_by, operand_fault_by};
-ghost use Rattle.m51_asm.specs.Operands.{fault_of, number_in, given_in, bank_in, operand_number, IsOperand};
+ghost use Rattle.m51_asm.specs.Operands.{evaluated_fault, number_in, given_in, bank_in, operand_number, IsOperand};
 
 use crate::counting::{counted, is_unplaced, numbered};
 use crate::tables::evaluate;
@@ -39,7 +39,7 @@ pub(crate) enum Evaluated {
 impl Evaluated {
     /// The number of its fault, if it has one.
     pub(crate) fn fault(self) -> Option<u8>
-        ensures { result ≡ fault_of self }
+        ensures { result ≡ evaluated_fault self }
     {
         match self {
             Evaluated::Fault(number) => Some(number),

@@ -47,7 +47,7 @@ pub(crate) fn place_lines(
         → IsPassed (map line_tree text.now.lines.now) a passed) }
 {
     let lines = text.lines;
-    let mut places = ListOf::new(alloc);
+    let mut places = ListOf::of(Vec::with_capacity(alloc, lines.len())?);
     let mut placing = PassOneState::start(alloc);
     for (k, line) in lines.iter().enumerate() {
         if is_reached(repeated, k) {

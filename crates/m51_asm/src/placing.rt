@@ -8,7 +8,7 @@ ghost use Rattle.m51_asm.specs.Fitting.{externals_in, Fits, mod51};
 ghost use Rattle.m51_asm.specs.Repeats.{is_repeated};
 ghost use Rattle.m51_asm.specs.Located.{located_value};
 ghost use Rattle.m51_asm.specs.OpenSegments.{text_segment};
-ghost use Rattle.m51_asm.specs.Placing.{IsTableOf, IsAt, IsTold, IsCounted, here_of};
+ghost use Rattle.m51_asm.specs.Placing.{IsTableOf, IsAt, AreLineFacts, IsCounted, here_of};
 ghost use Rattle.m51_asm.specs.PlacedFaults.{placed_fault};
 
 use crate::above::Above;
@@ -81,14 +81,13 @@ pub(crate) fn told_of(
     ensures { IfOk result (λ t. (a : Assignment) → Fits (map line_tree text.now.lines.now) a
         → is_repeated (map line_tree text.now.lines.now) k ≡ false
         → IsAt (map line_tree text.now.lines.now) a k placing.now
-        → IsTold (map line_tree text.now.lines.now) a k t) }
+        → AreLineFacts (map line_tree text.now.lines.now) a k t) }
 {
     let here = here_of(placing.segment, placing.filled.of(placing.segment.id));
     let names = Above {
         lines: text.lines,
         names: text.names,
         values: &placing.values,
-        line: k,
         mod51: text.mod51,
         bank: placing.bank,
         here,
@@ -145,7 +144,7 @@ impl PassOneState {
         requires declared { self.old.externals + externals_in (body_tree line.now.stmt.body) ≤ 255 }
         ensures { OnOk result ((lines : List LineTree) (a : Assignment) → Fits lines a
             → slice_get lines k ≡ Some (line_tree line.now) → placed_fault lines a k ≡ None
-            → IsAt lines a k self.old → IsTold lines a k told.now → IsCounted lines a k counts.now
+            → IsAt lines a k self.old → AreLineFacts lines a k told.now → IsCounted lines a k counts.now
             → IsAt lines a (suc k) self.new) }
     {
         let defined = definitions_in(alloc, &line.stmt)?;

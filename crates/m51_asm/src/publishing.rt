@@ -39,7 +39,7 @@ fn definer_of(first: Option<FirstDefinition>) -> Definer
 }
 
 // The segment of this id that a line declares, or else the one that is open after it.
-fn declared_as(id: usize, after: OpenSegment, body: &Body) -> OpenSegment
+fn declared_as(id: u32, after: OpenSegment, body: &Body) -> OpenSegment
     ensures { text_segment result ≡ declared_as id (text_segment after) (body_tree body.now) }
 {
     match body {
@@ -64,7 +64,7 @@ fn next_of(end: OpenSegment, places: &[LinePlace], k: usize) -> OpenSegment
 }
 
 // The segment of the id of line k, if that declares one, or else the one that is open after it.
-fn declared_at(lines: &[Line], k: usize, id: usize, after: OpenSegment) -> OpenSegment
+fn declared_at(lines: &[Line], k: usize, id: u32, after: OpenSegment) -> OpenSegment
     ensures { text_segment result ≡ declared_as id (text_segment after) (body_at (map line_tree lines.now) k) }
 {
     match lines.get(k) {
@@ -74,18 +74,23 @@ fn declared_at(lines: &[Line], k: usize, id: usize, after: OpenSegment) -> OpenS
 }
 
 // The segment of an id.
-fn segment_by_id(lines: &[Line], places: &[LinePlace], end: OpenSegment, id: usize) -> OpenSegment
+fn segment_by_id(lines: &[Line], places: &[LinePlace], end: OpenSegment, id: u32) -> OpenSegment
     ensures { text_segment result ≡ segment_by_id (map line_tree lines.now) places.now (text_segment end) id }
 {
     if id < 2 {
         OPENING
     } else {
-        declared_at(lines, id - 2, id, next_of(end, places, id - 2))
+        declared_at(
+            lines,
+            id as usize - 2,
+            id,
+            next_of(end, places, id as usize - 2),
+        )
     }
 }
 
 // The segment of an id of a text.
-fn segment_in(text: &PlacedText<'_>, id: usize) -> OpenSegment
+fn segment_in(text: &PlacedText<'_>, id: u32) -> OpenSegment
     ensures { text_segment result ≡ segment_in text.now id }
 {
     let named = text.text;

@@ -22,7 +22,7 @@ use m51_text::Line;
 #[derive(Clone, Copy, Debug, PartialEq, Eq)]
 pub(crate) struct OpenSegment {
     /// 1 for the one open at the start, k + 2 for one that line k declares or begins.
-    pub(crate) id: usize,
+    pub(crate) id: u32,
     pub(crate) kind: Kind,
     pub(crate) reloc: Reloc,
     /// The base of an absolute one, for BIT of a bit; 0 else.
@@ -37,7 +37,7 @@ pub(crate) const OPENING: OpenSegment = OpenSegment {
     base: 0,
 };
 
-fn absolute(id: usize, kind: Kind, base: u16) -> OpenSegment
+fn absolute(id: u32, kind: Kind, base: u16) -> OpenSegment
     ensures { text_segment result ≡ absolute id kind base }
 {
     OpenSegment {
@@ -54,7 +54,7 @@ fn declared_how(lines: &[Line], line: usize, how: How) -> Option<OpenSegment>
 {
     match how {
         How::Segment(kind) => Some(OpenSegment {
-            id: line + 2,
+            id: line as u32 + 2,
             kind,
             reloc: reloc_at(lines, line),
             base: 0,
@@ -110,11 +110,11 @@ pub(crate) fn open_behind(
 {
     match body {
         Body::Rseg(_) => or_segment(named, segment),
-        Body::Select(kind, Some(_)) => absolute(k + 2, *kind, number),
-        Body::Select(kind, None) => or_segment(last.of(*kind), absolute(k + 2, *kind, 0)),
+        Body::Select(kind, Some(_)) => absolute(k as u32 + 2, *kind, number),
+        Body::Select(kind, None) => or_segment(last.of(*kind), absolute(k as u32 + 2, *kind, 0)),
         Body::Org(_) => {
             if is_absolute(segment.reloc) {
-                absolute(k + 2, segment.kind, number)
+                absolute(k as u32 + 2, segment.kind, number)
             } else {
                 segment
             }

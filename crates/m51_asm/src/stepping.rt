@@ -8,10 +8,10 @@ ghost use Rattle.m51_asm.specs.Fitting.{Fits, mod51};
 ghost use Rattle.m51_asm.specs.PlacedFaults.{is_misplaced};
 ghost use Rattle.m51_asm.specs.Repeats.{is_repeated};
 ghost use Rattle.m51_asm.specs.OpenSegments.{text_segment};
-ghost use Rattle.m51_asm.specs.Operands.{fault_of};
-ghost use Rattle.m51_asm.specs.Placing.{IsTableOf, IsAt, IsLineOutcome, passes, are_too_many, fault_by};
+ghost use Rattle.m51_asm.specs.Operands.{evaluated_fault};
+ghost use Rattle.m51_asm.specs.Placing.{IsTableOf, IsAt, IsLineOutcome, exceeds_end, are_too_many, fault_by};
 
-use crate::counts::{Counts, are_too_many, count, fault_by, is_misplaced, passes};
+use crate::counts::{Counts, are_too_many, count, exceeds_end, fault_by, is_misplaced};
 use crate::placing::{NamedText, PassOneState, told_of};
 use crate::segments::OpenSegment;
 use crate::told::LineFacts;
@@ -50,12 +50,17 @@ pub(crate) enum LineOutcome {
 }
 
 // The fault of a line that repeats nothing.
-fn fault_of(segment: OpenSegment, told: &LineFacts, counts: &Counts, body: &Body) -> Option<u8>
-    ensures { result ≡ fault_by (passes (text_segment told.now.next) counts.now.next)
+fn evaluated_fault(
+    segment: OpenSegment,
+    told: &LineFacts,
+    counts: &Counts,
+    body: &Body,
+) -> Option<u8>
+    ensures { result ≡ fault_by (exceeds_end (text_segment told.now.next) counts.now.next)
         (is_misplaced (text_segment segment) (body_tree body.now))
-        (are_too_many counts.now.segments counts.now.externals) (fault_of told.now.operand) }
+        (are_too_many counts.now.segments counts.now.externals) (evaluated_fault told.now.operand) }
 {
-    let past = passes(told.next, counts.next);
+    let past = exceeds_end(told.next, counts.next);
     let misplaced = is_misplaced(segment, body);
     let many = are_too_many(counts.segments, counts.externals);
     fault_by(past, misplaced, many, told.operand.fault())
@@ -92,7 +97,7 @@ pub(crate) fn step(
         told.size,
         body,
     );
-    let fault = fault_of(segment, &told, &counts, body);
+    let fault = evaluated_fault(segment, &told, &counts, body);
     match fault {
         Some(number) => Ok(LineOutcome::Fault(number)),
         None => {

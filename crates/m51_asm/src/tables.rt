@@ -6,7 +6,7 @@ ghost use Rattle.m51_expr.specs.Evaluation.{value_of};
 ghost use Rattle.m51_asm.specs.ObjectSegments.{place_in, local_number};
 ghost use Rattle.m51_asm.specs.Located.{id_at, ids_in, base_ids, value_ids, if_there, has_base};
 ghost use Rattle.m51_asm.specs.Located.{origin_base, located_value, located, local, global, global_value, IsTable};
-ghost use Rattle.m51_asm.specs.FewNames.{names_in};
+ghost use Rattle.m51_asm.specs.FewNames.{count_of_names};
 ghost use Rattle.m51_asm.specs.ObjectMeanings.{object_base, object_value};
 ghost use Rattle.m51_encode.specs.JumpForm.{jump_form_of};
 
@@ -17,10 +17,10 @@ use m51_expr::{Expr, ExprError, Lookup, Value, value_of};
 use m51_isa::{Jump, Verb};
 use std::alloc::Global;
 
-// The place of an id in a table.
-fn place_in(table: &[usize], id: usize) -> Option<usize>
-    ensures place { result ≡ place_in table.now id }
-    ensures within { IfSome result (λ place. place < length table.now) }
+// The index of an id in a table.
+fn place_in(table: &[u32], id: u32) -> Option<usize>
+    ensures index { result ≡ place_in table.now id }
+    ensures within { IfSome result (λ index. index < length table.now) }
 {
     match table {
         [first, rest @ ..] => {
@@ -28,7 +28,7 @@ fn place_in(table: &[usize], id: usize) -> Option<usize>
                 Some(0)
             } else {
                 match place_in(rest, id) {
-                    Some(place) => Some(place + 1),
+                    Some(index) => Some(index + 1),
                     None => None,
                 }
             }
@@ -38,7 +38,7 @@ fn place_in(table: &[usize], id: usize) -> Option<usize>
 }
 
 // The id that has the number.
-fn id_at(table: &[usize], number: u8) -> usize
+fn id_at(table: &[u32], number: u8) -> u32
     ensures { result ≡ id_at table.now number }
 {
     match table.get(usize::from(number).saturating_sub(1)) {
@@ -48,17 +48,17 @@ fn id_at(table: &[usize], number: u8) -> usize
 }
 
 // The number of a segment in a table, 0 where it is not there.
-fn local_number(table: &[usize], id: usize) -> u8
+fn local_number(table: &[u32], id: u32) -> u8
     requires { length table.now ≤ 255 }
     ensures { result ≡ local_number table.now id }
 {
     match place_in(table, id) {
-        Some(place) => place as u8 + 1,
+        Some(index) => index as u8 + 1,
         None => 0,
     }
 }
 
-fn local_base(table: &[usize], origin: Origin) -> Base
+fn local_base(table: &[u32], origin: Origin) -> Base
     requires { length table.now ≤ 255 }
     ensures { result ≡ object_base (local_number table.now) (origin_base origin) }
 {
@@ -69,7 +69,7 @@ fn local_base(table: &[usize], origin: Origin) -> Base
     }
 }
 
-fn local_value(table: &[usize], value: Located) -> Value
+fn local_value(table: &[u32], value: Located) -> Value
     requires { length table.now ≤ 255 }
     ensures { result ≡ object_value (local_number table.now) (located_value value) }
 {
@@ -81,7 +81,7 @@ fn local_value(table: &[usize], value: Located) -> Value
     }
 }
 
-fn global_origin(table: &[usize], base: Base) -> Origin
+fn global_origin(table: &[u32], base: Base) -> Origin
     ensures { origin_base result ≡ object_base (id_at table.now) base }
 {
     match base {
@@ -91,7 +91,7 @@ fn global_origin(table: &[usize], base: Base) -> Origin
     }
 }
 
-fn global_value(table: &[usize], value: Value) -> Located
+fn global_value(table: &[u32], value: Value) -> Located
     ensures { located_value result ≡ global_value table.now value }
 {
     Located {
@@ -103,7 +103,7 @@ fn global_value(table: &[usize], value: Value) -> Located
 }
 
 // The value by the numbers of a table, if its segment is in it.
-fn value_if_there(table: &[usize], value: Option<Located>) -> Option<Value>
+fn value_if_there(table: &[u32], value: Option<Located>) -> Option<Value>
     requires { length table.now ≤ 255 }
     ensures { result
         ≡ option_map (object_value (local_number table.now)) (if_there table.now (option_map located_value value)) }
@@ -121,7 +121,7 @@ fn value_if_there(table: &[usize], value: Option<Located>) -> Option<Value>
 }
 
 // Whether the segment of a value is in a table.
-fn is_there(table: &[usize], origin: Origin) -> bool
+fn is_there(table: &[u32], origin: Origin) -> bool
     ensures { result ≡ has_base table.now (origin_base origin) }
 {
     match origin {
@@ -131,7 +131,7 @@ fn is_there(table: &[usize], origin: Origin) -> bool
 }
 
 // The first 255 of a table.
-fn front(table: &[usize]) -> &[usize]
+fn front(table: &[u32]) -> &[u32]
     ensures front { result.now ≡ take 255 table.now }
     ensures short { length result.now ≤ 255 }
 {
@@ -146,7 +146,7 @@ fn front(table: &[usize]) -> &[usize]
 #[derive(Clone, Copy)]
 struct Local<'a, P> {
     names: &'a P,
-    table: &'a [usize],
+    table: &'a [u32],
 }
 
 impl<'a, P: Places> Lookup for Local<'a, P> {
@@ -173,7 +173,7 @@ impl<'a, P: Places> Lookup for Local<'a, P> {
 }
 
 // The segment that a value counts from, at the end of a table.
-fn push_origin(table: &mut ListOf<usize>, value: Option<Located>) -> Result<(), NoMemory>
+fn push_origin(table: &mut ListOf<u32>, value: Option<Located>) -> Result<(), NoMemory>
     ensures { OnOk result (table.new ≡ table.old ++ value_ids (option_map located_value value)) }
 {
     match value {
@@ -190,7 +190,7 @@ fn push_origin(table: &mut ListOf<usize>, value: Option<Located>) -> Result<(), 
 }
 
 // The segments that the names of an expression count from, at the end of a table.
-fn push_origins<P: Places>(names: &P, e: &Expr, table: &mut ListOf<usize>) -> Result<(), NoMemory>
+fn push_origins<P: Places>(names: &P, e: &Expr, table: &mut ListOf<u32>) -> Result<(), NoMemory>
     ensures { OnOk result (table.new ≡ table.old ++ ids_in (P.meanings names.now) (tree_of e.now)) }
 {
     match e {
@@ -205,7 +205,7 @@ fn push_origins<P: Places>(names: &P, e: &Expr, table: &mut ListOf<usize>) -> Re
 }
 
 // The segments that the statement and the names of an expression count from.
-fn origins_of<P: Places>(alloc: Global, names: &P, e: &Expr) -> Result<ListOf<usize>, NoMemory>
+fn origins_of<P: Places>(alloc: Global, names: &P, e: &Expr) -> Result<ListOf<u32>, NoMemory>
     ensures { IfOk result (λ table. table
         ≡ base_ids (P.meanings names.now).here.base ++ ids_in (P.meanings names.now) (tree_of e.now)) }
 {
@@ -216,7 +216,7 @@ fn origins_of<P: Places>(alloc: Global, names: &P, e: &Expr) -> Result<ListOf<us
 }
 
 // A value of a table's numbers over all segments again, or a fault.
-fn global(table: &[usize], value: Result<Value, ExprError>) -> Result<Located, ExprError>
+fn global(table: &[u32], value: Result<Value, ExprError>) -> Result<Located, ExprError>
     ensures { located result ≡ global table.now value }
 {
     match value {
@@ -232,7 +232,7 @@ pub(crate) fn evaluate<P: Places>(
     names: &P,
     e: &Expr,
 ) -> Result<Result<Located, ExprError>, NoMemory>
-    requires { names_in (tree_of e.now) ≤ 254 }
+    requires { count_of_names (tree_of e.now) ≤ 254 }
     ensures { IfOk result (λ value. located value ≡ value_of (P.meanings names.now) (tree_of e.now)) }
 {
     let origins = origins_of(alloc, names, e)?;
@@ -248,7 +248,7 @@ pub(crate) fn form_to<P: Places>(
     verb: Verb,
     target: &Expr,
 ) -> Result<Jump, NoMemory>
-    requires { names_in (tree_of target.now) ≤ 254 }
+    requires { count_of_names (tree_of target.now) ≤ 254 }
     ensures { IfOk result (λ form. form
         ≡ jump_form_of (P.meanings names.now) verb (value_of (P.meanings names.now) (tree_of target.now))) }
 {

@@ -1,5 +1,6 @@
 -- Bases that are raised after extents.
-use Rattle.std.proofs.Common.{◌≡◌, ◌≢◌, inl, inr, ℕ, zero, suc, ◌+◌, ◌<◌, ◌≤◌, List, length, take, get_or, Option, Some, None, refl, sym, subst, ◌∙◌, arith}
+use Rattle.std.proofs.Common.{◌≡◌, ◌≢◌, inl, inr, ℕ, zero, suc, ◌+◌, ◌<◌, ◌≤◌, List, length, take, get_or, Option, Some}
+use Rattle.std.proofs.Common.{None, refl, sym, subst, ◌∙◌, arith}
 use Rattle.std.specs.Prelude.{MatchOption, ◌↔◌}
 use Rattle.std.specs.List.{All}
 use Rattle.std.proofs.lemmas.List.Elements.{All-more}
@@ -8,7 +9,8 @@ use Rattle.m51_cells.specs.declared.extent.Extent.{Extent}
 use Rattle.m51_cells.specs.declared.kind.Kind.{Kind}
 use Rattle.m51_cells.specs.declared.kind.Kind.TheVariants.{Code, Xdata, Direct, Idata, Bits, Number}
 use Rattle.m51_cells.specs.declared.kind.Reloc.{Reloc}
-use Rattle.m51_cells.specs.declared.kind.Reloc.TheVariants.{Abs, Unit as UnitType, Bitaddressable, Inpage, Inblock, Page}
+use Rattle.m51_cells.specs.declared.kind.Reloc.TheVariants.{Abs, Unit as UnitType, Bitaddressable, Inpage, Inblock}
+use Rattle.m51_cells.specs.declared.kind.Reloc.TheVariants.{Page}
 use Rattle.m51_cells.specs.Extent.{extent_of, Covers, Meet}
 use Rattle.m51_cells.specs.Fits.{Fits, FitsBlock, FitsMemory}
 use Rattle.m51_cells.proofs.Meeting.{parted, shared}
@@ -29,7 +31,9 @@ higher Code size base lower ne h = record { space = refl; len = refl; first = h 
 higher Number size base lower ne h = absurd (ne refl)
 
 -- it meets what it first_met, as long as it begins before its end
-meets_on : (kind : Kind) (size base lower : ℕ) (e : Extent) → kind ≢ Number → base ≤ lower → Meet e (extent_of kind base size) → (extent_of kind lower size).first < e.first + e.len → Meet e (extent_of kind lower size)
+meets_on : (kind : Kind) (size base lower : ℕ) (e : Extent) → kind ≢ Number → base ≤ lower
+    → Meet e (extent_of kind base size) → (extent_of kind lower size).first < e.first + e.len
+    → Meet e (extent_of kind lower size)
 meets_on kind size base lower e ne h meet before =
     let a : Extent = extent_of kind base size in
     let b : Extent = extent_of kind lower size in
@@ -37,7 +41,8 @@ meets_on kind size base lower e ne h meet before =
     let o = parted e a meet in
     let ca : Covers e meet.0 = meet.1 in
     let cb : Covers a meet.0 = meet.2 in
-    shared e b (sym ca.space ∙ cb.space ∙ up.space) o.first_some (omega (arith, o.second_some, up.len)) (omega (arith, o.first_before, up.len, up.first)) before
+    shared e b (sym ca.space ∙ cb.space ∙ up.space) o.first_some (omega (arith, o.second_some, up.len))
+    (omega (arith, o.first_before, up.len, up.first)) before
 
 -- a segment that covers a cell fits below the end of the largest memory
 some_size : (kind : Kind) (base size : ℕ) → kind ≢ Number → 0 < (extent_of kind base size).len → 0 < size
@@ -76,7 +81,8 @@ fits_most Code reloc base size some h = memory_most reloc base size some h
 fits_most Xdata reloc base size some h = memory_most reloc base size some h
 fits_most Number reloc base size some h = absurd h
 
-module _ (kind : Kind) (reloc : Reloc) (size : ℕ) (e : Extent) (base from : ℕ) (ne : kind ≢ Number) (meet : Meet e (extent_of kind base size))
+module _ (kind : Kind) (reloc : Reloc) (size : ℕ) (e : Extent) (base from : ℕ) (ne : kind ≢ Number)
+    (meet : Meet e (extent_of kind base size))
     (after : (lower n : ℕ) → (lower < from) ↔ ((extent_of kind lower n).first < e.first + e.len)) where
   under : base < from
   under = (after base size).1 (parted e (extent_of kind base size) meet).second_before
@@ -84,7 +90,8 @@ module _ (kind : Kind) (reloc : Reloc) (size : ℕ) (e : Extent) (base from : �
   in_the_way : (lower : ℕ) → base ≤ lower → lower < from → Meet e (extent_of kind lower size)
   in_the_way lower h less = meets_on kind size base lower e ne h meet ((after lower size).0 less)
 
-  pub raised_is : (found : Option ℕ) → MatchOption found (HasNoFit kind reloc size from) (λ next. IsNextFit kind reloc size from next)
+  pub raised_is : (found : Option ℕ)
+      → MatchOption found (HasNoFit kind reloc size from) (λ next. IsNextFit kind reloc size from next)
       → MatchOption found (IsBlocked kind reloc size e base) (λ next. IsRaised kind reloc size e base next)
   raised_is None h = λ lower up fits. elim (cases_lt lower from) as (λ _. Meet e (extent_of kind lower size)) [
     | inl less ↦ in_the_way lower up less
@@ -105,20 +112,25 @@ module _ (kind : Kind) (reloc : Reloc) (size : ℕ) (e : Extent) (base from : �
       }
 
 -- going over the extents
-module _ (extents : List Extent) (kind : Kind) (reloc : Reloc) (size base i : ℕ) (d : Extent) (next : ℕ) (below : i < length extents) where
-  pub none_more : (raised : ℕ) → NoneBelow extents kind reloc size next → IsRaised kind reloc size (get_or extents i d) next raised → NoneBelow extents kind reloc size raised
+module _ (extents : List Extent) (kind : Kind) (reloc : Reloc) (size base i : ℕ) (d : Extent) (next : ℕ)
+    (below : i < length extents) where
+  pub none_more : (raised : ℕ) → NoneBelow extents kind reloc size next
+      → IsRaised kind reloc size (get_or extents i d) next raised → NoneBelow extents kind reloc size raised
   none_more raised none h lower less clear = elim (cases_lt lower next) as (λ _. ⊥) [
     | inl under' ↦ none lower under' clear
     | inr up ↦ (clear.outside i d below).none (h.blocked lower up less clear.fits)
   ]
 
-  pub none_at_all : NoneBelow extents kind reloc size next → IsBlocked kind reloc size (get_or extents i d) next → (lower : ℕ) → IsClear extents kind reloc size lower → ⊥
+  pub none_at_all : NoneBelow extents kind reloc size next → IsBlocked kind reloc size (get_or extents i d) next
+      → (lower : ℕ) → IsClear extents kind reloc size lower → ⊥
   none_at_all none h lower clear = elim (cases_lt lower next) as (λ _. ⊥) [
     | inl under' ↦ none lower under' clear
     | inr up ↦ (clear.outside i d below).none (h lower up clear.fits)
   ]
 
-  pub outside_more : (raised : ℕ) → base ≤ next → (next ≡ base → All (IsOutside (extent_of kind base size)) (take i extents)) → IsRaised kind reloc size (get_or extents i d) next raised
+  pub outside_more : (raised : ℕ) → base ≤ next
+      → (next ≡ base → All (IsOutside (extent_of kind base size)) (take i extents))
+      → IsRaised kind reloc size (get_or extents i d) next raised
       → raised ≡ base → All (IsOutside (extent_of kind base size)) (take (i + 1) extents)
   outside_more raised up outside h same =
       let still : next ≡ base = omega (arith, up, h.not_below, same) in

@@ -1,20 +1,14 @@
 -- The kept file is read as the image, which runs alike on one memory.
-use Rattle.std.proofs.Common.{◌≡◌, ℕ, List, Option, Some, None, Ok, sym, subst, ◌∙◌}
-use Rattle.std.proofs.lemmas.Option.{same_Some}
+use Rattle.m51_build_proof.proofs.Common.{◌≡◌, ℕ, List, Option, Some, None, Ok, sym, subst, ◌∙◌, same_Some, Linked}
+use Rattle.m51_build_proof.proofs.Common.{Script, BuildJob, Build, Outcome, AreOfBytes, IsBuilt, separate_run}
 use Rattle.m51_hex.specs.Memory.{memory_in}
 use Rattle.m51_hex.specs.Reading.{memory_from}
 use Rattle.m51_hex.specs.Writing.{hex_of}
 use Rattle.m51_hex.proofs.RoundTrip.{written_is_read}
-use Rattle.m51_linker.specs.declared.linked.Linked.{Linked}
-use Rattle.m51_script.specs.declared.script.Script.{Script}
 use Rattle.m51_sim.specs.Cycles.{inputs_of}
 use Rattle.m51_sim.proofs.Keeping.{flat_runs_agree}
-use Rattle.m51_jobs.specs.declared.job.BuildJob.{BuildJob}
-use Rattle.m51_jobs.specs.declared.job.Job.TheVariants.{Build}
-use Rattle.m51_verbs.specs.Outcome.{Outcome}
 use Rattle.m51_chain.specs.Programs.{hex_kept}
 use Rattle.m51_chain.specs.Verbs.{IsOutcome}
-use Rattle.m51_build_proof.specs.Builds.{AreOfBytes, IsBuilt, separate_run}
 use Rattle.m51_build_proof.specs.Headline.{RunsAlike}
 use Rattle.m51_build_proof.proofs.Erased.{erased_outside}
 use Rattle.m51_build_proof.proofs.PieceBytes.{image_bytes}

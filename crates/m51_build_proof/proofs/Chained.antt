@@ -1,12 +1,9 @@
 -- The top call keeps the headline.
-use Rattle.std.proofs.Common.{◌≡◌, ◌⊎◌, inl, inr, ℕ, Bool, true, false, cond, nat_le, List, [], ◌∷◌, length, Option}
-use Rattle.std.proofs.Common.{Some, None, refl, sym, ap, subst, ◌∙◌}
-use Rattle.std.proofs.lemmas.List.Elements.{All-cons, All-nil}
-use Rattle.std.proofs.lemmas.Option.{same_Some}
+use Rattle.m51_build_proof.proofs.Common.{◌≡◌, ◌⊎◌, inl, inr, ℕ, Bool, true, false, cond, nat_le, List, [], ◌∷◌, length}
+use Rattle.m51_build_proof.proofs.Common.{Option, Some, None, refl, sym, ap, subst, ◌∙◌, All-cons, All-nil, same_Some}
+use Rattle.m51_build_proof.proofs.Common.{BuildJob, Build, AreOfBytes}
 use Rattle.m51_cells.specs.declared.limits.TheConstants.{MOST_FILE_BYTES}
-use Rattle.m51_jobs.specs.declared.job.BuildJob.{BuildJob}
 use Rattle.m51_jobs.specs.declared.job.Job.{Job}
-use Rattle.m51_jobs.specs.declared.job.Job.TheVariants.{Build}
 use Rattle.m51_jobs.specs.Files.{names_read}
 use Rattle.m51_args.specs.Jobs.{job_of}
 use Rattle.m51_verbs.specs.declared.status.Status.{Status}
@@ -18,7 +15,7 @@ use Rattle.m51_chain.specs.Outside.{Change}
 use Rattle.m51_verbs.specs.Reading.{Absent, Reading, TooLong, Whole, read_of, read_one, with_file}
 use Rattle.m51_shelf.specs.Shelf.{Files}
 use Rattle.m51_chain.specs.Told.{Ended, IsTold, IsUnread, Written}
-use Rattle.m51_build_proof.specs.Builds.{AreBytes, AreOfBytes}
+use Rattle.m51_build_proof.specs.Builds.{IsByteList}
 use Rattle.m51_build_proof.specs.FromChain.{ChainKeepsPromise, HoldBytes, KeepsPromise}
 use Rattle.m51_build_proof.proofs.Promised.{headline}
 
@@ -26,11 +23,11 @@ use Rattle.m51_build_proof.proofs.Promised.{headline}
 whole_same : (xs ys : List (List ℕ)) → Whole xs ≡ Whole ys → xs ≡ ys
 whole_same xs ys h = cc h
 
-one_of_bytes : (file : List ℕ) (rest : Reading) (contents : List (List ℕ)) (b : Bool) → AreBytes file
+one_of_bytes : (file : List ℕ) (rest : Reading) (contents : List (List ℕ)) (b : Bool) → IsByteList file
     → ((more : List (List ℕ)) → rest ≡ Whole more → AreOfBytes more)
     → cond b (with_file file rest) TooLong ≡ Whole contents → AreOfBytes contents
 one_of_bytes file (Whole more) contents true h k e =
-    subst AreOfBytes (whole_same (file ∷ more) contents e) (All-cons AreBytes file more h (k more refl))
+    subst AreOfBytes (whole_same (file ∷ more) contents e) (All-cons IsByteList file more h (k more refl))
 one_of_bytes file TooLong contents true h k e = absurd (cc e)
 one_of_bytes file (Absent name) contents true h k e = absurd (cc e)
 one_of_bytes file rest contents false h k e = absurd (cc e)
@@ -45,7 +42,7 @@ named_of_bytes held h name (Some file) rest contents is k e =
 
 of_bytes : (held : Files) → HoldBytes held → (names contents : List (List ℕ)) → read_of held names ≡ Whole contents
     → AreOfBytes contents
-of_bytes held h [] contents e = subst AreOfBytes (whole_same [] contents e) (All-nil AreBytes)
+of_bytes held h [] contents e = subst AreOfBytes (whole_same [] contents e) (All-nil IsByteList)
 of_bytes held h (name ∷ names) contents e =
     named_of_bytes held h name (held name) (read_of held names) contents refl (λ more is. of_bytes held h names more is)
     e

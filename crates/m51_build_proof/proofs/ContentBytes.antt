@@ -1,11 +1,11 @@
 -- What the lines of a source give are bytes.
-use Rattle.std.proofs.Common.{◌≡◌, ℕ, zero, suc, ◌%◌, ◌<◌, nat_lt, Bool, true, false, cond, List, [], ◌∷◌, ◌++◌, length}
-use Rattle.std.proofs.Common.{map, take, drop, Option, Some, None, Ok, Err, refl, sym, subst, arith}
+use Rattle.m51_build_proof.proofs.Common.{◌≡◌, ℕ, zero, suc, ◌%◌, ◌<◌, nat_lt, Bool, true, false, cond, List, [], ◌∷◌}
+use Rattle.m51_build_proof.proofs.Common.{◌++◌, length, map, drop, Option, Some, None, Ok, Err, refl, sym, subst, arith}
+use Rattle.m51_build_proof.proofs.Common.{same_Ok, Instr, Value, Tree, Valued, IsBytes, BodyTree, IsTree}
+use Rattle.std.proofs.Common.{take}
 use Rattle.std.specs.Prelude.{IfSome}
 use Rattle.std.proofs.lemmas.Bool.{ltb-true}
-use Rattle.m51_cells.proofs.Passing.{same_Ok}
 use Rattle.m51_isa.specs.declared.generics.Jump.{Jump}
-use Rattle.m51_isa.specs.declared.instr.Instr.{Instr}
 use Rattle.m51_isa.specs.declared.look.Look.{Look}
 use Rattle.m51_isa.specs.declared.look.Look.TheVariants as look
 use Rattle.m51_isa.specs.declared.slot.Field.{Field}
@@ -14,12 +14,10 @@ use Rattle.m51_isa.specs.declared.slot.FieldSlot.{FieldSlot}
 use Rattle.m51_isa.specs.Filling.{with_numbers}
 use Rattle.m51_isa.specs.Spelling.{look_of, text_of}
 use Rattle.m51_isa.specs.Table.{encoded, padded}
-use Rattle.m51_isa.specs.TextLaws.{IsWritten, meant_by}
+use Rattle.m51_isa.specs.TextLaws.{HasRowText, meant_by}
 use Rattle.m51_isa.specs.Generic.{generic}
 use Rattle.m51_isa.proofs.RowsFilled.{texts_are_rows}
-use Rattle.m51_expr.specs.declared.value.Value.{Value}
-use Rattle.m51_expr.specs.Tree.{Tree}
-use Rattle.m51_expr.specs.Value.{Valued, counted}
+use Rattle.m51_expr.specs.Value.{counted}
 use Rattle.m51_expr.specs.Meanings.{Meanings}
 use Rattle.m51_expr.specs.Evaluation.{value_of}
 use Rattle.m51_expr.specs.Looks.{look_of as operand_look}
@@ -31,7 +29,8 @@ use Rattle.m51_encode.specs.declared.reference.FieldValue.TheVariants.{Number, L
 use Rattle.m51_encode.specs.declared.reference.Reference.{Reference}
 use Rattle.m51_encode.specs.declared.item.Width.TheVariants.{Byte, Word}
 use Rattle.m51_encode.specs.Bases.{is_current, is_linked, stands_absolute}
-use Rattle.m51_encode.specs.Coding.{Line, coded, coded_by, coded_line, first_of, gathered, line_of, line_row, look_in}
+use Rattle.m51_encode.specs.Coding.{Line, coded, coded_by, coded_line, first_of, gathered, instruction_line, line_row}
+use Rattle.m51_encode.specs.Coding.{look_in}
 use Rattle.m51_encode.specs.Coding.{second_of, third_of}
 use Rattle.m51_encode.specs.FieldValues.{addr11_of, block_of, distance, field_of, is_near, is_taken, rel_of}
 use Rattle.m51_encode.specs.FieldValues.{relative_of, same_block, stored_of, taken_of}
@@ -41,14 +40,11 @@ use Rattle.m51_encode.specs.Items.{item_field}
 use Rattle.m51_encode.specs.Reference.{reference_of}
 use Rattle.m51_encode.specs.Taking.{held_of}
 use Rattle.m51_emit.specs.Content.{coded_content, content_by, item_content, item_given, joined}
-use Rattle.m51_records.proofs.FieldLaws.{IsBytes}
 use Rattle.m51_stmt.specs.Statement as body
-use Rattle.m51_stmt.specs.Statement.{BodyTree}
 use Rattle.m51_stmt.specs.Laws.{IsByte}
 use Rattle.m51_stmt.proofs.ListWords.{Each}
 use Rattle.m51_stmt.proofs.PrintedLists.{IsItem}
 use Rattle.m51_stmt.proofs.PrintedOperands.{IsOperand}
-use Rattle.m51_stmt.proofs.PrintedTrees.{IsTree}
 use Rattle.m51_asm.proofs.ContentFields.{Held}
 use Rattle.m51_build_proof.proofs.ReadBodies.{IsSmallBody, IsTextItem}
 use Rattle.m51_build_proof.proofs.RowBytes.{LookFits, row_bytes}
@@ -245,7 +241,7 @@ look_fits : (o : Option OperandTree) → LookFits (look_in o)
 look_fits (Some o) = operand_fits o
 look_fits None = tt
 
-written_fits : (word : List ℕ) (a b c : Look) (i : Instr) → IsWritten word a b c i → LookFits a → LookFits b
+written_fits : (word : List ℕ) (a b c : Look) (i : Instr) → HasRowText word a b c i → LookFits a → LookFits b
     → LookFits c → LooksFit i
 written_fits word a b c i is ha hb hc = record {
   first = subst LookFits (sym is.first) ha;
@@ -262,8 +258,8 @@ row_coded names are l h None is = tt
 row_coded names are l h (Some i) is =
     let meant = texts_are_rows.meant l.mnemonic l.jump (look_in l.first) (look_in l.second) (look_in l.third) in
     let word = meant_by l.mnemonic l.jump (generic l.mnemonic (look_in l.first) (look_in l.second) (look_in l.third)) in
-    let written : IsWritten word (look_in l.first) (look_in l.second) (look_in l.third) i =
-    subst (λ (o : Option Instr). IfSome o (IsWritten word (look_in l.first) (look_in l.second) (look_in l.third))) is
+    let written : HasRowText word (look_in l.first) (look_in l.second) (look_in l.third) i =
+    subst (λ (o : Option Instr). IfSome o (HasRowText word (look_in l.first) (look_in l.second) (look_in l.third))) is
     meant in
     gathered_bytes i (written_fits word _ _ _ i written (look_fits l.first) (look_fits l.second) (look_fits l.third))
     (first_of names i l.first) (second_of names i l.second) (third_of names i l.third)
@@ -275,7 +271,7 @@ IfLine None = Unit {0}
 IfLine (Some l) = OperandsAre l
 
 line_operands : (mnemonic : List ℕ) (operands : List OperandTree) (jump : Jump) → Each IsOperand operands
-    → IfLine (line_of mnemonic operands jump)
+    → IfLine (instruction_line mnemonic operands jump)
 line_operands mnemonic [] jump h = (tt, (tt, tt))
 line_operands mnemonic (a ∷ []) jump h = (h.0, (tt, tt))
 line_operands mnemonic (a ∷ b ∷ []) jump h = (h.0, (h.1.0, tt))
@@ -291,7 +287,7 @@ code_bytes : (names : Meanings) → AreSmall names → (mnemonic : List ℕ) (op
     → Each IsOperand operands → IsBytes (coded_content (coded names mnemonic operands jump)).bytes
 unfolding coded
 code_bytes names are mnemonic operands jump h =
-    line_bytes names are (line_of mnemonic operands jump) (line_operands mnemonic operands jump h)
+    line_bytes names are (instruction_line mnemonic operands jump) (line_operands mnemonic operands jump h)
 
 -- items of DB and DW
 byte_bytes : (item : ItemTree) (r : Answer (Option FieldValue)) → IsTextItem item

@@ -1,17 +1,12 @@
 -- The control lines of a file that is accepted are few, and each is one that is allowed.
-use Rattle.std.proofs.Common.{◌≡◌, ℕ, suc, ◌+◌, ◌≤◌, Bool, true, false, cond, nat_lt, List, [], ◌∷◌, length, Option}
-use Rattle.std.proofs.Common.{Some, None, Ok, Err, refl, sym, subst, arith}
-use Rattle.std.specs.List.{All}
+use Rattle.m51_build_proof.proofs.Common.{◌≡◌, ℕ, suc, ◌+◌, ◌≤◌, Bool, true, false, cond, nat_lt, List, [], ◌∷◌, length}
+use Rattle.m51_build_proof.proofs.Common.{Option, Some, None, Ok, Err, refl, sym, subst, arith, All, ltb-false, All-nil}
+use Rattle.m51_build_proof.proofs.Common.{All-cons, same_Ok, Control, ControlError, AreKept}
 use Rattle.std.specs.Str.Lines.{lines}
-use Rattle.std.proofs.lemmas.Bool.{ltb-false}
-use Rattle.std.proofs.lemmas.List.Elements.{All-nil, All-cons}
 use Rattle.m51_cells.specs.declared.limits.TheConstants.{MOST_CONTROL_LINES}
 use Rattle.m51_cells.specs.Blanks.{is_skipped}
-use Rattle.m51_cells.proofs.Passing.{same_Ok}
-use Rattle.m51_control.specs.declared.control.Control.{Control}
-use Rattle.m51_control.specs.declared.error.ControlError.{ControlError}
 use Rattle.m51_control.specs.declared.error.ControlError.TheVariants.{Limit}
-use Rattle.m51_control.specs.Controls.{AreKept, IsAllowed, Read, controls_of, read_from, with_line}
+use Rattle.m51_control.specs.Controls.{IsAllowed, Read, controls_of, controls_from, with_line}
 use Rattle.m51_control.specs.Grammar.{control_of}
 use Rattle.m51_control.specs.Written.{Adds, Cuts, Keeps, Orders, Reserves, Says}
 use Rattle.m51_control.proofs.LineLaws.{line_law}
@@ -37,7 +32,8 @@ record AreAllowed (most : ℕ) (controls : List (ℕ × Control)) : Type 0 where
 
 with_one : (number most : ℕ) (line : List ℕ) (o : Option Control) (after : Read) (controls : List (ℕ × Control))
     → control_of line ≡ o
-    → ((rest : List (ℕ × Control)) → after ≡ Ok rest → AreAllowed most rest) → with_line number o after ≡ Ok controls
+    → ((rest : List (ℕ × Control)) → after ≡ Ok rest → AreAllowed most rest) → with_line number o after
+    ≡ Ok controls
     → AreAllowed (suc most) controls
 with_one number most line None after controls found rest h = absurd (cc h)
 with_one number most line (Some control) (Err error) controls found rest h = absurd (cc h)
@@ -58,17 +54,18 @@ skipped true number most line after controls rest h = let more = rest controls h
 skipped false number most line after controls rest h =
     with_one number most line (control_of line) after controls refl rest h
 
-are_allowed : (number : ℕ) (all : List (List ℕ)) (controls : List (ℕ × Control)) → read_from number all ≡ Ok controls
+are_allowed : (number : ℕ) (all : List (List ℕ)) (controls : List (ℕ × Control)) → controls_from number all
+    ≡ Ok controls
     → AreAllowed (length all) controls
 are_allowed number [] controls h =
     subst (AreAllowed 0) (same_Ok {A = List (ℕ × Control)} {E = ControlError} [] controls h)
     (record { few = omega arith; each = All-nil IsAllowedLine })
 are_allowed number (line ∷ more) controls h =
-    skipped (is_skipped line) number (length more) line (read_from (number + 1) more) controls
+    skipped (is_skipped line) number (length more) line (controls_from (number + 1) more) controls
     (λ rest k. are_allowed (number + 1) more rest k) h
 
 within : (b : Bool) (all : List (List ℕ)) (controls : List (ℕ × Control)) → nat_lt MOST_CONTROL_LINES (length all) ≡ b
-    → cond b (Err Limit) (read_from 1 all) ≡ Ok controls → AreKept controls
+    → cond b (Err Limit) (controls_from 1 all) ≡ Ok controls → AreKept controls
 within true all controls few h = absurd (cc h)
 within false all controls few h =
     let read = are_allowed 1 all controls h in

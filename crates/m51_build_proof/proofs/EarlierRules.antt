@@ -1,49 +1,34 @@
 -- The line of L12 comes only where the build comes as far as placing: no earlier step has it.
-use Rattle.std.proofs.Common.{◌≡◌, ℕ, ◌+◌, nat_eq, Bool, true, false, cond, List, [], ◌∷◌, length, Option, Some, None}
-use Rattle.std.proofs.Common.{Result, Ok, Err, refl, sym, ap, subst, ◌∙◌}
-use Rattle.std.specs.Prelude.{nat_lt, option_map}
-use Rattle.std.specs.List.{list_any}
-use Rattle.std.specs.Option.{option_or}
-use Rattle.std.proofs.lemmas.Option.{same_Some}
-use Rattle.m51_cells.specs.Outcome.{and_then}
+use Rattle.m51_build_proof.proofs.Common.{◌≡◌, ℕ, ◌+◌, Bool, true, false, cond, List, [], ◌∷◌, length, Option, Some}
+use Rattle.m51_build_proof.proofs.Common.{None, Result, Ok, Err, refl, sym, ap, subst, ◌∙◌, option_map, list_any}
+use Rattle.m51_build_proof.proofs.Common.{option_or, same_Some, and_then, Control, Refusal, L1, L2, L3, L4, L5, L6, L7}
+use Rattle.m51_build_proof.proofs.Common.{L12, Limit, ModuleParts, chosen_of, members_of, segments_of, first_refusal}
+use Rattle.m51_build_proof.proofs.Common.{resolved_of, unless_refused, GraphParts, graph_of, unless, leads}
+use Rattle.m51_build_proof.proofs.Common.{refusal_text, joined_of, placed_of, InputError, InputsTree, BuildJob}
+use Rattle.m51_build_proof.proofs.Common.{build_files, input_outcome, Follows, IsInputsOutcome, IsProgramOutcome}
+use Rattle.m51_build_proof.proofs.Common.{Unlinked, program_in, Outcome, AreAnswered, Given, IsGivenOutcome, Refused}
+use Rattle.m51_build_proof.proofs.Common.{IsReport, AreOfBytes}
+use Rattle.std.proofs.Common.{nat_eq}
+use Rattle.std.specs.Prelude.{nat_lt}
 use Rattle.m51_cells.specs.declared.limits.TheConstants.{MOST_MODULES, MOST_SEGMENTS, MOST_UNITS}
-use Rattle.m51_control.specs.declared.control.Control.{Control}
 use Rattle.m51_control.specs.declared.error.ControlError.TheVariants as control
 use Rattle.m51_module.specs.declared.library_error.LibError.TheVariants as library
 use Rattle.m51_module.specs.declared.linked.Quantity.{Quantity}
 use Rattle.m51_module.specs.declared.linked.Quantity.TheVariants.{Modules, Segments, Units}
-use Rattle.m51_module.specs.declared.linked.Refusal.{Refusal}
-use Rattle.m51_module.specs.declared.linked.Refusal.TheVariants.{L1, L2, L3, L4, L5, L6, L7, L8, L12, Limit}
-use Rattle.m51_module.specs.declared.parts.ModuleParts.{ModuleParts}
-use Rattle.m51_resolve.specs.Choice.{chosen_of, members_of}
-use Rattle.m51_resolve.specs.Joining.{segments_of}
-use Rattle.m51_resolve.specs.Rules.{contrary_external, first_refusal, large_segment, mixed_segment, more_than}
-use Rattle.m51_resolve.specs.Rules.{resolved_of, shared_public, undefined_external, units_of, unless_refused}
-use Rattle.m51_graph.specs.declared.parts.GraphParts.{GraphParts}
+use Rattle.m51_module.specs.declared.linked.Refusal.TheVariants.{L8}
+use Rattle.m51_resolve.specs.Rules.{contrary_external, large_segment, mixed_segment, more_than}
+use Rattle.m51_resolve.specs.Rules.{shared_public, undefined_external, joined_units}
 use Rattle.m51_graph.specs.Drawing.{edges_of, fixup_edges}
-use Rattle.m51_graph.specs.Graphs.{cyclic_from, first_under_two, graph_of, has_overlaid, on_cycles, parts_of}
-use Rattle.m51_graph.specs.Graphs.{roots_above, under_two, unit_under_two, unless}
-use Rattle.m51_graph.specs.Leading.{leads}
+use Rattle.m51_graph.specs.Graphs.{cyclic_from, first_under_two, has_overlaid, on_cycles, parts_of}
+use Rattle.m51_graph.specs.Graphs.{roots_above, under_two, unit_under_two}
 use Rattle.m51_graph.specs.Lines.{bad_line}
 use Rattle.m51_graph.specs.Locals.{lost_segment}
 use Rattle.m51_graph.specs.Units.{unit_titles}
-use Rattle.m51_print.specs.Refusals.{refusal_text}
-use Rattle.m51_linker.specs.Link.{joined_of, placed_of}
-use Rattle.m51_inputs.specs.declared.error.InputError.{InputError}
 use Rattle.m51_inputs.specs.declared.error.InputError.TheVariants as input
-use Rattle.m51_inputs.specs.Inputs.{InputsTree}
 use Rattle.m51_script.specs.declared.error.ScriptError.TheVariants as script
 use Rattle.m51_sim.specs.Report.{report_of}
-use Rattle.m51_jobs.specs.declared.job.BuildJob.{BuildJob}
 use Rattle.m51_verbs.specs.declared.status.Status.TheVariants.{Link}
-use Rattle.m51_chain.specs.Builds.{build_files}
-use Rattle.m51_chain.specs.InputRefusals.{input_outcome}
-use Rattle.m51_chain.specs.Linking.{Follows, IsInputsOutcome, IsProgramOutcome, Unlinked, program_in}
-use Rattle.m51_verbs.specs.Outcome.{Outcome}
-use Rattle.m51_chain.specs.ProgramFiles.{AreAnswered, Given, IsGivenOutcome, Refused}
-use Rattle.m51_chain.specs.Programs.{IsReport}
 use Rattle.m51_build_proof.specs.Overlay.{ComesToPlacing, L12OnlyAtPlacing}
-use Rattle.m51_build_proof.specs.Builds.{AreOfBytes}
 use Rattle.m51_build_proof.proofs.Outcomes.{not_link}
 use Rattle.m51_build_proof.proofs.RefusalLines.{line_of_l12}
 
@@ -78,7 +63,7 @@ module _ (name : List ℕ) where
       (next _ _ (other_rule L3 (contrary_external modules) (λ text e. absurd (cc e)))
       (next _ _ (other_rule L4 (mixed_segment modules) (λ text e. absurd (cc e)))
       (next _ _ (not_limit MOST_SEGMENTS Segments (length (segments_of modules)))
-      (next _ _ (not_limit MOST_UNITS Units (length (units_of modules)))
+      (next _ _ (not_limit MOST_UNITS Units (length (joined_units modules)))
       (next _ _ (other_rule L5 (large_segment modules) (λ text e. absurd (cc e))) no_more)))))))
 
   -- none of the rules on the graph

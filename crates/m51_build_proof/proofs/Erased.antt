@@ -1,34 +1,35 @@
 -- The image of a linked program is erased outside its runs: a field lies only where there is content.
-use Rattle.std.proofs.Common.{◌≡◌, ◌⊎◌, inl, inr, ℕ, zero, suc, ◌+◌, ◌-◌, ◌<◌, ◌≤◌, Bool, true, false, cond, ◌&&◌, List}
-use Rattle.std.proofs.Common.{[], ◌∷◌, ◌++◌, length, map, get_or, Option, Some, None, refl, sym, ap, subst, ◌∙◌, arith}
-use Rattle.std.specs.Prelude.{◌%◌, is_some, nat_le, nat_lt, option_map, slice_get, unwrap_or}
-use Rattle.std.specs.List.{All, Contains, cons_option, filter_map, flat_map, range_with_len}
-use Rattle.std.specs.Option.{option_map_or, option_or}
-use Rattle.std.proofs.lemmas.Bool.{le-leb, lt-ltb, leb-true}
-use Rattle.std.proofs.lemmas.List.Elements.{All-get_or, All-head, All-tail}
+use Rattle.m51_build_proof.proofs.Common.{◌≡◌, ◌⊎◌, inl, inr, ℕ, zero, suc, ◌+◌, ◌-◌, ◌<◌, ◌≤◌, Bool, true, false, cond}
+use Rattle.m51_build_proof.proofs.Common.{◌&&◌, List, [], ◌∷◌, ◌++◌, length, map, Option, Some, None, refl, sym, ap}
+use Rattle.m51_build_proof.proofs.Common.{subst, ◌∙◌, arith, option_map, slice_get, unwrap_or, All, flat_map}
+use Rattle.m51_build_proof.proofs.Common.{range_with_len, option_map_or, option_or, leb-true, All-head, All-tail}
+use Rattle.m51_build_proof.proofs.Common.{same_Some, IsImage, byte_at, content_of, byte_among, Piece, ModuleParts}
+use Rattle.m51_build_proof.proofs.Common.{IsValid, Placing}
+use Rattle.std.proofs.Common.{get_or}
+use Rattle.std.specs.Prelude.{◌%◌, is_some, nat_le, nat_lt}
+use Rattle.std.specs.List.{Contains, cons_option, filter_map}
+use Rattle.std.proofs.lemmas.Bool.{le-leb, lt-ltb}
+use Rattle.std.proofs.lemmas.List.Elements.{All-get_or}
 use Rattle.std.proofs.lemmas.List.Folds.{list_any_at}
-use Rattle.std.proofs.lemmas.Option.{get_or_from_slice_get, same_Some, slice_get_within}
+use Rattle.std.proofs.lemmas.Option.{get_or_from_slice_get, slice_get_within}
 use Rattle.m51_cells.proofs.Small.{first_or_after, none_in_empty}
 use Rattle.m51_hex.specs.Laws.{IsErasedOutside, is_in_run, is_in_runs}
 use Rattle.m51_hex.specs.Writing.{end_of}
 use Rattle.m51_isa.specs.Targets.{bit_address, fits_byte, in_one_block}
 use Rattle.m51_fields.specs.declared.fields.FieldBytes.{FieldBytes}
 use Rattle.m51_fields.specs.declared.fields.FieldBytes.TheVariants.{One}
-use Rattle.m51_fields.specs.Fields.{bytes_of, field_of, one_if}
-use Rattle.m51_linker.specs.Image.{IsFilled, IsImage, byte_at, content_of, fields_of, fixup_field, module_content}
+use Rattle.m51_fields.specs.Fields.{bytes_of_field, field_of, one_if}
+use Rattle.m51_linker.specs.Image.{IsFilled, fields_of, fixup_field, module_content}
 use Rattle.m51_linker.specs.Image.{module_fields, placed_field, placed_piece}
 use Rattle.m51_linker.specs.Runs.{AreRuns, IsInRun}
-use Rattle.m51_linker.specs.Stretches.{Stretch, byte_among, byte_in, stretch_at}
-use Rattle.m51_linker.specs.Targets.{address_of, start_of}
+use Rattle.m51_linker.specs.Stretches.{Stretch, byte_in, stretch_at}
+use Rattle.m51_linker.specs.Targets.{address_of, segment_address}
 use Rattle.m51_linker.proofs.RunsGrow.{ends_below}
 use Rattle.m51_module.specs.declared.content.Fixup.{Fixup}
 use Rattle.m51_module.specs.declared.content.Form.{Form}
 use Rattle.m51_module.specs.declared.content.Form.TheVariants.{Low, Byte, Relative, High, Word, Inblock, Bit, Conv}
-use Rattle.m51_module.specs.declared.content.Piece.{Piece}
 use Rattle.m51_module.specs.declared.linked.Run.{Run}
-use Rattle.m51_module.specs.declared.parts.ModuleParts.{ModuleParts}
-use Rattle.m51_module.specs.Validity.{IsFixupValid, IsHeld, IsValid, field_len}
-use Rattle.m51_place.specs.declared.placing.Placing.{Placing}
+use Rattle.m51_module.specs.Validity.{IsFixupValid, IsHeld, field_len}
 
 -- the stretch has a byte for the address
 record IsIn (s : Stretch) (address : ℕ) : Type 0 where
@@ -118,49 +119,50 @@ each_at f g address lead (k ∷ ks) h =
     ]
 
 -- a field has as many bytes as its form says
-one_len : (b : Bool) (byte : ℕ) (field : FieldBytes) → one_if b byte ≡ Some field → length (bytes_of field) ≡ 1
-one_len true byte field h = sym (ap (λ (f : FieldBytes). length (bytes_of f)) (same_Some _ field h))
+one_len : (b : Bool) (byte : ℕ) (field : FieldBytes) → one_if b byte ≡ Some field → length (bytes_of_field field) ≡ 1
+one_len true byte field h = sym (ap (λ (f : FieldBytes). length (bytes_of_field f)) (same_Some _ field h))
 one_len false byte field h = absurd (cc h)
 
-some_len : (one field : FieldBytes) (len : ℕ) → length (bytes_of one) ≡ len → Some one ≡ Some field
-    → length (bytes_of field) ≡ len
-some_len one field len is h = sym (ap (λ (f : FieldBytes). length (bytes_of f)) (same_Some one field h)) ∙ is
+some_len : (one field : FieldBytes) (len : ℕ) → length (bytes_of_field one) ≡ len → Some one ≡ Some field
+    → length (bytes_of_field field) ≡ len
+some_len one field len is h = sym (ap (λ (f : FieldBytes). length (bytes_of_field f)) (same_Some one field h)) ∙ is
 
-block_len : (b : Bool) (one field : FieldBytes) (len : ℕ) → length (bytes_of one) ≡ len
-    → cond b (Some one) None ≡ Some field → length (bytes_of field) ≡ len
+block_len : (b : Bool) (one field : FieldBytes) (len : ℕ) → length (bytes_of_field one) ≡ len
+    → cond b (Some one) None ≡ Some field → length (bytes_of_field field) ≡ len
 block_len true one field len is h = some_len one field len is h
 block_len false one field len is h = absurd (cc h)
 
 conv_len : (address : Option ℕ) (field : FieldBytes) → option_map (λ n. One n) address ≡ Some field
-    → length (bytes_of field) ≡ 1
+    → length (bytes_of_field field) ≡ 1
 conv_len None field h = absurd (cc h)
 conv_len (Some n) field h = some_len (One n) field 1 refl h
 
-field_length : (form : Form) (bit target place first : ℕ) (field : FieldBytes)
-    → field_of form bit target place first ≡ Some field → length (bytes_of field) ≡ field_len form
-field_length Low bit target place first field h = some_len _ field 1 refl h
-field_length Byte bit target place first field h = one_len (fits_byte target) _ field h
-field_length Relative bit target place first field h = one_len _ _ field h
-field_length High bit target place first field h = some_len _ field 1 refl h
-field_length Word bit target place first field h = some_len _ field 2 refl h
-field_length Inblock bit target place first field h =
-    block_len (in_one_block target ((place + 2) % 65536)) _ field 2 refl h
-field_length Bit bit target place first field h = one_len _ _ field h
-field_length Conv bit target place first field h = conv_len (bit_address target bit) field h
+field_length : (form : Form) (bit target address first : ℕ) (field : FieldBytes)
+    → field_of form bit target address first ≡ Some field → length (bytes_of_field field) ≡ field_len form
+field_length Low bit target address first field h = some_len _ field 1 refl h
+field_length Byte bit target address first field h = one_len (fits_byte target) _ field h
+field_length Relative bit target address first field h = one_len _ _ field h
+field_length High bit target address first field h = some_len _ field 1 refl h
+field_length Word bit target address first field h = some_len _ field 2 refl h
+field_length Inblock bit target address first field h =
+    block_len (in_one_block target ((address + 2) % 65536)) _ field 2 refl h
+field_length Bit bit target address first field h = one_len _ _ field h
+field_length Conv bit target address first field h = conv_len (bit_address target bit) field h
 
 module _ (modules : List ModuleParts) (placing : Placing) (address : ℕ) where
   -- a piece that holds the byte is placed at it
   piece_at : (m segment offset : ℕ) (pieces : List Piece) (p : Piece) → Contains pieces p → p.segment ≡ segment
       → p.offset ≤ offset → offset < p.offset + length p.bytes
-      → address ≡ start_of modules placing m segment + offset
+      → address ≡ segment_address modules placing m segment + offset
       → HasAt (map (placed_piece modules placing m) pieces) address
   unfolding HasAt
   piece_at m segment offset [] p there same from below at = absurd (none_in_empty p there)
   piece_at m segment offset (q ∷ pieces) p there same from below at =
-      elim (first_or_after q pieces p there) as (λ _. HasAt (map (placed_piece modules placing m) (q ∷ pieces)) address) [
+      elim (first_or_after q pieces p there) as
+      (λ _. HasAt (map (placed_piece modules placing m) (q ∷ pieces)) address) [
         | inl is ↦
-            let start : start_of modules placing m q.segment ≡ start_of modules placing m segment =
-            ap (start_of modules placing m) (ap (λ (x : Piece). x.segment) is ∙ same) in
+            let start : segment_address modules placing m q.segment ≡ segment_address modules placing m segment =
+            ap (segment_address modules placing m) (ap (λ (x : Piece). x.segment) is ∙ same) in
             let front : q.offset ≡ p.offset = ap (λ (x : Piece). x.offset) is in
             let len : length q.bytes ≡ length p.bytes = ap (λ (x : Piece). length x.bytes) is in
             inl (record {

@@ -1,57 +1,38 @@
 -- Each build has an outcome, and one only: what is accepted can be linked and reported.
-use Rattle.std.proofs.Common.{◌≡◌, inl, inr, ℕ, zero, suc, ◌+◌, ◌<◌, Bool, true, false, List, [], ◌∷◌, ◌++◌, length}
-use Rattle.std.proofs.Common.{map, Option, None, Result, Ok, Err, refl, sym, ap, subst, ◌∙◌, arith}
+use Rattle.m51_build_proof.proofs.Common.{◌≡◌, inl, inr, ℕ, zero, suc, ◌+◌, ◌<◌, Bool, true, false, List, [], ◌∷◌, ◌++◌}
+use Rattle.m51_build_proof.proofs.Common.{length, map, Option, None, Result, Ok, Err, refl, sym, ap, subst, ◌∙◌, arith}
+use Rattle.m51_build_proof.proofs.Common.{range_with_len, leads, InputError, InputsTree, one_for_files, one_text}
+use Rattle.m51_build_proof.proofs.Common.{Linked, IsImage, byte_at, content_of, Program, byte_among, Refusal}
+use Rattle.m51_build_proof.proofs.Common.{LayoutParts, vectors, Placing, IsWeight, located_of, of_located, segments_of}
+use Rattle.m51_build_proof.proofs.Common.{BuildJob, Build, IsBuildOutcome, build_files, input_outcome, Follows}
+use Rattle.m51_build_proof.proofs.Common.{IsInputsOutcome, Unlinked, program_in, link_outcome, Outcome, AreAnswered}
+use Rattle.m51_build_proof.proofs.Common.{Given, IsGivenOutcome, ProgramFiles, Refused, control_content, script_content}
+use Rattle.m51_build_proof.proofs.Common.{word_contents, IsReport, AreOfBytes, IsAccepted}
 use Rattle.std.specs.Prelude.{is_some, slice_index_or}
-use Rattle.std.specs.List.{range_with_len}
 use Rattle.std.proofs.lemmas.Bool.{cases_eq}
 use Rattle.std.proofs.lemmas.List.FromFn.{get_or-map-range_with_len, length-map-range_with_len}
 use Rattle.m51_graph.specs.Graph.{AreRootBits}
-use Rattle.m51_graph.specs.Leading.{leads}
 use Rattle.m51_graph.specs.Relating.{root_byte}
 use Rattle.m51_graph.proofs.Relations.{bits_tell}
-use Rattle.m51_inputs.specs.declared.error.InputError.{InputError}
-use Rattle.m51_inputs.specs.Inputs.{InputsTree}
-use Rattle.m51_inputs.proofs.OneEach.{one_answer as one_for_files}
-use Rattle.m51_asm.proofs.OneAnswer.{one_answer as one_text}
-use Rattle.m51_linker.specs.declared.linked.Linked.{Linked}
 use Rattle.m51_linker.specs.Growing.{AddsIf, longer, run_at}
 use Rattle.m51_linker.specs.Growing.AddsByte.{Joined, Apart, First}
-use Rattle.m51_linker.specs.Image.{IsFilled, IsImage, byte_at, content_of}
-use Rattle.m51_linker.specs.Link.{AreRoots, IsLinked, Program}
+use Rattle.m51_linker.specs.Image.{IsFilled}
+use Rattle.m51_linker.specs.Link.{AreRoots, IsLinked}
 use Rattle.m51_linker.specs.Memory.{IsHeldBelow}
 use Rattle.m51_linker.specs.Runs.{AreRuns}
-use Rattle.m51_linker.specs.Stretches.{byte_among}
 use Rattle.m51_linker.proofs.RunsGrow.{runs_more, same_runs}
 use Rattle.m51_module.specs.declared.image.TheConstants.{IMAGE_LEN}
-use Rattle.m51_module.specs.declared.linked.Refusal.{Refusal}
 use Rattle.m51_module.specs.declared.linked.Run.{Run}
-use Rattle.m51_module.specs.declared.parts.LayoutParts.{LayoutParts}
 use Rattle.m51_module.specs.Chains.{AreHeaviest}
-use Rattle.m51_module.specs.Roots.{vectors}
 use Rattle.m51_module.specs.Sound.{IsSound}
-use Rattle.m51_place.specs.declared.placing.Placing.{Placing}
-use Rattle.m51_place.specs.Bound.{IsWeight}
-use Rattle.m51_place.specs.Placement.{located_of}
 use Rattle.m51_place.proofs.SameWeight.{weights_agree}
 use Rattle.m51_place.proofs.Segments.{graph_is}
 use Rattle.m51_place.proofs.SoundLayout.{sound}
-use Rattle.m51_place.proofs.Tight.{of_located}
 use Rattle.m51_place.proofs.Whole.{placed_whole}
-use Rattle.m51_resolve.specs.Joining.{segments_of}
 use Rattle.m51_build_proof.proofs.GraphKept.{graph_kept}
 use Rattle.m51_build_proof.proofs.Weights.{has_weight}
-use Rattle.m51_jobs.specs.declared.job.BuildJob.{BuildJob}
-use Rattle.m51_jobs.specs.declared.job.Job.TheVariants.{Build}
-use Rattle.m51_chain.specs.Builds.{IsBuildOutcome, build_files}
-use Rattle.m51_chain.specs.InputRefusals.{input_outcome}
-use Rattle.m51_chain.specs.Linking.{Follows, IsInputsOutcome, Unlinked, program_in}
-use Rattle.m51_verbs.specs.LinkRefusals.{link_outcome}
-use Rattle.m51_verbs.specs.Outcome.{Outcome}
-use Rattle.m51_chain.specs.ProgramFiles.{AreAnswered, Given, IsGivenOutcome, ProgramFiles, Refused, control_content}
-use Rattle.m51_chain.specs.ProgramFiles.{script_content, word_contents}
-use Rattle.m51_chain.specs.Programs.{IsReport, program_report}
+use Rattle.m51_chain.specs.Programs.{program_report}
 use Rattle.m51_chain.proofs.OneOutcome.{one_outcome}
-use Rattle.m51_build_proof.specs.Builds.{AreOfBytes, IsAccepted}
 use Rattle.m51_build_proof.specs.Headline.{IsOnly}
 use Rattle.m51_build_proof.proofs.Rooted.{known}
 use Rattle.m51_build_proof.proofs.Verdicts.{rules_of_program}

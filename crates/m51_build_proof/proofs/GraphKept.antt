@@ -1,21 +1,11 @@
 -- A graph that no rule refuses is one: no unit reaches itself, and an owner lies under at most one root.
-use Rattle.std.proofs.Common.{◌≡◌, ℕ, ◌≤◌, List, [], ◌∷◌, length, None, Result, Ok, refl, subst, arith}
-use Rattle.std.specs.Prelude.{option_map}
+use Rattle.m51_build_proof.proofs.Common.{◌≡◌, ℕ, ◌≤◌, List, [], ◌∷◌, length, None, Result, Ok, refl, subst, arith}
+use Rattle.m51_build_proof.proofs.Common.{option_map, same_Ok, Control, Refusal, L6, L7, ModuleParts, segments_of}
+use Rattle.m51_build_proof.proofs.Common.{AreResolved, GraphParts, IsGraph, graph_of, unless, leads}
 use Rattle.std.proofs.lemmas.List.{length-map}
-use Rattle.m51_cells.proofs.Passing.{same_Ok}
-use Rattle.m51_control.specs.declared.control.Control.{Control}
-use Rattle.m51_module.specs.declared.linked.Refusal.{Refusal}
-use Rattle.m51_module.specs.declared.linked.Refusal.TheVariants.{L6, L7}
-use Rattle.m51_module.specs.declared.parts.ModuleParts.{ModuleParts}
 use Rattle.m51_resolve.specs.declared.segment.JoinedSegment.{JoinedSegment}
-use Rattle.m51_resolve.specs.Joining.{segments_of}
-use Rattle.m51_resolve.specs.Rules.{AreResolved}
-use Rattle.m51_graph.specs.declared.parts.GraphParts.{GraphParts}
 use Rattle.m51_graph.specs.Drawing.{edges_of, fixup_edges}
-use Rattle.m51_graph.specs.Graph.{IsGraph}
-use Rattle.m51_graph.specs.Graphs.{cyclic_from, first_under_two, graph_of, judged, lacks_reset, on_cycles, parts_of}
-use Rattle.m51_graph.specs.Graphs.{unless}
-use Rattle.m51_graph.specs.Leading.{leads}
+use Rattle.m51_graph.specs.Graphs.{cyclic_from, first_under_two, judged, lacks_reset, on_cycles, parts_of}
 use Rattle.m51_graph.specs.Lines.{bad_line}
 use Rattle.m51_graph.specs.Locals.{lost_segment}
 use Rattle.m51_graph.specs.Units.{code_segments, unit_titles}

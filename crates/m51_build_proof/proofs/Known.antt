@@ -1,21 +1,9 @@
 -- The modules that are chosen of files of bytes are valid, have bytes, and meet each rule; control lines are allowed.
-use Rattle.std.proofs.Common.{◌≡◌, ℕ, List, Ok}
-use Rattle.std.specs.List.{All}
+use Rattle.m51_build_proof.proofs.Common.{◌≡◌, ℕ, List, Ok, All, Gives, IsAnswer, Control, AreKept, ModuleParts, Row}
+use Rattle.m51_build_proof.proofs.Common.{SourceFile, IsValid, IsBytes, IsRead, AreResolved, resolved_of, InputsTree}
+use Rattle.m51_build_proof.proofs.Common.{AreAnswered, ProgramFiles, AreOfBytes}
 use Rattle.std.proofs.lemmas.List.Elements.{All-weaker}
-use Rattle.m51_asm.specs.Answer.{Gives, IsAnswer}
 use Rattle.m51_asm.proofs.ValidAnswers.{answers_are_valid}
-use Rattle.m51_control.specs.declared.control.Control.{Control}
-use Rattle.m51_control.specs.Controls.{AreKept}
-use Rattle.m51_module.specs.declared.parts.ModuleParts.{ModuleParts}
-use Rattle.m51_module.specs.declared.source.Row.{Row}
-use Rattle.m51_module.specs.declared.source.SourceFile.{SourceFile}
-use Rattle.m51_module.specs.Validity.{IsValid}
-use Rattle.m51_records.proofs.FieldLaws.{IsBytes}
-use Rattle.m51_records.proofs.ModuleLaws.{IsRead}
-use Rattle.m51_resolve.specs.Rules.{AreResolved, resolved_of}
-use Rattle.m51_inputs.specs.Inputs.{InputsTree}
-use Rattle.m51_chain.specs.ProgramFiles.{AreAnswered, ProgramFiles}
-use Rattle.m51_build_proof.specs.Builds.{AreOfBytes}
 use Rattle.m51_build_proof.proofs.ChosenModules.{chosen_resolved}
 use Rattle.m51_build_proof.proofs.OfModules as of_modules
 use Rattle.m51_build_proof.proofs.PieceBytes.{HasBytes, object_pieces}

@@ -1,33 +1,21 @@
 -- Under the premise the figure of the layout that placing gives is the weight, and no sound layout of the same segments
 -- has a smaller one.
-use Rattle.std.proofs.Common.{◌≡◌, ℕ, ◌≤◌, ◌++◌, List, [], ◌∷◌, codes, Option, Err, Ok, refl, ap, subst, ◌∙◌, arith}
-use Rattle.std.specs.List.{All}
-use Rattle.std.specs.Option.{option_map_or}
-use Rattle.std.specs.Fmt.{decimal}
-use Rattle.m51_control.specs.declared.control.Control.{Control}
-use Rattle.m51_control.specs.Controls.{AreKept}
-use Rattle.m51_module.specs.declared.linked.Refusal.TheVariants.{L12}
-use Rattle.m51_module.specs.declared.parts.ModuleParts.{ModuleParts}
-use Rattle.m51_module.specs.Validity.{IsValid}
-use Rattle.m51_resolve.specs.Joining.{segments_of}
-use Rattle.m51_resolve.specs.Rules.{AreResolved}
-use Rattle.m51_graph.specs.declared.parts.GraphParts.{GraphParts}
-use Rattle.m51_graph.specs.Graph.{IsGraph}
-use Rattle.m51_graph.specs.Graphs.{graph_of}
+use Rattle.m51_build_proof.proofs.Common.{◌≡◌, ℕ, ◌≤◌, ◌++◌, List, [], ◌∷◌, codes, Option, Err, Ok, refl, ap, subst}
+use Rattle.m51_build_proof.proofs.Common.{◌∙◌, arith, All, option_map_or, decimal, Control, AreKept, L12, ModuleParts}
+use Rattle.m51_build_proof.proofs.Common.{IsValid, segments_of, AreResolved, GraphParts, IsGraph, graph_of, Placing}
+use Rattle.m51_build_proof.proofs.Common.{IsWeight, overlaid_bytes, located_of, placing_of, of_located}
 use Rattle.m51_place.specs.declared.numbered.Numbered.{Numbered}
-use Rattle.m51_place.specs.declared.placing.Placing.{Placing}
 use Rattle.m51_place.specs.declared.ranked.Ranked.{Ranked}
-use Rattle.m51_place.specs.Bound.{IsWeight, covered_bytes, overlaid_bytes}
+use Rattle.m51_place.specs.Bound.{covered_bytes}
 use Rattle.m51_place.specs.Fixed.{fixed_of, shared_extents}
 use Rattle.m51_place.specs.Order.{order_of}
 use Rattle.m51_place.specs.Overlay.{FindsRun, LeavesRun, before_overlaid}
-use Rattle.m51_place.specs.Placement.{base_for, located_at, located_of, place_after, placing_of}
+use Rattle.m51_place.specs.Placement.{base_for, located_at, place_after}
 use Rattle.m51_place.proofs.After.{place_step}
 use Rattle.m51_place.proofs.Figures.{figure_is_weight}
 use Rattle.m51_place.proofs.LeastWeight.{least}
 use Rattle.m51_place.proofs.SameWeight.{weights_agree}
 use Rattle.m51_place.proofs.Splitting.{from_overlaid, split}
-use Rattle.m51_place.proofs.Tight.{of_located}
 use Rattle.m51_place.proofs.Whole.{unless_none}
 use Rattle.m51_print.specs.Map.{overlaid_below, overlaid_line}
 use Rattle.m51_build_proof.specs.Overlay.{IsPremise}

@@ -1,3 +1,4 @@
+pub mod Common
 pub mod Printed
 pub mod ControlsKept
 pub mod ChosenModules

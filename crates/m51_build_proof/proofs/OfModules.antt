@@ -1,30 +1,23 @@
 -- What holds of the module of each source and of each object holds of all modules that are linked.
-use Rattle.std.proofs.Common.{◌≡◌, ℕ, zero, suc, ◌+◌, ◌<◌, Bool, true, false, cond, List, [], ◌∷◌, ◌++◌, length, Option}
-use Rattle.std.proofs.Common.{Some, None, Result, Ok, Err, refl, sym, ap, subst}
-use Rattle.std.specs.Prelude.{option_map}
-use Rattle.std.specs.Option.{option_map_or}
-use Rattle.std.specs.List.{All}
-use Rattle.std.proofs.lemmas.List.Elements.{All-nil, All-cons, All-head, All-tail, All-take, All-append}
-use Rattle.std.proofs.lemmas.Option.{same_Some}
-use Rattle.m51_cells.specs.Outcome.{and_then}
-use Rattle.m51_cells.proofs.Passing.{same_Ok}
+use Rattle.m51_build_proof.proofs.Common.{◌≡◌, ℕ, zero, suc, ◌+◌, ◌<◌, Bool, true, false, cond, List, [], ◌∷◌, ◌++◌}
+use Rattle.m51_build_proof.proofs.Common.{length, Option, Some, None, Result, Ok, Err, refl, sym, ap, subst, option_map}
+use Rattle.m51_build_proof.proofs.Common.{option_map_or, All, All-nil, All-cons, All-head, All-tail, same_Some}
+use Rattle.m51_build_proof.proofs.Common.{and_then, same_Ok, Control, ControlError, AreKept, Refusal, ModuleParts, Row}
+use Rattle.m51_build_proof.proofs.Common.{SourceFile, AnswerTree, Gives, IsAnswer, IsBytes, IsRead, InputError}
+use Rattle.m51_build_proof.proofs.Common.{InputsTree, chosen_of, members_of, first_refusal, resolved_of, unless_refused}
+use Rattle.m51_build_proof.proofs.Common.{AreAnswered, ProgramFiles, word_contents, AreOfBytes}
+use Rattle.std.proofs.lemmas.List.Elements.{All-take, All-append}
 use Rattle.m51_cells.proofs.Small.{all_one}
-use Rattle.m51_control.specs.declared.control.Control.{Control}
-use Rattle.m51_control.specs.declared.error.ControlError.{ControlError}
-use Rattle.m51_control.specs.Controls.{AreKept, controls_of}
+use Rattle.m51_control.specs.Controls.{controls_of}
 use Rattle.m51_module.specs.declared.library_error.LibError.{LibError}
-use Rattle.m51_module.specs.declared.linked.Refusal.{Refusal}
 use Rattle.m51_module.specs.declared.object_error.ObjError.{ObjError}
-use Rattle.m51_module.specs.declared.parts.ModuleParts.{ModuleParts}
-use Rattle.m51_module.specs.declared.source.Row.{Row}
-use Rattle.m51_module.specs.declared.source.SourceFile.{SourceFile}
 use Rattle.m51_module.specs.Library.{built}
-use Rattle.m51_asm.specs.Answer.{AnswerTree, Faults, Gives, IsAnswer}
+use Rattle.m51_asm.specs.Answer.{Faults}
 use Rattle.m51_records.specs.declared.types.TheConstants.{LIBRARY_HEADER}
 use Rattle.m51_records.specs.Reading.{module_at, one_at}
 use Rattle.m51_records.specs.Spelling.{bytes_of, records_in}
-use Rattle.m51_records.proofs.FieldLaws.{IsBytes, fit_back}
-use Rattle.m51_records.proofs.ModuleLaws.{IsRead, module_takes}
+use Rattle.m51_records.proofs.FieldLaws.{fit_back}
+use Rattle.m51_records.proofs.ModuleLaws.{module_takes}
 use Rattle.m51_records.proofs.Tools.{on_ok, ok_is}
 use Rattle.m51_library.specs.Reading.{at_end, count_in, library_of, module_in, modules_at, modules_of, nothing_after}
 use Rattle.m51_library.specs.Reading.{or_object}
@@ -34,18 +27,14 @@ use Rattle.m51_library.proofs.LibraryLaws.{first_takes}
 use Rattle.m51_jobs.specs.declared.endings.Ending.{Ending}
 use Rattle.m51_jobs.specs.declared.endings.Ending.TheVariants as ending
 use Rattle.m51_jobs.specs.Endings.{ending_of}
-use Rattle.m51_inputs.specs.declared.error.InputError.{InputError}
 use Rattle.m51_inputs.specs.declared.error.SourceFaults.{SourceFaults}
 use Rattle.m51_inputs.specs.Files.{includes_of, source_words, sources_of}
-use Rattle.m51_inputs.specs.Inputs.{InputsTree, controls_in, inputs_of, or_control, script_in}
+use Rattle.m51_inputs.specs.Inputs.{controls_in, inputs_of, or_control, script_in}
 use Rattle.m51_inputs.specs.Objects as objects
 use Rattle.m51_inputs.specs.Objects.{linked_by, linked_from, or_library, with_library, with_module, with_source}
 use Rattle.m51_inputs.specs.Sources.{AreAnswers, faults_in, modules_in, unless_faults}
-use Rattle.m51_resolve.specs.Choice.{choice, chosen_of, first_needed, is_needed, members_of}
-use Rattle.m51_resolve.specs.Rules.{first_refusal, resolved_of, unless_refused}
-use Rattle.m51_chain.specs.ProgramFiles.{AreAnswered, ProgramFiles, word_contents}
+use Rattle.m51_resolve.specs.Choice.{choice, first_needed, is_needed}
 use Rattle.m51_chain.proofs.Accepted.{on_value}
-use Rattle.m51_build_proof.specs.Builds.{AreOfBytes}
 use Rattle.m51_build_proof.proofs.ControlsKept.{controls_kept, none_kept}
 
 -- control lines

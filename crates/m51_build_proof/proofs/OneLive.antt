@@ -1,8 +1,9 @@
 -- At each step of the separate machine the active units form walks, so at most one live segment covers a cell.
-use Rattle.std.proofs.Common.{◌≡◌, ℕ, zero, suc, List, Option, Some, None, Result, Ok, Err, refl, sym, ap, subst}
+use Rattle.m51_build_proof.proofs.Common.{◌≡◌, ℕ, zero, suc, List, Option, Some, None, Result, Ok, Err, refl, sym, ap}
+use Rattle.m51_build_proof.proofs.Common.{subst, Instr, Linked, LayoutParts, IsRootAt, Script, BuildJob, IsBuildOutcome}
+use Rattle.m51_build_proof.proofs.Common.{Outcome, AreOfBytes, IsBuilt, separate_run}
 use Rattle.std.proofs.lemmas.Bool.{cond_both}
 use Rattle.m51_cells.specs.declared.event.Event.{Event}
-use Rattle.m51_isa.specs.declared.instr.Instr.{Instr}
 use Rattle.m51_isa.specs.Table.{length_of}
 use Rattle.m51_flat.specs.declared.state.Cpu.{Cpu}
 use Rattle.m51_flat.specs.declared.state.Effect.{Effect}
@@ -16,9 +17,7 @@ use Rattle.m51_flat.specs.Sfr.{flag, latch, pcon, sp}
 use Rattle.m51_flat.specs.Vectors.{vector_of}
 use Rattle.m51_irq.specs.Choice.{chosen}
 use Rattle.m51_irq.specs.Vectoring.{vectored}
-use Rattle.m51_linker.specs.declared.linked.Linked.{Linked}
-use Rattle.m51_module.specs.declared.parts.LayoutParts.{LayoutParts}
-use Rattle.m51_module.specs.Plan.{IsRootAt, IsUnitAt}
+use Rattle.m51_module.specs.Plan.{IsUnitAt}
 use Rattle.m51_module.specs.Sound.{IsSound}
 use Rattle.m51_module.proofs.Units.{one_root, one_unit}
 use Rattle.m51_monitor.specs.declared.step.Move.{Move}
@@ -34,7 +33,6 @@ use Rattle.m51_monitor.proofs.Finding.{same_root_found, unit_found_is}
 use Rattle.m51_monitor.proofs.Liveness.{one_live}
 use Rattle.m51_monitor.proofs.Moving.{allowed, allowed_stands}
 use Rattle.m51_monitor.proofs.Standing.{all_related}
-use Rattle.m51_script.specs.declared.script.Script.{Script}
 use Rattle.m51_sim.specs.Cycles.{Inputs, inputs_of}
 use Rattle.m51_sim.specs.Effects.{attempt_by, attempt_of, executing, idle_effect, instr_at, performed}
 use Rattle.m51_sim.specs.FlatMachine.{reset_with}
@@ -44,10 +42,6 @@ use Rattle.m51_sim.specs.SeparateMachine.{or_zero, separate_effect, separate_mac
 use Rattle.m51_sim.proofs.Keeping.{inside_ok}
 use Rattle.m51_stack_proof.proofs.Bounded.{Held, judged_of}
 use Rattle.m51_stack_proof.proofs.Meeting.{root_at}
-use Rattle.m51_jobs.specs.declared.job.BuildJob.{BuildJob}
-use Rattle.m51_chain.specs.Builds.{IsBuildOutcome}
-use Rattle.m51_verbs.specs.Outcome.{Outcome}
-use Rattle.m51_build_proof.specs.Builds.{AreOfBytes, IsBuilt, separate_run}
 use Rattle.m51_build_proof.proofs.Rooted.{layout_root}
 use Rattle.m51_build_proof.proofs.Verdicts.{reported}
 

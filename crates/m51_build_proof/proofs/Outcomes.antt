@@ -1,36 +1,21 @@
 -- The outcome of a build whose files are accepted and whose graph is drawn: placing decides what is left.
-use Rattle.std.proofs.Common.{◌≡◌, inl, inr, ℕ, List, Option, Some, None, Result, Ok, Err, refl, sym, ap, subst, ◌∙◌}
-use Rattle.std.specs.Prelude.{option_map}
-use Rattle.m51_cells.specs.Outcome.{and_then}
+use Rattle.m51_build_proof.proofs.Common.{◌≡◌, inl, inr, ℕ, List, Option, Some, None, Result, Ok, Err, refl, sym, ap}
+use Rattle.m51_build_proof.proofs.Common.{subst, ◌∙◌, option_map, and_then, Control, Refusal, L12, ModuleParts}
+use Rattle.m51_build_proof.proofs.Common.{GraphParts, unless, segments_of, Placing, placing_of, Program, joined_of}
+use Rattle.m51_build_proof.proofs.Common.{placed_of, one_text, InputError, InputsTree, one_for_files, BuildJob}
+use Rattle.m51_build_proof.proofs.Common.{IsBuildOutcome, build_files, IsInputsOutcome, IsProgramOutcome, program_in}
+use Rattle.m51_build_proof.proofs.Common.{link_outcome, Outcome, status_by, AreAnswered, Given, IsGivenOutcome}
+use Rattle.m51_build_proof.proofs.Common.{ProgramFiles, Refused, control_content, script_content, word_contents}
+use Rattle.m51_build_proof.proofs.Common.{IsReport, IsRun}
 use Rattle.m51_cells.specs.declared.event.Event.{Event as RunEvent}
-use Rattle.m51_control.specs.declared.control.Control.{Control}
-use Rattle.m51_module.specs.declared.linked.Refusal.{Refusal}
-use Rattle.m51_module.specs.declared.linked.Refusal.TheVariants.{L12}
 use Rattle.m51_module.specs.declared.linked.Refusal.TheVariants as refusal
-use Rattle.m51_module.specs.declared.parts.ModuleParts.{ModuleParts}
-use Rattle.m51_graph.specs.declared.parts.GraphParts.{GraphParts}
-use Rattle.m51_graph.specs.Graphs.{unless}
-use Rattle.m51_resolve.specs.Joining.{segments_of}
-use Rattle.m51_place.specs.declared.placing.Placing.{Placing}
-use Rattle.m51_place.specs.Placement.{placing_of}
 use Rattle.m51_linker.specs.declared.checking.Spot.{Spot}
 use Rattle.m51_linker.specs.Broken.{broken_at, broken_of, broken_rule, least_of}
-use Rattle.m51_linker.specs.Link.{Program, checked_of, joined_of, placed_of}
-use Rattle.m51_asm.proofs.OneAnswer.{one_answer as one_text}
-use Rattle.m51_inputs.specs.declared.error.InputError.{InputError}
-use Rattle.m51_inputs.specs.Inputs.{InputsTree}
-use Rattle.m51_inputs.proofs.OneEach.{one_answer as one_for_files}
-use Rattle.m51_jobs.specs.declared.job.BuildJob.{BuildJob}
+use Rattle.m51_linker.specs.Link.{checked_of}
 use Rattle.m51_verbs.specs.declared.status.Status.TheVariants.{Event, Link, Ran}
-use Rattle.m51_chain.specs.Builds.{IsBuildOutcome, build_files}
-use Rattle.m51_chain.specs.Linking.{IsInputsOutcome, IsProgramOutcome, program_in}
-use Rattle.m51_verbs.specs.LinkRefusals.{link_outcome, reason_of}
-use Rattle.m51_verbs.specs.Outcome.{Outcome, status_by, status_of}
-use Rattle.m51_chain.specs.ProgramFiles.{AreAnswered, Given, IsGivenOutcome, ProgramFiles, Refused, control_content}
-use Rattle.m51_chain.specs.ProgramFiles.{script_content, word_contents}
-use Rattle.m51_chain.specs.Programs.{IsReport}
+use Rattle.m51_verbs.specs.LinkRefusals.{reason_of}
+use Rattle.m51_verbs.specs.Outcome.{status_of}
 use Rattle.m51_build_proof.specs.Overlay.{ReachesPlacing}
-use Rattle.m51_build_proof.specs.Builds.{IsRun}
 
 -- where the files of a build give these inputs, its outcome is one for them
 of_given : (files : ProgramFiles) (Is : InputsTree → Outcome → Type 0) (given : Result InputsTree InputError)

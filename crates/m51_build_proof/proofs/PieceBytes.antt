@@ -1,40 +1,38 @@
 -- The image of linked files is of bytes: pieces are, of sources and of objects, and fields are.
-use Rattle.std.proofs.Common.{◌≡◌, ℕ, zero, suc, ◌+◌, ◌*◌, ◌%◌, ◌-◌, ◌<◌, ◌≤◌, Bool, true, false, cond, ◌&&◌, List, []}
-use Rattle.std.proofs.Common.{◌∷◌, ◌++◌, length, map, Option, Some, None, refl, sym, subst, arith}
-use Rattle.std.specs.Prelude.{◌==◌, nat_le, nat_lt, option_map, slice_get, unwrap_or}
-use Rattle.std.specs.List.{All, cons_option, filter_map, flat_map, range_with_len}
-use Rattle.std.specs.Option.{option_map_or, option_or}
-use Rattle.std.proofs.lemmas.Bool.{and_parts, leb-true, ltb-false}
-use Rattle.std.proofs.lemmas.List.Elements.{All-from_get_or, All-get_or, All-head, All-tail}
-use Rattle.std.proofs.lemmas.Option.{get_or_from_slice_get, same_Some, slice_get_within}
+use Rattle.m51_build_proof.proofs.Common.{◌≡◌, ℕ, zero, suc, ◌+◌, ◌*◌, ◌%◌, ◌-◌, ◌<◌, ◌≤◌, Bool, true, false, cond}
+use Rattle.m51_build_proof.proofs.Common.{◌&&◌, List, [], ◌∷◌, ◌++◌, length, map, Option, Some, None, refl, sym, subst}
+use Rattle.m51_build_proof.proofs.Common.{arith, option_map, slice_get, unwrap_or, All, flat_map, range_with_len}
+use Rattle.m51_build_proof.proofs.Common.{option_map_or, option_or, and_parts, leb-true, ltb-false, All-head, All-tail}
+use Rattle.m51_build_proof.proofs.Common.{same_Some, IsImage, byte_at, content_of, byte_among, Piece, ModuleParts}
+use Rattle.m51_build_proof.proofs.Common.{IsValid, Placing, IsBytes, IsRead}
+use Rattle.std.specs.Prelude.{◌==◌, nat_le, nat_lt}
+use Rattle.std.specs.List.{cons_option, filter_map}
+use Rattle.std.proofs.lemmas.List.Elements.{All-from_get_or, All-get_or}
+use Rattle.std.proofs.lemmas.Option.{get_or_from_slice_get, slice_get_within}
 use Rattle.m51_fields.specs.declared.fields.FieldBytes.{FieldBytes}
 use Rattle.m51_fields.specs.declared.fields.FieldBytes.TheVariants.{One}
-use Rattle.m51_fields.specs.Fields.{block_field, bytes_of as field_bytes, far_of, field_of, one_if}
+use Rattle.m51_fields.specs.Fields.{block_field, bytes_of_field as field_bytes, far_of, field_of, one_if}
 use Rattle.m51_isa.specs.Targets.{fits_byte, in_one_block, is_near}
-use Rattle.m51_linker.specs.Image.{IsImage, byte_at, content_of, fields_of, fixup_field, module_content, module_fields}
+use Rattle.m51_linker.specs.Image.{fields_of, fixup_field, module_content, module_fields}
 use Rattle.m51_linker.specs.Image.{placed_field, placed_piece}
-use Rattle.m51_linker.specs.Stretches.{Stretch, byte_among, byte_in, stretch_at}
-use Rattle.m51_linker.specs.Targets.{address_of, target_of}
+use Rattle.m51_linker.specs.Stretches.{Stretch, byte_in, stretch_at}
+use Rattle.m51_linker.specs.Targets.{address_of, fixup_target}
 use Rattle.m51_module.specs.declared.content.Fixup.{Fixup}
 use Rattle.m51_module.specs.declared.content.Form.{Form}
 use Rattle.m51_module.specs.declared.content.Form.TheVariants.{Low, Byte, Relative, High, Word, Inblock, Bit, Conv}
-use Rattle.m51_module.specs.declared.content.Piece.{Piece}
-use Rattle.m51_module.specs.declared.parts.ModuleParts.{ModuleParts}
-use Rattle.m51_module.specs.Validity.{IsBitNumber, IsFixupValid, IsValid}
-use Rattle.m51_place.specs.declared.placing.Placing.{Placing}
+use Rattle.m51_module.specs.Validity.{IsBitNumber, IsFixupValid}
 use Rattle.m51_records.specs.Contents.{piece_contents}
 use Rattle.m51_frame.specs.Fields.{pair}
-use Rattle.m51_frame.specs.Frame.{front_of, record_of}
+use Rattle.m51_frame.specs.Frame.{checksummed_bytes, record_of}
 use Rattle.m51_records.specs.Spelling.{bytes_of, external_record, header_record, piece_record, public_record}
 use Rattle.m51_records.specs.Spelling.{segment_record}
-use Rattle.m51_records.proofs.FieldLaws.{IsBytes, fit_back, fit_front}
-use Rattle.m51_records.proofs.ModuleLaws.{IsRead}
+use Rattle.m51_records.proofs.FieldLaws.{fit_back, fit_front}
 use Rattle.m51_build_proof.proofs.SourceBytes.{ArePieces}
 
 -- an object that is of bytes spells pieces of bytes
 framed : (type : ℕ) (contents : List ℕ) → IsBytes (record_of type contents) → IsBytes contents
 framed type contents h =
-    fit_back (type ∷ pair (length contents + 1)) contents (fit_front (front_of type contents) _ h)
+    fit_back (type ∷ pair (length contents + 1)) contents (fit_front (checksummed_bytes type contents) _ h)
 
 one_piece : (p : Piece) → IsBytes (piece_record p) → IsBytes p.bytes
 one_piece p h = fit_back (pair p.offset) p.bytes (framed _ (piece_contents p) h).1
@@ -67,7 +65,8 @@ module_pieces m h =
 
 pub object_pieces : (bytes : List ℕ) (m : ModuleParts) (rest : List ℕ) → IsBytes bytes → IsRead bytes m rest
     → ArePieces m.pieces
-object_pieces bytes m rest fits is = module_pieces m (fit_front (bytes_of m) rest (subst IsBytes is.bytes_are fits))
+object_pieces bytes m rest fits is =
+    module_pieces m (fit_front (bytes_of m) rest (subst IsBytes is.bytes_are fits))
 
 -- stretches of bytes
 AreStretches : List Stretch → Type 0
@@ -150,17 +149,17 @@ conv_bytes false false true target bit few is there =
     field_some (One (target + bit)) (omega (arith, most, less), tt)
 conv_bytes false false false target bit few is there = field_none
 
-field_is_bytes : (form : Form) (bit target place first : ℕ) → target < 65536 → IsBitNumber form bit
-    → IfFieldBytes (field_of form bit target place first)
-field_is_bytes Low bit target place first h n = field_some _ (omega arith, tt)
-field_is_bytes Byte bit target place first h n = one_byte (fits_byte target) _ (λ _. omega arith)
-field_is_bytes Relative bit target place first h n = one_byte (is_near (far_of target place)) _ (λ _. omega arith)
-field_is_bytes High bit target place first h n = field_some _ (omega (arith, h), tt)
-field_is_bytes Word bit target place first h n = field_some _ (omega (arith, h), (omega arith, tt))
-field_is_bytes Inblock bit target place first h n =
-    block_bytes (in_one_block target ((place + 2) % 65536)) target first h
-field_is_bytes Bit bit target place first h n = one_byte (nat_le target 0xFF) _ (λ _. omega arith)
-field_is_bytes Conv bit target place first h n =
+field_is_bytes : (form : Form) (bit target address first : ℕ) → target < 65536 → IsBitNumber form bit
+    → IfFieldBytes (field_of form bit target address first)
+field_is_bytes Low bit target address first h n = field_some _ (omega arith, tt)
+field_is_bytes Byte bit target address first h n = one_byte (fits_byte target) _ (λ _. omega arith)
+field_is_bytes Relative bit target address first h n = one_byte (is_near (far_of target address)) _ (λ _. omega arith)
+field_is_bytes High bit target address first h n = field_some _ (omega (arith, h), tt)
+field_is_bytes Word bit target address first h n = field_some _ (omega (arith, h), (omega arith, tt))
+field_is_bytes Inblock bit target address first h n =
+    block_bytes (in_one_block target ((address + 2) % 65536)) target first h
+field_is_bytes Bit bit target address first h n = one_byte (nat_le target 0xFF) _ (λ _. omega arith)
+field_is_bytes Conv bit target address first h n =
     conv_bytes (nat_lt 7 bit) (nat_le 0x20 target && nat_le target 0x2F)
     ((nat_le 0x80 target && nat_le target 0xF8) && (target % 8 == 0)) target bit refl refl refl
 
@@ -191,11 +190,11 @@ module _ (modules : List ModuleParts) (placing : Placing) (all : All HasBytes mo
   content_are = stretches_flat (module_content modules placing) (λ m. content_by m (slice_get modules m) refl)
       (range_with_len 0 (length modules))
 
-  target_fits : (m : ℕ) (f : Fixup) → target_of modules placing m f < 65536
+  target_fits : (m : ℕ) (f : Fixup) → fixup_target modules placing m f < 65536
   target_fits m f = omega arith
 
   fixup_bytes : (m : ℕ) (f : Fixup) → IsBitNumber f.form f.bit → IfFieldBytes (fixup_field modules placing m f)
-  fixup_bytes m f bit = field_is_bytes f.form f.bit (target_of modules placing m f) _ _ (target_fits m f) bit
+  fixup_bytes m f bit = field_is_bytes f.form f.bit (fixup_target modules placing m f) _ _ (target_fits m f) bit
 
   option_bytes : (at : ℕ) (o : Option FieldBytes) (rest : List Stretch) → IfFieldBytes o → AreStretches rest
       → AreStretches (cons_option (option_map (stretch_at at) o) rest)

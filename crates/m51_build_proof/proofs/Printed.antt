@@ -1,18 +1,15 @@
 -- The figure of overlaid bytes that a map prints is the one of the laws on placing.
-use Rattle.std.proofs.Common.{◌≡◌, ℕ, zero, suc, ◌+◌, Bool, cond, ◌&&◌, ◌||◌, List, [], ◌∷◌, ◌++◌, refl, ap, ◌∙◌, arith}
+use Rattle.m51_build_proof.proofs.Common.{◌≡◌, ℕ, zero, suc, ◌+◌, Bool, cond, ◌&&◌, ◌||◌, List, [], ◌∷◌, ◌++◌, refl, ap}
+use Rattle.m51_build_proof.proofs.Common.{◌∙◌, arith, list_any, decimal, Kind, LayoutParts, overlaid_bytes}
 use Rattle.std.proofs.Math.Bool.{and_assoc}
 use Rattle.std.specs.Prelude.{codes, nat_le, nat_lt}
-use Rattle.std.specs.List.{list_any}
-use Rattle.std.specs.Fmt.{decimal}
-use Rattle.m51_cells.specs.declared.kind.Kind.{Kind}
 use Rattle.m51_cells.specs.declared.kind.Kind.TheVariants.{Code, Xdata, Direct, Idata, Bits, Number}
 use Rattle.m51_cells.specs.declared.kind.Reloc.TheVariants.{Unit as UnitType}
-use Rattle.m51_module.specs.declared.parts.LayoutParts.{LayoutParts}
 use Rattle.m51_module.specs.declared.placed.Mark.{Mark}
 use Rattle.m51_module.specs.declared.placed.Mark.TheVariants.{Absolute, Bank, Overlaid, Plain, Reserve}
 use Rattle.m51_module.specs.declared.placed.Placed.{Placed}
 use Rattle.m51_module.specs.Chains.{is_overlaid_data}
-use Rattle.m51_place.specs.Bound.{count_below, overlaid_bytes, overlays_byte}
+use Rattle.m51_place.specs.Bound.{count_below, overlays_byte}
 use Rattle.m51_place.proofs.Figures.{figure_is_weight}
 use Rattle.m51_print.specs.Map.{is_overlaid_in_data, overlaid_below, overlays}
 use Rattle.m51_print.proofs.Ranges.{counted_more}

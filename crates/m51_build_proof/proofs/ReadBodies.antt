@@ -1,22 +1,23 @@
 -- What the lines of a source say: their expressions write numbers of 16 bits, and their texts are bytes.
-use Rattle.std.proofs.Common.{◌≡◌, inl, inr, ℕ, nat_lt, Bool, true, false, List, [], ◌∷◌, drop, take, Option, Some}
-use Rattle.std.proofs.Common.{None, Result, Ok, Err, refl, subst}
+use Rattle.m51_build_proof.proofs.Common.{◌≡◌, inl, inr, ℕ, nat_lt, Bool, true, false, List, [], ◌∷◌, drop, Option}
+use Rattle.m51_build_proof.proofs.Common.{Some, None, Result, Ok, Err, refl, subst, AllByRecursion, SourceFile}
+use Rattle.m51_build_proof.proofs.Common.{BodyTree, IsTree, LineTree}
+use Rattle.std.proofs.Common.{take}
 use Rattle.std.specs.Char.{is_ascii_alphanumeric}
-use Rattle.std.specs.List.{AllByRecursion, list_all, prefix_len}
+use Rattle.std.specs.List.{list_all, prefix_len}
 use Rattle.std.specs.Str.{bytes_eq}
 use Rattle.std.specs.Prelude.{codes}
 use Rattle.std.proofs.lemmas.List.Elements.{All-from_recursion}
 use Rattle.m51_cells.specs.declared.fault.TheConstants.{BAD_FORM}
 use Rattle.m51_cells.specs.Name.{name_of}
 use Rattle.m51_expr.specs.declared.symbol.Symbol.{Symbol}
-use Rattle.m51_module.specs.declared.source.SourceFile.{SourceFile}
 use Rattle.m51_stmt.specs.Control as control
 use Rattle.m51_stmt.specs.Control.{by_name, ends, ignored_if, include_of, is_ignored_word, parenthesized}
 use Rattle.m51_stmt.specs.Grammar as grammar
 use Rattle.m51_stmt.specs.Laws.{IsByte}
 use Rattle.m51_stmt.specs.Lines.{any_line, statement_of, symbols_of}
 use Rattle.m51_stmt.specs.Statement as body
-use Rattle.m51_stmt.specs.Statement.{BodyTree, ItemTree, StmtTree, Text, Value}
+use Rattle.m51_stmt.specs.Statement.{ItemTree, StmtTree, Text, Value}
 use Rattle.m51_stmt.proofs.IfRead.{IfRead, err_is, ok_cond, ok_if, ok_is}
 use Rattle.m51_stmt.proofs.LinesRead.{line_derived}
 use Rattle.m51_stmt.proofs.ListWords.{Each, some_each}
@@ -24,10 +25,9 @@ use Rattle.m51_stmt.proofs.PrintedBodies.{IsBody}
 use Rattle.m51_stmt.proofs.PrintedLists.{IsItem}
 use Rattle.m51_stmt.proofs.PrintedOperands.{IsOperand}
 use Rattle.m51_stmt.proofs.PrintedStatements.{IsControl, IsLine}
-use Rattle.m51_stmt.proofs.PrintedTrees.{IsTree}
 use Rattle.m51_stmt.proofs.ReadStatements.{each_back, each_byte, each_front, written_is_good}
 use Rattle.m51_stmt.proofs.ReadSymbols.{IsGood, symbols_good, tokens_good}
-use Rattle.m51_text.specs.Answer.{LineTree, Lines, statements_of, text_of, with_statement}
+use Rattle.m51_text.specs.Answer.{Lines, statements_of, text_of, with_statement}
 use Rattle.m51_text.specs.Faults.{faults_of}
 use Rattle.m51_text.specs.Said.{is_character, said}
 use Rattle.m51_text.specs.Text.{TextLine, text_lines}
@@ -139,8 +139,8 @@ ignored : (o : Option (List ℕ)) → IfRead (ignored_if o) IsNoContent
 ignored None = err_is
 ignored (Some text) = ok_is tt
 
-control_word : (word rest : List ℕ) → IfRead (control.by_word word rest) IsNoContent
-unfolding control.by_word
+control_word : (word rest : List ℕ) → IfRead (control.body_by_word word rest) IsNoContent
+unfolding control.body_by_word
 control_word word rest =
     ok_cond (bytes_eq word (codes "INCLUDE")) (λ _. included (parenthesized rest)) (λ _.
     ok_cond (bytes_eq word (codes "TITLE"))

@@ -1,13 +1,14 @@
 -- No other refusal has the line of L12.
-use Rattle.std.proofs.Common.{◌≡◌, ℕ, false, ◌++◌, List, codes, get_or, nat_eq, refl, sym, ap, ◌∙◌}
-use Rattle.std.proofs.lemmas.Bool.{eq-eqb, false≢true}
+use Rattle.m51_build_proof.proofs.Common.{◌≡◌, ℕ, false, ◌++◌, List, codes, refl, sym, ap, ◌∙◌, false≢true, Refusal, L1}
+use Rattle.m51_build_proof.proofs.Common.{L2, L3, L4, L5, L6, L7, L12, Limit, refusal_text}
+use Rattle.std.proofs.Common.{get_or, nat_eq}
+use Rattle.std.proofs.lemmas.Bool.{eq-eqb}
 use Rattle.std.proofs.lemmas.List.{append_cancel_left, append_cancel_right}
-use Rattle.m51_module.specs.declared.linked.Refusal.{Refusal}
-use Rattle.m51_module.specs.declared.linked.Refusal.TheVariants.{L1, L2, L3, L4, L5, L6, L7, L8, L9, L10, L11, L12, L13}
-use Rattle.m51_module.specs.declared.linked.Refusal.TheVariants.{Limit, Memory}
-use Rattle.m51_print.specs.Refusals.{after_blank, refusal_text}
+use Rattle.m51_module.specs.declared.linked.Refusal.TheVariants.{L8, L9, L10, L11, L13}
+use Rattle.m51_module.specs.declared.linked.Refusal.TheVariants.{Memory}
+use Rattle.m51_print.specs.Refusals.{after_blank}
 
--- two texts with different bytes at a place
+-- two texts with different bytes at an index
 apart : {one two : List ℕ} (at : ℕ) → one ≡ two → nat_eq (get_or one at 0) (get_or two at 0) ≡ false → ⊥
 apart at same differs = false≢true (sym differs ∙ eq-eqb _ _ (ap (λ (text : List ℕ). get_or text at 0) same))
 

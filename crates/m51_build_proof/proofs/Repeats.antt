@@ -1,21 +1,20 @@
 -- The verb flat over the kept file prints the entries that build printed.
-use Rattle.std.proofs.Common.{◌≡◌, ℕ, zero, suc, ◌+◌, ◌-◌, ◌<◌, List, [], ◌∷◌, ◌++◌, codes, Option, Some, None, Result}
-use Rattle.std.proofs.Common.{Ok, Err, refl, sym, ap, subst, ◌∙◌, arith, append-nil}
+use Rattle.m51_build_proof.proofs.Common.{◌≡◌, ℕ, zero, suc, ◌+◌, ◌-◌, ◌<◌, List, [], ◌∷◌, ◌++◌, codes, Option, Some}
+use Rattle.m51_build_proof.proofs.Common.{None, Result, Ok, Err, refl, sym, ap, subst, ◌∙◌, arith, same_Ok, AnswerTree}
+use Rattle.m51_build_proof.proofs.Common.{InputError, InputsTree, Linked, Script, BuildJob, Build, build_files, Outcome}
+use Rattle.m51_build_proof.proofs.Common.{status_by, ProgramFiles, control_content, script_content, word_contents}
+use Rattle.m51_build_proof.proofs.Common.{AreOfBytes, IsBuilt, separate_run}
+use Rattle.std.proofs.Common.{append-nil}
 use Rattle.std.specs.Prelude.{flat_map}
 use Rattle.m51_cells.specs.declared.event.Entry.{Entry}
 use Rattle.m51_cells.specs.declared.event.Event.{Event}
 use Rattle.m51_cells.specs.declared.event.Event.TheVariants.{Outside, PowerDown, Reserved, Transfer, Unwritten}
-use Rattle.m51_cells.proofs.Passing.{same_Ok}
-use Rattle.m51_asm.specs.Answer.{AnswerTree}
 use Rattle.m51_flat.specs.Reads.{CellMap}
-use Rattle.m51_inputs.specs.declared.error.InputError.{InputError}
-use Rattle.m51_inputs.specs.Inputs.{InputsTree, controls_in, inputs_of as all_inputs, script_in}
+use Rattle.m51_inputs.specs.Inputs.{controls_in, inputs_of as all_inputs, script_in}
 use Rattle.m51_inputs.specs.Files.{source_words}
 use Rattle.m51_inputs.specs.Objects.{linked_from}
 use Rattle.m51_inputs.specs.Sources.{faults_in, modules_in, unless_faults}
-use Rattle.m51_linker.specs.declared.linked.Linked.{Linked}
 use Rattle.m51_print.specs.Lines.{entry_line, last_line, titles_of}
-use Rattle.m51_script.specs.declared.script.Script.{Script}
 use Rattle.m51_sim.specs.Cycles.{inputs_of}
 use Rattle.m51_sim.specs.FlatMachine.{filled_map, flat_machine, reset_with}
 use Rattle.m51_sim.specs.Laws.{IsSameRun, IsSharedEvent}
@@ -25,19 +24,15 @@ use Rattle.m51_sim.specs.Runs.{Machine, Performed, Record, State, no_step, recor
 use Rattle.m51_sim.specs.SeparateMachine.{Separate}
 use Rattle.m51_sim.proofs.Agreeing.{filled_has}
 use Rattle.m51_sim.proofs.Sums.{appended, record_sum}
-use Rattle.m51_jobs.specs.declared.job.BuildJob.{BuildJob}
 use Rattle.m51_jobs.specs.declared.job.FlatJob.{FlatJob}
-use Rattle.m51_jobs.specs.declared.job.Job.TheVariants.{Build, Flat}
-use Rattle.m51_chain.specs.Builds.{build_files}
+use Rattle.m51_jobs.specs.declared.job.Job.TheVariants.{Flat}
 use Rattle.m51_verbs.specs.FlatRuns as flats
 use Rattle.m51_verbs.specs.FlatRuns.{Ran, Read, flat_report}
 use Rattle.m51_verbs.specs.Optional.{content_if}
-use Rattle.m51_verbs.specs.Outcome.{Outcome, status_by}
-use Rattle.m51_chain.specs.ProgramFiles.{ProgramFiles, control_content, script_content, word_contents}
 use Rattle.m51_chain.specs.Verbs.{IsOutcome}
 use Rattle.m51_chain.proofs.Accepted.{on_value, script_is}
 use Rattle.m51_chain.proofs.OneOutcome.{one_outcome}
-use Rattle.m51_build_proof.specs.Builds.{AreOfBytes, IsBuilt, flat_run, separate_run}
+use Rattle.m51_build_proof.specs.Builds.{flat_run}
 use Rattle.m51_build_proof.specs.Headline.{FlatGives, FlatRepeats, IfShared, RunsAlike}
 use Rattle.m51_build_proof.proofs.Alike.{runs_alike}
 

@@ -1,36 +1,20 @@
 -- What build writes of the overlay, by what placing decides.
-use Rattle.std.proofs.Common.{◌≡◌, ℕ, ◌++◌, List, codes, Err, sym, ap, subst, ◌∙◌, append_assoc}
+use Rattle.m51_build_proof.proofs.Common.{◌≡◌, ℕ, ◌++◌, List, codes, Err, sym, ap, subst, ◌∙◌, decimal, Control}
+use Rattle.m51_build_proof.proofs.Common.{AreKept, Chain, Refusal, L12, LayoutParts, ModuleParts, segments_of}
+use Rattle.m51_build_proof.proofs.Common.{GraphParts, Placing, refusal_text, Linked, placed_of, Script, BuildJob}
+use Rattle.m51_build_proof.proofs.Common.{build_files, Follows, IsProgramOutcome, Unlinked, link_outcome, Outcome}
+use Rattle.m51_build_proof.proofs.Common.{IsReport, IsRun}
+use Rattle.std.proofs.Common.{append_assoc}
 use Rattle.std.specs.Prelude.{flat_map, length}
-use Rattle.std.specs.Fmt.{decimal}
-use Rattle.m51_control.specs.declared.control.Control.{Control}
-use Rattle.m51_control.specs.Controls.{AreKept}
-use Rattle.m51_module.specs.declared.linked.Chain.{Chain}
-use Rattle.m51_module.specs.declared.linked.Refusal.{Refusal}
-use Rattle.m51_module.specs.declared.linked.Refusal.TheVariants.{L12}
-use Rattle.m51_module.specs.declared.parts.LayoutParts.{LayoutParts}
-use Rattle.m51_module.specs.declared.parts.ModuleParts.{ModuleParts}
-use Rattle.m51_resolve.specs.Joining.{segments_of}
-use Rattle.m51_graph.specs.declared.parts.GraphParts.{GraphParts}
-use Rattle.m51_place.specs.declared.placing.Placing.{Placing}
 use Rattle.m51_place.specs.Fixed.{fixed_of}
 use Rattle.m51_place.specs.Order.{order_of}
 use Rattle.m51_place.specs.Overlay.{ExceedsRun, RefusesOverlaid}
 use Rattle.m51_place.proofs.Refused.{overlay_is_refused}
 use Rattle.m51_print.specs.Map.{image_line, line_of_chain, map_of, overlaid_line, segment_line, unit_lines}
-use Rattle.m51_print.specs.Refusals.{refusal_text}
-use Rattle.m51_linker.specs.declared.linked.Linked.{Linked}
-use Rattle.m51_linker.specs.Link.{placed_of}
-use Rattle.m51_script.specs.declared.script.Script.{Script}
 use Rattle.m51_sim.specs.Report.{report_of}
-use Rattle.m51_jobs.specs.declared.job.BuildJob.{BuildJob}
-use Rattle.m51_chain.specs.Builds.{build_files}
-use Rattle.m51_chain.specs.Linking.{Follows, IsProgramOutcome, Unlinked}
-use Rattle.m51_verbs.specs.LinkRefusals.{link_outcome}
-use Rattle.m51_verbs.specs.Outcome.{Outcome}
-use Rattle.m51_chain.specs.Programs.{IsReport, filled_by}
+use Rattle.m51_chain.specs.Programs.{filled_by}
 use Rattle.m51_build_proof.specs.Overlay.{BuildHasWeight, BuildPrintsLeast, BuildRefusesOverlay, ReachesPlacing}
 use Rattle.m51_build_proof.specs.Overlay.{IsPremise, PrintsLeast, PrintsWeight, RefusesOverlay}
-use Rattle.m51_build_proof.specs.Builds.{IsRun}
 use Rattle.m51_build_proof.proofs.GraphKept.{graph_kept}
 use Rattle.m51_build_proof.proofs.LeastOverlay.{AreKnown, covers_least, prints_weight}
 use Rattle.m51_build_proof.proofs.Outcomes.{has_placing, lacks_placing, not_link, not_run, outcome_of_graph}

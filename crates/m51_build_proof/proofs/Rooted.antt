@@ -1,20 +1,11 @@
 -- What is known of the modules of a build, and that its layout has a root at 0000H.
-use Rattle.std.proofs.Common.{ℕ, List, length, sym, subst}
-use Rattle.m51_linker.specs.declared.linked.Linked.{Linked}
+use Rattle.m51_build_proof.proofs.Common.{ℕ, List, length, sym, subst, Linked, LayoutParts, IsRootAt, Placing}
+use Rattle.m51_build_proof.proofs.Common.{located_of, of_located, segments_of, BuildJob, build_files, Script}
+use Rattle.m51_build_proof.proofs.Common.{AreOfBytes, IsAccepted, IsBuilt}
 use Rattle.m51_linker.proofs.Reset.{reset}
-use Rattle.m51_module.specs.declared.parts.LayoutParts.{LayoutParts}
-use Rattle.m51_module.specs.Plan.{IsRootAt}
-use Rattle.m51_place.specs.declared.placing.Placing.{Placing}
-use Rattle.m51_place.specs.Placement.{located_of}
 use Rattle.m51_place.specs.Places.{ArePlaces}
 use Rattle.m51_place.proofs.PlacedAt.{places_are}
-use Rattle.m51_place.proofs.Tight.{of_located}
 use Rattle.m51_place.proofs.Whole.{placed_whole}
-use Rattle.m51_resolve.specs.Joining.{segments_of}
-use Rattle.m51_jobs.specs.declared.job.BuildJob.{BuildJob}
-use Rattle.m51_chain.specs.Builds.{build_files}
-use Rattle.m51_script.specs.declared.script.Script.{Script}
-use Rattle.m51_build_proof.specs.Builds.{AreOfBytes, IsAccepted, IsBuilt}
 use Rattle.m51_build_proof.proofs.Known.{AreGiven, modules_known}
 
 abbrev pub AreKnown : (job : BuildJob) (contents : List (List ℕ)) → IsAccepted job contents → Type 0
@@ -34,10 +25,10 @@ program_root job contents a k =
     let of = of_located g (length (segments_of modules)) (located_of modules controls g) a.program.placing
     a.rules.placed in
     let whole = placed_whole modules controls g of.located a.rules.drawn k.valid k.resolved k.kept of.is in
-    let places : ArePlaces (segments_of modules) a.program.placing =
+    let indices : ArePlaces (segments_of modules) a.program.placing =
     subst (λ (p : Placing). ArePlaces (segments_of modules) p) of.placing
     (places_are g (segments_of modules) of.located whole) in
-    reset modules controls g a.program.placing a.rules.drawn a.rules.placed places
+    reset modules controls g a.program.placing a.rules.drawn a.rules.placed indices
 
 pub layout_root : (job : BuildJob) (contents : List (List ℕ)) (script : Script) (linked : Linked)
     → IsBuilt job contents script linked → AreOfBytes contents

@@ -1,13 +1,11 @@
 -- The bytes of each row of the instruction table, with numbers in its fields, are bytes.
-use Rattle.std.proofs.Common.{ℕ, ◌<◌, arith}
-use Rattle.m51_isa.specs.declared.instr.Instr.{Instr}
+use Rattle.m51_build_proof.proofs.Common.{ℕ, ◌<◌, arith, Instr, IsBytes}
 use Rattle.m51_isa.specs.declared.instr.Instr.TheVariants as row
 use Rattle.m51_isa.specs.declared.look.Look.{Look}
 use Rattle.m51_isa.specs.declared.look.Look.TheVariants as look
 use Rattle.m51_isa.specs.Filling.{with_numbers}
 use Rattle.m51_isa.specs.Spelling.{look_of, text_of}
 use Rattle.m51_isa.specs.Table.{encoded}
-use Rattle.m51_records.proofs.FieldLaws.{IsBytes}
 
 -- a register is one of R0 to R7, a pointer is R0 or R1
 abbrev pub LookFits : Look → Type 0

@@ -1,26 +1,22 @@
 -- A layout of the same segments has the same weight; and it covers no fewer bytes by overlaid DATA of any type than by
 -- that of type UNIT.
-use Rattle.std.proofs.Common.{◌≡◌, inl, inr, ℕ, zero, suc, ◌+◌, ◌≤◌, Bool, true, false, cond, ◌&&◌, ◌||◌, nat_le}
-use Rattle.std.proofs.Common.{nat_lt, List, [], ◌∷◌, Some, refl, sym, ap, subst, ◌∙◌, arith}
-use Rattle.std.specs.Prelude.{slice_get}
-use Rattle.std.specs.List.{AllZip, list_any}
-use Rattle.std.proofs.lemmas.Bool.{and_from, and_parts, false≢true}
-use Rattle.std.proofs.lemmas.Option.{same_Some}
-use Rattle.m51_cells.specs.declared.kind.Kind.{Kind}
+use Rattle.m51_build_proof.proofs.Common.{◌≡◌, inl, inr, ℕ, zero, suc, ◌+◌, ◌≤◌, Bool, true, false, cond, ◌&&◌, ◌||◌}
+use Rattle.m51_build_proof.proofs.Common.{nat_le, nat_lt, List, [], ◌∷◌, Some, refl, sym, ap, subst, ◌∙◌, arith}
+use Rattle.m51_build_proof.proofs.Common.{slice_get, list_any, and_parts, false≢true, same_Some, Kind, Chain}
+use Rattle.m51_build_proof.proofs.Common.{LayoutParts, IsRootAt, vectors, IsWeight, overlaid_bytes}
+use Rattle.std.specs.List.{AllZip}
+use Rattle.std.proofs.lemmas.Bool.{and_from}
 use Rattle.m51_cells.specs.declared.kind.Kind.TheVariants.{Direct}
 use Rattle.m51_cells.specs.declared.kind.Reloc.{Reloc}
 use Rattle.m51_cells.specs.declared.kind.Reloc.TheVariants.{Unit as UnitType}
-use Rattle.m51_module.specs.declared.linked.Chain.{Chain}
-use Rattle.m51_module.specs.declared.parts.LayoutParts.{LayoutParts}
 use Rattle.m51_module.specs.declared.placed.Mark.{Mark}
 use Rattle.m51_module.specs.declared.placed.Mark.TheVariants.{Absolute}
 use Rattle.m51_module.specs.declared.placed.Placed.{Placed}
 use Rattle.m51_module.specs.Chains.{ChainsFrom, data_of, is_first, is_overlaid_data, weight_of}
-use Rattle.m51_module.specs.Plan.{IsRootAt, UnitLiesUnder, layout_graph, owners_of}
-use Rattle.m51_module.specs.Roots.{vectors}
+use Rattle.m51_module.specs.Plan.{UnitLiesUnder, layout_graph, owners_of}
 use Rattle.m51_module.specs.Walks.{Edges}
 use Rattle.m51_graph.proofs.Climbing.{tally_mono}
-use Rattle.m51_place.specs.Bound.{IsWeight, bytes_passing, count_below, covered_bytes, covers_byte, overlaid_bytes}
+use Rattle.m51_place.specs.Bound.{bytes_passing, count_below, covered_bytes, covers_byte}
 use Rattle.m51_place.specs.Bound.{overlays_byte, own_passes}
 use Rattle.m51_place.proofs.LeastWeight.{count_is}
 use Rattle.m51_place.proofs.WalkWeights.{data_kind}

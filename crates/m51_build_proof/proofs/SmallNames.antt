@@ -1,25 +1,20 @@
 -- The names of a text without faults have values with numbers of 16 bits.
-use Rattle.std.proofs.Common.{◌≡◌, ◌⊎◌, inl, inr, ℕ, zero, suc, ◌+◌, ◌<◌, ◌≤◌, nat_lt, Bool, true, false, cond, List}
-use Rattle.std.proofs.Common.{[], ◌∷◌, ◌++◌, length, Option, Some, None, option_map, Ok, Err, refl, sym, subst, arith}
-use Rattle.std.specs.Prelude.{slice_get, unwrap_or}
-use Rattle.std.specs.List.{AllByRecursion, list_all}
+use Rattle.m51_build_proof.proofs.Common.{◌≡◌, ◌⊎◌, inl, inr, ℕ, zero, suc, ◌+◌, ◌<◌, ◌≤◌, nat_lt, Bool, true, false}
+use Rattle.m51_build_proof.proofs.Common.{cond, List, [], ◌∷◌, ◌++◌, length, Option, Some, None, Ok, Err, refl, sym}
+use Rattle.m51_build_proof.proofs.Common.{subst, arith, slice_get, unwrap_or, AllByRecursion, and_parts, ltb-false}
+use Rattle.m51_build_proof.proofs.Common.{Kind, Value, Tree, Valued, BodyTree, IsTree, LineTree}
+use Rattle.std.proofs.Common.{option_map}
+use Rattle.std.specs.List.{list_all}
 use Rattle.std.specs.Str.{bytes_eq}
-use Rattle.std.proofs.lemmas.Bool.{and_parts, cases_lt, ltb-true, ltb-false}
+use Rattle.std.proofs.lemmas.Bool.{cases_lt, ltb-true}
 use Rattle.std.proofs.lemmas.List.Quantifiers.{position-Some}
 use Rattle.std.proofs.lemmas.Option.{slice_get_past}
 use Rattle.m51_cells.specs.declared.fault.TheConstants.{OUT_OF_RANGE}
-use Rattle.m51_cells.specs.declared.kind.Kind.{Kind}
-use Rattle.m51_expr.specs.declared.value.Value.{Value}
-use Rattle.m51_expr.specs.Tree.{Tree}
-use Rattle.m51_expr.specs.Value.{Valued}
 use Rattle.m51_expr.specs.Evaluation.{value_of}
 use Rattle.m51_expr.specs.Words.{bank_registers}
 use Rattle.m51_predefined.specs.Predefined.{register_or_bit, absolute_register_of, register_value}
 use Rattle.m51_sfr.specs.Registers.{Row, address_in, bits, registers, table}
 use Rattle.m51_stmt.specs.Statement as body
-use Rattle.m51_stmt.specs.Statement.{BodyTree}
-use Rattle.m51_stmt.proofs.PrintedTrees.{IsTree}
-use Rattle.m51_text.specs.Answer.{LineTree}
 use Rattle.m51_asm.specs.Definitions.{Definition, Label, SegmentOf, EquOf, SetOf, AddressOf, ExternOf, definitions_in}
 use Rattle.m51_asm.specs.Definitions.{label_defined, defined_by, externals_from, found_in, definition_from}
 use Rattle.m51_asm.specs.Definitions.{definition_of}

@@ -1,34 +1,30 @@
 -- Where names and the place of a statement have numbers of 16 bits, so has the value of each expression that writes
 -- such numbers.
-use Rattle.std.proofs.Common.{◌≡◌, ℕ, ◌+◌, ◌*◌, ◌-◌, ◌/◌, ◌%◌, ◌^◌, ◌<◌, ◌≤◌, nat_lt, nat_le, ◌==◌, Bool, true, false}
-use Rattle.std.proofs.Common.{not, ◌&&◌, ◌||◌, cond, List, Option, Some, None, Ok, Err, refl, subst, arith}
-use Rattle.std.specs.Prelude.{unwrap_or}
+use Rattle.m51_build_proof.proofs.Common.{◌≡◌, ℕ, ◌+◌, ◌*◌, ◌-◌, ◌%◌, ◌<◌, ◌≤◌, nat_lt, nat_le, Bool, true, false, ◌&&◌}
+use Rattle.m51_build_proof.proofs.Common.{◌||◌, cond, List, Option, Some, None, Ok, Err, refl, subst, arith, unwrap_or}
+use Rattle.m51_build_proof.proofs.Common.{and_parts, leb-true, ltb-false, same_Some, Kind, and_then, same_Ok, Value}
+use Rattle.m51_build_proof.proofs.Common.{Tree, Valued, IsTree}
+use Rattle.std.proofs.Common.{◌/◌, ◌^◌, ◌==◌}
+use Rattle.std.proofs.Common.{not}
 use Rattle.std.proofs.Math.Nat.{div-le_self, mod-le}
-use Rattle.std.proofs.lemmas.Bool.{and_parts, leb-true, ltb-false}
 use Rattle.std.proofs.lemmas.Nat.{and_le_l, or_of_16, xor_of_16}
-use Rattle.std.proofs.lemmas.Option.{same_Some}
 use Rattle.m51_cells.specs.declared.kind.Base.{Base}
 use Rattle.m51_cells.specs.declared.kind.Base.TheVariants as base
-use Rattle.m51_cells.specs.declared.kind.Kind.{Kind}
 use Rattle.m51_cells.specs.declared.kind.Kind.TheVariants as kind
-use Rattle.m51_cells.specs.Outcome.{and_then}
-use Rattle.m51_cells.proofs.Passing.{same_Ok}
 use Rattle.m51_expr.specs.declared.fault.ExprError.{ExprError}
 use Rattle.m51_expr.specs.declared.value.Part.{Part}
 use Rattle.m51_expr.specs.declared.value.Part.TheVariants.{Whole, High, Low, Bit}
-use Rattle.m51_expr.specs.declared.value.Value.{Value}
 use Rattle.m51_expr.specs.declared.tree.Unary.{Unary}
 use Rattle.m51_expr.specs.declared.tree.Unary.TheVariants as op1
 use Rattle.m51_expr.specs.declared.tree.Binary.{Binary}
 use Rattle.m51_expr.specs.declared.tree.Binary.TheVariants as op2
-use Rattle.m51_expr.specs.Tree.{Tree, Number, Name, Here, One, Two}
-use Rattle.m51_expr.specs.Value.{Valued, fault, plain, is_whole, bit_address, counted, part_of}
-use Rattle.m51_expr.specs.Meanings.{Meanings, is_absolute, is_unplaced, as_number}
+use Rattle.m51_expr.specs.Tree.{Number, Name, Here, One, Two}
+use Rattle.m51_expr.specs.Value.{fault, plain, is_whole, bit_address, counted, part_value}
+use Rattle.m51_expr.specs.Meanings.{Meanings, is_absolute_base, is_unplaced, as_number}
 use Rattle.m51_expr.specs.Operators.{under, kept_under, or_number, unary, settled, beside, arithmetic, class_of}
 use Rattle.m51_expr.specs.Operators.{base_of, on_base, of_numbers, of_wholes, binary, truth}
-use Rattle.m51_expr.specs.Bits.{has_bits, keeps_base, with_bit, placed_bit, bit_of, dot}
+use Rattle.m51_expr.specs.Bits.{has_bits, keeps_base, with_bit, placed_bit, dotted_bit, dot}
 use Rattle.m51_expr.specs.Evaluation.{is_dot, applied, or_unknown, value_of}
-use Rattle.m51_stmt.proofs.PrintedTrees.{IsTree}
 
 pub record IsSmall (v : Value) : Type 0 where
   pub number : v.number < 65536
@@ -116,7 +112,7 @@ or_zero_small : (o : Option ℕ) → IfAddress o → unwrap_or o 0 < 65536
 or_zero_small None h = omega arith
 or_zero_small (Some n) h = h.holds n refl
 
-part_small : (n : ℕ) (part : Part) → n < 65536 → part_of n part < 65536
+part_small : (n : ℕ) (part : Part) → n < 65536 → part_value n part < 65536
 part_small n Whole h = h
 part_small n High h = omega (arith, h)
 part_small n Low h = omega (arith, h)
@@ -219,7 +215,8 @@ settled_small names v h = value_cond (is_unplaced names v.base || is_whole v.par
     (plain_small (counted v) v.class (counted_small v h))
 
 beside_small : (names : Meanings) (other : Base) (v : Value) → IsSmall v → IsSmall (beside names other v)
-beside_small names other v h = value_cond (is_unplaced names other && is_absolute names v.base) (plain v.number v.class)
+beside_small names other v h =
+    value_cond (is_unplaced names other && is_absolute_base names v.base) (plain v.number v.class)
     v (plain_small v.number v.class h.number) h
 
 on_small : (class : Kind) (o : Option Base) (from number : Valued ℕ) → IfNumber from → IfNumber number
@@ -254,7 +251,7 @@ placed_small x bit (Some address) h k =
     (value_cond (keeps_base x) (with_bit x bit) (plain address kind.Bits) (record { number = h.number })
     (plain_small address kind.Bits (k.holds address refl)))
 
-bit_small : (names : Meanings) (x : Value) (bit : ℕ) → IsSmall x → IfSmall (bit_of names x bit)
+bit_small : (names : Meanings) (x : Value) (bit : ℕ) → IsSmall x → IfSmall (dotted_bit names x bit)
 bit_small names x bit h =
     if_cond (nat_lt 7 bit) (fault 10) _ (if_err _)
     (if_cond (is_unplaced names x.base) (cond (has_bits names x.base x.class) (Ok (with_bit x bit)) (fault 10))
@@ -266,8 +263,9 @@ bit_small names x bit h =
 dot_small : (names : Meanings) (x n : Value) → IsSmall x → IsSmall n → IfSmall (dot names x n)
 dot_small names x n h k =
     if_cond (is_unplaced names x.base && not (is_whole x.part)) (fault 8)
-    (and_then (as_number names n) (bit_of names x)) (if_err _)
-    (if_number (as_number names n) (bit_of names x) (as_number_small names n k) (λ bit less. bit_small names x bit h))
+    (and_then (as_number names n) (dotted_bit names x)) (if_err _)
+    (if_number (as_number names n) (dotted_bit names x) (as_number_small names n k)
+    (λ bit less. bit_small names x bit h))
 
 applied_small : (names : Meanings) (op : Binary) (x y : Value) → IsSmall x → IsSmall y → IfSmall (applied names op x y)
 applied_small names op x y h k =

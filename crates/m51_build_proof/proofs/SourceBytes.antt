@@ -1,16 +1,13 @@
 -- The pieces of the module that a source gives are of bytes.
-use Rattle.std.proofs.Common.{◌≡◌, ℕ, suc, ◌+◌, ◌*◌, ◌==◌, Bool, true, false, cond, List, [], ◌∷◌, ◌++◌, length, map}
-use Rattle.std.proofs.Common.{drop, Option, Some, None, refl, sym, subst}
-use Rattle.std.specs.List.{AllByRecursion, flat_map}
+use Rattle.m51_build_proof.proofs.Common.{◌≡◌, ℕ, suc, ◌+◌, ◌*◌, Bool, true, false, cond, List, [], ◌∷◌, ◌++◌, length}
+use Rattle.m51_build_proof.proofs.Common.{map, drop, Option, Some, None, refl, sym, subst, AllByRecursion, flat_map}
+use Rattle.m51_build_proof.proofs.Common.{Piece, ModuleParts, Row, SourceFile, IsBytes, LineTree, AnswerTree, Gives}
+use Rattle.m51_build_proof.proofs.Common.{IsAnswer}
+use Rattle.std.proofs.Common.{◌==◌}
 use Rattle.m51_cells.specs.declared.limits.TheConstants.{MOST_PIECE_BYTES}
-use Rattle.m51_module.specs.declared.content.Piece.{Piece}
-use Rattle.m51_module.specs.declared.parts.ModuleParts.{ModuleParts}
 use Rattle.m51_module.specs.declared.source.Fault.{Fault}
-use Rattle.m51_module.specs.declared.source.Row.{Row}
-use Rattle.m51_module.specs.declared.source.SourceFile.{SourceFile}
-use Rattle.m51_records.proofs.FieldLaws.{IsBytes}
-use Rattle.m51_text.specs.Answer.{LineTree, Lines, TextTree, Faults as TextFaults, text_of}
-use Rattle.m51_asm.specs.Answer.{AnswerTree, Gives, IsAnswer, IsAnswerOf, answer_of_lines, content_or_faults}
+use Rattle.m51_text.specs.Answer.{Lines, TextTree, Faults as TextFaults, text_of}
+use Rattle.m51_asm.specs.Answer.{IsAnswerOf, answer_of_lines, content_or_faults}
 use Rattle.m51_asm.specs.Answer.{first_fault, placed_or_fault}
 use Rattle.m51_asm.specs.Assignment.{Assignment, body_at}
 use Rattle.m51_asm.specs.ContentFaults.{content_faults}

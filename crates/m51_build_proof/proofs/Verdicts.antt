@@ -1,46 +1,29 @@
 -- The outcome of a build, by what its files give and by the rules of the link.
-use Rattle.std.proofs.Common.{◌≡◌, inl, inr, ℕ, Bool, true, false, List, Option, Some, None, Result, Ok, Err, refl, sym}
-use Rattle.std.proofs.Common.{ap, subst, ◌∙◌}
-use Rattle.m51_cells.specs.Outcome.{and_then}
+use Rattle.m51_build_proof.proofs.Common.{◌≡◌, inl, inr, ℕ, Bool, true, false, List, Option, Some, None, Result, Ok}
+use Rattle.m51_build_proof.proofs.Common.{Err, refl, sym, ap, subst, ◌∙◌, and_then, ControlError, one_text, GraphParts}
+use Rattle.m51_build_proof.proofs.Common.{graph_of, unless, InputError, InputsTree, one_for_files, Linked, Program}
+use Rattle.m51_build_proof.proofs.Common.{joined_of, placed_of, Refusal, ModuleParts, Placing, placing_of, resolved_of}
+use Rattle.m51_build_proof.proofs.Common.{Script, BuildJob, IsBuildOutcome, build_files, input_outcome, Follows}
+use Rattle.m51_build_proof.proofs.Common.{IsInputsOutcome, IsProgramOutcome, Unlinked, program_in, link_outcome}
+use Rattle.m51_build_proof.proofs.Common.{Outcome, status_by, AreAnswered, Given, IsGivenOutcome, ProgramFiles, Refused}
+use Rattle.m51_build_proof.proofs.Common.{control_content, script_content, word_contents, IsReport, IsAccepted, IsBuilt}
+use Rattle.m51_build_proof.proofs.Common.{IsRun}
 use Rattle.m51_cells.specs.declared.event.Event.{Event as RunEvent}
-use Rattle.m51_control.specs.declared.error.ControlError.{ControlError}
 use Rattle.m51_control.specs.declared.error.ControlError.TheVariants as control
-use Rattle.m51_asm.proofs.OneAnswer.{one_answer as one_text}
-use Rattle.m51_graph.specs.declared.parts.GraphParts.{GraphParts}
-use Rattle.m51_graph.specs.Graphs.{graph_of, unless}
-use Rattle.m51_inputs.specs.declared.error.InputError.{InputError}
 use Rattle.m51_inputs.specs.declared.error.InputError.TheVariants as input
-use Rattle.m51_inputs.specs.Inputs.{InputsTree}
-use Rattle.m51_inputs.proofs.OneEach.{one_answer as one_for_files}
-use Rattle.m51_linker.specs.declared.linked.Linked.{Linked}
 use Rattle.m51_linker.specs.Broken.{broken_rule}
-use Rattle.m51_linker.specs.Link.{IsLinked, Program, checked_of, joined_of, placed_of}
+use Rattle.m51_linker.specs.Link.{IsLinked, checked_of}
 use Rattle.m51_module.specs.declared.library_error.LibError.{LibError}
 use Rattle.m51_module.specs.declared.library_error.LibError.TheVariants as library
-use Rattle.m51_module.specs.declared.linked.Refusal.{Refusal}
 use Rattle.m51_module.specs.declared.linked.Refusal.TheVariants as refusal
-use Rattle.m51_module.specs.declared.parts.ModuleParts.{ModuleParts}
-use Rattle.m51_place.specs.declared.placing.Placing.{Placing}
-use Rattle.m51_place.specs.Placement.{placing_of}
-use Rattle.m51_resolve.specs.Rules.{resolved_of}
 use Rattle.m51_script.specs.declared.error.ScriptError.{ScriptError}
 use Rattle.m51_script.specs.declared.error.ScriptError.TheVariants as script
-use Rattle.m51_script.specs.declared.script.Script.{Script}
 use Rattle.m51_sim.specs.Report.{report_of}
-use Rattle.m51_jobs.specs.declared.job.BuildJob.{BuildJob}
 use Rattle.m51_verbs.specs.declared.status.Status.{Status}
 use Rattle.m51_verbs.specs.declared.status.Status.TheVariants as status
-use Rattle.m51_chain.specs.Builds.{IsBuildOutcome, build_files}
-use Rattle.m51_chain.specs.InputRefusals.{input_outcome}
-use Rattle.m51_chain.specs.Linking.{Follows, IsInputsOutcome, IsProgramOutcome, Unlinked, program_in}
-use Rattle.m51_verbs.specs.LinkRefusals.{link_outcome}
-use Rattle.m51_verbs.specs.Outcome.{Outcome, status_by}
-use Rattle.m51_chain.specs.ProgramFiles.{AreAnswered, Given, IsGivenOutcome, ProgramFiles, Refused, control_content}
-use Rattle.m51_chain.specs.ProgramFiles.{script_content, word_contents}
-use Rattle.m51_chain.specs.Programs.{IsReport}
 use Rattle.m51_chain.proofs.Accepted.{ok_same}
 use Rattle.m51_chain.proofs.OneOutcome.{err_same, one_linked}
-use Rattle.m51_build_proof.specs.Builds.{IsAccepted, IsBuilt, IsRun, MeetsRules}
+use Rattle.m51_build_proof.specs.Builds.{MeetsRules}
 use Rattle.m51_build_proof.specs.Headline.{LinksExactly, PrintsRecord}
 
 -- the rules, one by one, and the program

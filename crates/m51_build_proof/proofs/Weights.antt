@@ -1,21 +1,19 @@
 -- Each graph has a weight: without cycles there is a heaviest walk from each unit.
-use Rattle.std.proofs.Common.{◌≡◌, ◌⊎◌, inl, inr, ℕ, zero, suc, ◌+◌, ◌<◌, ◌≤◌, true, Bool, not, List, [], ◌∷◌, length}
-use Rattle.std.proofs.Common.{map, refl, sym, ap, subst, ◌∙◌, arith}
-use Rattle.std.specs.List.{Contains, list_any, sum_by}
-use Rattle.std.proofs.lemmas.Bool.{cases_Bool, cases_lt, false≢true, not-true}
+use Rattle.m51_build_proof.proofs.Common.{◌≡◌, ◌⊎◌, inl, inr, ℕ, zero, suc, ◌+◌, ◌<◌, ◌≤◌, true, Bool, List, [], ◌∷◌}
+use Rattle.m51_build_proof.proofs.Common.{length, map, refl, sym, ap, subst, ◌∙◌, arith, list_any, false≢true, Chain}
+use Rattle.m51_build_proof.proofs.Common.{vectors, GraphParts, IsGraph, leads}
+use Rattle.std.proofs.Common.{not}
+use Rattle.std.specs.List.{Contains, sum_by}
+use Rattle.std.proofs.lemmas.Bool.{cases_Bool, cases_lt, not-true}
 use Rattle.std.proofs.lemmas.List.Folds.{Any-from_list_any, list_any-from_Any}
 use Rattle.std.proofs.lemmas.List.Sums.{sum_by-cons}
 use Rattle.m51_cells.proofs.Small.{contains_after, contains_first, first_or_after, none_in_empty}
-use Rattle.m51_module.specs.declared.linked.Chain.{Chain}
 use Rattle.m51_module.specs.Chains.{ChainsFrom, ComesFirst, IsHeaviestWalk, LacksRoot, sum_along}
-use Rattle.m51_module.specs.Roots.{vectors}
 use Rattle.m51_module.specs.Walks.{Edges, HasEdge, IsWalk, Reaches}
 use Rattle.m51_module.proofs.Units.{same_or_not}
 use Rattle.m51_resolve.specs.declared.segment.JoinedSegment.{JoinedSegment}
-use Rattle.m51_graph.specs.declared.parts.GraphParts.{GraphParts}
-use Rattle.m51_graph.specs.Graph.{IsGraph, LeadWithin, UnitLiesUnder, joined_graph}
+use Rattle.m51_graph.specs.Graph.{LeadWithin, UnitLiesUnder, joined_graph}
 use Rattle.m51_graph.specs.Graphs.{lies_under}
-use Rattle.m51_graph.specs.Leading.{leads}
 use Rattle.m51_graph.proofs.Climbing.{rank, rank_edge, tally_le}
 use Rattle.m51_graph.proofs.Relations.{above_tells}
 use Rattle.m51_place.specs.Overlay.{bytes_joined, unit_weight}

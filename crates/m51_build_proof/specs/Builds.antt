@@ -54,12 +54,12 @@ abbrev pub IsRun : Outcome → Type 0
 IsRun outcome = (outcome.status ≡ Ran) ⊎ (outcome.status ≡ Event)
 
 -- a file is a list of bytes
-abbrev pub AreBytes : List ℕ → Type 0
-AreBytes bytes = All (λ byte. byte < 256) bytes
+abbrev pub IsByteList : List ℕ → Type 0
+IsByteList bytes = All (λ byte. byte < 256) bytes
 
 -- each file is
 abbrev pub AreOfBytes : List (List ℕ) → Type 0
-AreOfBytes contents = All AreBytes contents
+AreOfBytes contents = All IsByteList contents
 
 -- The record of at most n steps after a reset, on the machine that keeps each segment in a store of its own.
 abbrev pub separate_run : Linked → Script → ℕ → Record Separate

@@ -12,12 +12,12 @@ use Rattle.m51_verbs.specs.Reading.{Whole, read_of}
 use Rattle.m51_shelf.specs.Shelf.{Files}
 use Rattle.m51_chain.specs.Told.{IsTold, Written}
 use Rattle.m51_chain.specs.Verbs.{IsOutcome}
-use Rattle.m51_build_proof.specs.Builds.{AreBytes}
+use Rattle.m51_build_proof.specs.Builds.{IsByteList}
 use Rattle.m51_build_proof.specs.Headline.{IsAsPromised}
 
 -- each file is of bytes
 abbrev pub HoldBytes : Files → Type 0
-HoldBytes held = (name file : List ℕ) → held name ≡ Some file → AreBytes file
+HoldBytes held = (name file : List ℕ) → held name ≡ Some file → IsByteList file
 
 -- The build was done as promised.
 pub record KeepsPromise (job : BuildJob) (held : Files) (c : Change) (told : Status) : Type 0 where

@@ -31,8 +31,8 @@ use Rattle.m51_module.specs.Sound.{IsSound, IsFit, IsInside, HasOwners}
 use Rattle.m51_module.specs.Walks.{HasEdge, IsWalk, last_of, Reaches, has_edge}
 use Rattle.m51_module.proofs.Owning.{pair_of_owner}
 use Rattle.m51_module.proofs.Reach.{reach_edge}
-use Rattle.m51_monitor.specs.Found.{is_absolute, passes}
-use Rattle.m51_monitor.specs.Stores.{is_in, is_overlaid_at, is_overlaid_mark, is_segment}
+use Rattle.m51_monitor.specs.Found.{is_absolute_mark, extent_meets}
+use Rattle.m51_monitor.specs.Stores.{is_same_space, is_overlaid_at, is_overlaid_mark, is_segment}
 use Rattle.m51_module.proofs.EdgeTests.{edge_tells}
 use Rattle.m51_cases.proofs.SoundTests.{apart_at, are_apart, are_siblings, each_below, each_of, ends_inside, fits}
 use Rattle.m51_cases.proofs.SoundTests.{has_owners, is_code_segment, is_leaf, is_no_late_code, is_number, is_owner}
@@ -82,22 +82,23 @@ is_a_segment Absolute h = refl
 is_a_segment Plain h = refl
 is_a_segment Overlaid h = refl
 
-in_itself : (s : Space) → is_in s s ≡ true
+in_itself : (s : Space) → is_same_space s s ≡ true
 in_itself Ram = refl
 in_itself Xram = refl
 in_itself CodeSpace = refl
 
 no_meet : (e f : Extent) → are_apart e f ≡ true → Meet e f → ⊥
 no_meet e f h (c, one, two) = ⊎_elim
-    (λ (k : not (is_in e.space f.space) ≡ true). refuted (is_in e.space f.space) k
-    (subst (λ (s : Space). is_in e.space s ≡ true) (sym one.space ∙ two.space) (in_itself e.space)))
+    (λ (k : not (is_same_space e.space f.space) ≡ true). refuted (is_same_space e.space f.space) k
+    (subst (λ (s : Space). is_same_space e.space s ≡ true) (sym one.space ∙ two.space) (in_itself e.space)))
     (λ (k : (nat_le (e.first + e.len) f.first || nat_le (f.first + f.len) e.first) ≡ true). ⊎_elim
     (λ (q : nat_le (e.first + e.len) f.first ≡ true). let le = leb-true (e.first + e.len) f.first q in
     omega (arith, le, one.below, two.from))
     (λ (q : nat_le (f.first + f.len) e.first ≡ true). let le = leb-true (f.first + f.len) e.first q in
     omega (arith, le, two.below, one.from))
     (or_cases (nat_le (e.first + e.len) f.first) (nat_le (f.first + f.len) e.first) k))
-    (or_cases (not (is_in e.space f.space)) (nat_le (e.first + e.len) f.first || nat_le (f.first + f.len) e.first) h)
+    (or_cases (not (is_same_space e.space f.space))
+    (nat_le (e.first + e.len) f.first || nat_le (f.first + f.len) e.first) h)
 
 module _ (p : Placed) (some : 0 < p.size) where
   inside_of : (k : Kind) → p.kind ≡ k → IsInside (extent_of k p.base p.size) → IsInside (extent_at p)
@@ -165,7 +166,7 @@ owners_are (own ∷ other ∷ third ∷ more) h = cc h
 
 module _ (l : LayoutParts) (vectors : List ℕ) (root : IsRootAt l 0 0)
     (few_units : length l.units ≤ 1000) (few_placed : length l.placed < 65536)
-    (fitting : each_below (length l.placed) (λ s. passes fits (slice_get l.placed s)) ≡ true)
+    (fitting : each_below (length l.placed) (λ s. extent_meets fits (slice_get l.placed s)) ≡ true)
     (ordered : each_below (length l.units) (is_unit_in_order l) ≡ true)
     (none_late : each_below (length l.placed) (is_no_late_code l) ≡ true)
     (in_place : each_below (length l.placed) (is_root_in_place vectors l) ≡ true)
@@ -180,16 +181,17 @@ module _ (l : LayoutParts) (vectors : List ℕ) (root : IsRootAt l 0 0)
   inside s p h = slice_get_within l.placed s p h
 
   fit : (s : ℕ) (p : Placed) → IsPlaced l s p → IsFit p
-  fit s p h = fit_of p (subst (λ (o : Option Placed). passes fits o ≡ true) h
-      (below_each (length l.placed) (λ s. passes fits (slice_get l.placed s)) fitting s (inside s p h)))
+  fit s p h = fit_of p (subst (λ (o : Option Placed). extent_meets fits o ≡ true) h
+      (below_each (length l.placed) (λ s. extent_meets fits (slice_get l.placed s)) fitting s (inside s p h)))
 
-  in_order : (u s : ℕ) → slice_get l.units u ≡ Some s → (s ≡ u) × (passes is_code_segment (slice_get l.placed u) ≡ true)
+  in_order : (u s : ℕ) → slice_get l.units u ≡ Some s → (s ≡ u)
+      × (extent_meets is_code_segment (slice_get l.placed u) ≡ true)
   in_order u s h =
-      let k = and_parts (is_number (slice_get l.units u) u) (passes is_code_segment (slice_get l.placed u))
+      let k = and_parts (is_number (slice_get l.units u) u) (extent_meets is_code_segment (slice_get l.placed u))
       (below_each (length l.units) (is_unit_in_order l) ordered u (slice_get_within l.units u s h)) in
       (eqb-true s u (subst (λ (o : Option ℕ). is_number o u ≡ true) h k.0), k.1)
 
-  code_at : (s : ℕ) (o : Option Placed) → slice_get l.placed s ≡ o → passes is_code_segment o ≡ true
+  code_at : (s : ℕ) (o : Option Placed) → slice_get l.placed s ≡ o → extent_meets is_code_segment o ≡ true
       → (p : Placed) × IsPlaced l s p × IsCodeSegment p
   code_at s None e h = cc h
   code_at s (Some p) e h = (p, e, code_of p h)
@@ -198,17 +200,17 @@ module _ (l : LayoutParts) (vectors : List ℕ) (root : IsRootAt l 0 0)
   is_code_at u s h =
       let k = in_order u s h in
       code_at s (slice_get l.placed s) refl
-      (subst (λ n. passes is_code_segment (slice_get l.placed n) ≡ true) (sym k.0) k.1)
+      (subst (λ n. extent_meets is_code_segment (slice_get l.placed n) ≡ true) (sym k.0) k.1)
 
   is_unit : (s : ℕ) (p : Placed) → IsPlaced l s p → IsCodeSegment p → Contains l.units s
   is_unit s p h code = ⊎_elim
       (λ (e : nat_lt s (length l.units) ≡ true). let lt = lt_is s (length l.units) e in
       (s, lt, (in_order s (get_or l.units s s) (slice_get-get_or l.units s s lt)).0))
-      (λ (e : not (passes is_code_segment (slice_get l.placed s)) ≡ true).
-      absurd (refuted (passes is_code_segment (slice_get l.placed s)) e
-      (subst (λ (o : Option Placed). passes is_code_segment o ≡ true) (sym h)
+      (λ (e : not (extent_meets is_code_segment (slice_get l.placed s)) ≡ true).
+      absurd (refuted (extent_meets is_code_segment (slice_get l.placed s)) e
+      (subst (λ (o : Option Placed). extent_meets is_code_segment o ≡ true) (sym h)
       (and_from (is_code p.kind) (is_segment p.mark) (ap is_code code.kind) (is_a_segment p.mark code.segment)))))
-      (or_cases (nat_lt s (length l.units)) (not (passes is_code_segment (slice_get l.placed s)))
+      (or_cases (nat_lt s (length l.units)) (not (extent_meets is_code_segment (slice_get l.placed s)))
       (below_each (length l.placed) (is_no_late_code l) none_late s (inside s p h)))
 
   edge_up : (u v : ℕ) → HasEdge l.edges u v → (u < v) × (v < length l.units) × (vector u ≡ vector v)
@@ -237,16 +239,17 @@ module _ (l : LayoutParts) (vectors : List ℕ) (root : IsRootAt l 0 0)
       let s = h.unit_is.segment in
       let same = (in_order r s h.unit_is.unit_is).0 in
       ⊎_elim
-      (λ (e : not (passes (λ p. is_absolute p.mark) (slice_get l.placed s)) ≡ true).
-      absurd (refuted (passes (λ p. is_absolute p.mark) (slice_get l.placed s)) e
-      (subst (λ (o : Option Placed). passes (λ p. is_absolute p.mark) o ≡ true) (sym h.unit_is.placed)
-      (ap is_absolute h.absolute))))
-      (λ (e : passes (λ p. nat_eq p.base (slice_index vectors s)) (slice_get l.placed s) ≡ true).
+      (λ (e : not (extent_meets (λ p. is_absolute_mark p.mark) (slice_get l.placed s)) ≡ true).
+      absurd (refuted (extent_meets (λ p. is_absolute_mark p.mark) (slice_get l.placed s)) e
+      (subst (λ (o : Option Placed). extent_meets (λ p. is_absolute_mark p.mark) o ≡ true) (sym h.unit_is.placed)
+      (ap is_absolute_mark h.absolute))))
+      (λ (e : extent_meets (λ p. nat_eq p.base (slice_index vectors s)) (slice_get l.placed s) ≡ true).
       sym h.base ∙ eqb-true h.is.base (slice_index vectors s)
-      (subst (λ (o : Option Placed). passes (λ p. nat_eq p.base (slice_index vectors s)) o ≡ true) h.unit_is.placed
+      (subst (λ (o : Option Placed). extent_meets (λ p. nat_eq p.base (slice_index vectors s)) o ≡ true)
+      h.unit_is.placed
       e) ∙ ap (slice_index vectors) same)
-      (or_cases (not (passes (λ p. is_absolute p.mark) (slice_get l.placed s)))
-      (passes (λ p. nat_eq p.base (slice_index vectors s)) (slice_get l.placed s))
+      (or_cases (not (extent_meets (λ p. is_absolute_mark p.mark) (slice_get l.placed s)))
+      (extent_meets (λ p. nat_eq p.base (slice_index vectors s)) (slice_get l.placed s))
       (below_each (length l.placed) (is_root_in_place vectors l) in_place s (inside s h.is h.unit_is.placed)))
 
   under_vector : (x u : ℕ) → UnitLiesUnder l x u → x ≡ vector u

@@ -13,8 +13,8 @@ use Rattle.m51_module.specs.declared.placed.Mark.{Mark}
 use Rattle.m51_module.specs.declared.placed.Placed.{Placed}
 use Rattle.m51_module.specs.Cells.{extent_at}
 use Rattle.m51_module.specs.Plan.{owners_of}
-use Rattle.m51_monitor.specs.Found.{is_absolute, passes}
-use Rattle.m51_monitor.specs.Stores.{is_in, is_overlaid_at, is_overlaid_mark, is_segment}
+use Rattle.m51_monitor.specs.Found.{is_absolute_mark, extent_meets}
+use Rattle.m51_monitor.specs.Stores.{is_same_space, is_overlaid_at, is_overlaid_mark, is_segment}
 use Rattle.m51_module.specs.Walks.{has_edge}
 
 -- each number below this one passes
@@ -46,16 +46,16 @@ abbrev pub is_code_segment : Placed → Bool
 is_code_segment p = is_code p.kind && is_segment p.mark
 
 abbrev pub is_unit_in_order : LayoutParts → ℕ → Bool
-is_unit_in_order l u = is_number (slice_get l.units u) u && passes is_code_segment (slice_get l.placed u)
+is_unit_in_order l u = is_number (slice_get l.units u) u && extent_meets is_code_segment (slice_get l.placed u)
 
 -- segments of program memory come first
 abbrev pub is_no_late_code : LayoutParts → ℕ → Bool
-is_no_late_code l s = nat_lt s (length l.units) || not (passes is_code_segment (slice_get l.placed s))
+is_no_late_code l s = nat_lt s (length l.units) || not (extent_meets is_code_segment (slice_get l.placed s))
 
 -- a root begins at the vector of its unit
 abbrev pub is_root_in_place : List ℕ → LayoutParts → ℕ → Bool
-is_root_in_place vectors l s = not (passes (λ p. is_absolute p.mark) (slice_get l.placed s))
-    || passes (λ p. nat_eq p.base (slice_index vectors s)) (slice_get l.placed s)
+is_root_in_place vectors l s = not (extent_meets (λ p. is_absolute_mark p.mark) (slice_get l.placed s))
+    || extent_meets (λ p. nat_eq p.base (slice_index vectors s)) (slice_get l.placed s)
 
 abbrev pub leads_up : List ℕ → LayoutParts → ℕ × ℕ → Bool
 leads_up vectors l edge =
@@ -77,7 +77,7 @@ has_owners l s = not (is_overlaid_at (slice_get l.placed s)) || one_or_two (owne
 
 -- the extents share no cell
 abbrev pub are_apart : Extent → Extent → Bool
-are_apart one two = not (is_in one.space two.space)
+are_apart one two = not (is_same_space one.space two.space)
     || (nat_le (one.first + one.len) two.first || nat_le (two.first + two.len) one.first)
 
 -- the first unit calls it, and it calls none

@@ -103,9 +103,9 @@ const EXTERNALS: &str = "01 FF FB 03
 // bit 3 PT0, bit 4 PS, and bit 5 the low level in progress.
 const CHOICES: &[u8] = b"-----TST-----TST-----TSS-----TST-------------T-T------SS-----TST";
 
-// The value of the digit at a place of a row; 0 where there is none.
-fn digit(row: &[u8], place: usize) -> u8 {
-    match row.get(place) {
+// The value of the digit at a position of a row; 0 where there is none.
+fn digit(row: &[u8], position: usize) -> u8 {
+    match row.get(position) {
         Some(byte) => digit_value(*byte).unwrap_or(0),
         None => 0,
     }
@@ -113,9 +113,9 @@ fn digit(row: &[u8], place: usize) -> u8 {
 
 // The byte of that index of a table's row, in which each byte is two hexadecimal digits with a blank after them.
 fn at(row: &[u8], index: usize) -> u8 {
-    let place = index.saturating_mul(3);
-    let high = digit(row, place);
-    let low = digit(row, place.saturating_add(1));
+    let position = index.saturating_mul(3);
+    let high = digit(row, position);
+    let low = digit(row, position.saturating_add(1));
     high.wrapping_mul(16).wrapping_add(low)
 }
 

@@ -57,7 +57,7 @@ D s206 D S. ?.....0116
 D ret_ R R. ?.........
 R call B C4 ?.....??.?";
 
-// The places: the root of the reset; units that it calls, with an argument at 08H and the byte 20H, with the bits 0
+// The addresses: the root of the reset; units that it calls, with an argument at 08H and the byte 20H, with the bits 0
 // and 1, and with the byte 09H, which jumps to one with the byte 0AH, and calls itself; the root at 0003H with the
 // byte 0CH, the unit that it calls, with 0BH, the root at 000BH, with 0DH, above both, and the first of these roots
 // once more.
@@ -134,14 +134,14 @@ fn holds(run: &mut MonitorRun, row: &[u8]) -> bool {
         && marks
             .iter()
             .enumerate()
-            .all(|(place, mark)| *mark == at(row, place.saturating_add(12)))
+            .all(|(index, mark)| *mark == at(row, index.saturating_add(12)))
 }
 
 // How many rows, from the first, end as they say.
 fn rows_held(run: &mut MonitorRun, table: &str) -> usize {
-    for (place, row) in table.lines().enumerate() {
+    for (index, row) in table.lines().enumerate() {
         if !holds(run, row.as_bytes()) {
-            return place;
+            return index;
         }
     }
     table.lines().count()

@@ -222,8 +222,8 @@ impl MonitorRun {
     /// How many return records there are, and how many name each unit.
     pub(crate) fn depth_and_named(&self) -> (u8, [u8; 8]) {
         let mut named = [0; 8];
-        for (place, count) in self.monitor.named().iter().take(8).enumerate() {
-            named[place] = *count;
+        for (index, count) in self.monitor.named().iter().take(8).enumerate() {
+            named[index] = *count;
         }
         (self.monitor.depth(), named)
     }

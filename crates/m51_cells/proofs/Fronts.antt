@@ -7,7 +7,8 @@ use Rattle.std.specs.Io.KnownBytes.{Appends}
 use Rattle.m51_cells.specs.Outside.{AppendsFront}
 
 -- a text, and then a prefix of another, are a prefix of the two together
-pub front_at_end : (a b c : Option (List ℕ)) (xs ys : List ℕ) → Appends a b xs → AppendsFront b c ys → AppendsFront a c (xs ++ ys)
+pub front_at_end : (a b c : Option (List ℕ)) (xs ys : List ℕ) → Appends a b xs → AppendsFront b c ys
+    → AppendsFront a c (xs ++ ys)
 front_at_end a b c xs ys p q =
     let some : take (length xs + q.0) (xs ++ ys) ≡ xs ++ take q.0 ys = take-append-add xs ys q.0 in
     (length xs + q.0, omega (arith, length-append xs ys, q.1), rw some (Appends-trans a b c xs (take q.0 ys) p q.2))
@@ -17,5 +18,6 @@ pub front_more : (a b : Option (List ℕ)) (xs ys : List ℕ) → AppendsFront a
 front_more a b xs ys q = (q.0, omega (arith, length-append xs ys, q.1), rw (take-append-le q.0 xs ys q.1) (q.2))
 
 -- the same where a third text follows the second
-pub front_after : (a b c : Option (List ℕ)) (xs ys zs : List ℕ) → Appends a b xs → AppendsFront b c ys → AppendsFront a c (xs ++ (ys ++ zs))
+pub front_after : (a b c : Option (List ℕ)) (xs ys zs : List ℕ) → Appends a b xs → AppendsFront b c ys
+    → AppendsFront a c (xs ++ (ys ++ zs))
 front_after a b c xs ys zs p q = front_at_end a b c xs (ys ++ zs) p (front_more b c ys zs q)

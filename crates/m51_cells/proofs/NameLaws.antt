@@ -1,5 +1,6 @@
 -- Names in upper case.
-use Rattle.std.proofs.Common.{◌≡◌, ◌∙◌, ℕ, nat_le, Bool, true, false, not, ◌&&◌, cond, List, [], ◌∷◌, length, map, Some, None, refl, ap, subst, arith}
+use Rattle.std.proofs.Common.{◌≡◌, ◌∙◌, ℕ, nat_le, Bool, true, false, not, ◌&&◌, cond, List, [], ◌∷◌, length, map, Some}
+use Rattle.std.proofs.Common.{None, refl, ap, subst, arith}
 use Rattle.std.specs.Char.{is_ascii_digit, to_ascii_uppercase}
 use Rattle.std.specs.List.{list_all}
 use Rattle.std.proofs.lemmas.Bool.{and_from, and_parts, not-true}
@@ -12,7 +13,8 @@ use Rattle.m51_cells.specs.Name.{is_name_byte, is_name, name_of, IsWritten}
 -- a text in upper case stays as it is
 pub upper_again : (text : List ℕ) → map to_ascii_uppercase (map to_ascii_uppercase text) ≡ map to_ascii_uppercase text
 upper_again [] = refl
-upper_again (b ∷ bs) = ap (λ c. c ∷ map to_ascii_uppercase (map to_ascii_uppercase bs)) (uppercase-uppercase b) ∙ ap (λ l. to_ascii_uppercase b ∷ l) (upper_again bs)
+upper_again (b ∷ bs) = ap (λ c. c ∷ map to_ascii_uppercase (map to_ascii_uppercase bs)) (uppercase-uppercase b)
+    ∙ ap (λ l. to_ascii_uppercase b ∷ l) (upper_again bs)
 
 -- the byte of a name stays one
 pub upper_name_byte : (b : ℕ) → is_name_byte b ≡ true → is_name_byte (to_ascii_uppercase b) ≡ true
@@ -23,11 +25,14 @@ pub upper_digit : (b : ℕ) → is_ascii_digit (to_ascii_uppercase b) ≡ is_asc
 upper_digit b = grind (arith, nat_tests)
 
 -- so do the bytes of a name
-pub upper_name_bytes : (text : List ℕ) → list_all is_name_byte text ≡ true → list_all is_name_byte (map to_ascii_uppercase text) ≡ true
+pub upper_name_bytes : (text : List ℕ) → list_all is_name_byte text ≡ true
+    → list_all is_name_byte (map to_ascii_uppercase text) ≡ true
 upper_name_bytes [] h = refl
 upper_name_bytes (b ∷ text) h =
-    let parts : (is_name_byte b ≡ true) × (list_all is_name_byte text ≡ true) = and_parts (is_name_byte b) (list_all is_name_byte text) h in
-    and_from (is_name_byte (to_ascii_uppercase b)) (list_all is_name_byte (map to_ascii_uppercase text)) (upper_name_byte b parts.0) (upper_name_bytes text parts.1)
+    let parts : (is_name_byte b ≡ true) × (list_all is_name_byte text ≡ true) =
+    and_parts (is_name_byte b) (list_all is_name_byte text) h in
+    and_from (is_name_byte (to_ascii_uppercase b)) (list_all is_name_byte (map to_ascii_uppercase text))
+    (upper_name_byte b parts.0) (upper_name_bytes text parts.1)
 
 -- the three tests of a name, apart
 pub record IsNameText (first : ℕ) (more : List ℕ) : Type 0 where
@@ -37,7 +42,9 @@ pub record IsNameText (first : ℕ) (more : List ℕ) : Type 0 where
 
 pub name_parts : (first : ℕ) (more : List ℕ) → is_name (first ∷ more) ≡ true → IsNameText first more
 name_parts first more h =
-    let all = and_parts (not (is_ascii_digit first) && nat_le (length (first ∷ more)) 31) (list_all is_name_byte (first ∷ more)) h in
+    let all =
+    and_parts (not (is_ascii_digit first) && nat_le (length (first ∷ more)) 31)
+    (list_all is_name_byte (first ∷ more)) h in
     let front = and_parts (not (is_ascii_digit first)) (nat_le (length (first ∷ more)) 31) all.0 in
     record { digit = not-true (is_ascii_digit first) front.0; most = front.1; bytes = all.1 }
 
@@ -69,5 +76,6 @@ named_is_name text name h = (cond_some (is_name text) (map to_ascii_uppercase te
 pub name_written : (text name : List ℕ) → name_of text ≡ Some name → IsWritten name
 name_written text name h =
     let parts = cond_some (is_name text) (map to_ascii_uppercase text) name h in
-    let itself : IsWritten (map to_ascii_uppercase text) = name_is (map to_ascii_uppercase text) (name_upper text parts.0) ∙ ap (λ n. Some n) (upper_again text) in
+    let itself : IsWritten (map to_ascii_uppercase text) =
+    name_is (map to_ascii_uppercase text) (name_upper text parts.0) ∙ ap (λ n. Some n) (upper_again text) in
     subst (λ n. IsWritten n) parts.1 itself

@@ -1,10 +1,12 @@
 -- Small facts on tests, numbers and lists that std's lemmas lack.
-use Rattle.std.proofs.Common.{◌≡◌, ◌⊎◌, inl, inr, ℕ, zero, suc, ◌+◌, ◌*◌, ◌<◌, Bool, true, false, ◌==◌, cond, List, [], ◌∷◌, ◌++◌, Option, Some, refl, ap, ◌∙◌, arith}
+use Rattle.std.proofs.Common.{◌≡◌, ◌⊎◌, inl, inr, ℕ, zero, suc, ◌+◌, ◌*◌, ◌<◌, Bool, true, false, ◌==◌, cond, List, []}
+use Rattle.std.proofs.Common.{◌∷◌, ◌++◌, Option, Some, refl, ap, ◌∙◌, arith}
 use Rattle.std.proofs.lemmas.Bool.Decides.{nat_tests}
 use Rattle.std.specs.List.{All, AllPairs, Contains, range_with_len}
 
 -- one of two ways to a value
-pub either : {A P : Type 0} (b : Bool) (x y : Option A) (z : A) → cond b x y ≡ Some z → (b ≡ true → x ≡ Some z → P) → (b ≡ false → y ≡ Some z → P) → P
+pub either : {A P : Type 0} (b : Bool) (x y : Option A) (z : A) → cond b x y ≡ Some z → (b ≡ true → x ≡ Some z → P)
+    → (b ≡ false → y ≡ Some z → P) → P
 either true x y z h first second = first refl h
 either false x y z h first second = second refl h
 
@@ -12,10 +14,11 @@ either false x y z h first second = second refl h
 pub below_or_last : (n count : ℕ) → n < count + 1 → (n < count) ⊎ (n ≡ count)
 below_or_last n zero h = inr (omega (arith, h))
 below_or_last zero (suc count) h = inl (omega arith)
-below_or_last (suc n) (suc count) h = elim (below_or_last n count (omega (arith, h))) as (λ _. (suc n < suc count) ⊎ (suc n ≡ suc count)) [
-  | inl below ↦ inl (omega (arith, below))
-  | inr last ↦ inr (ap suc last)
-]
+below_or_last (suc n) (suc count) h =
+    elim (below_or_last n count (omega (arith, h))) as (λ _. (suc n < suc count) ⊎ (suc n ≡ suc count)) [
+      | inl below ↦ inl (omega (arith, below))
+      | inr last ↦ inr (ap suc last)
+    ]
 
 -- a number is positive exactly if it is not 0
 pub positive : (n : ℕ) → (n == 0) ≡ false → 0 < n
@@ -57,7 +60,8 @@ pairs_none R i j d less below = absurd (omega (arith, below))
 -- a range that is longer by one number
 pub range_suc : (first n : ℕ) → range_with_len first (suc n) ≡ range_with_len first n ++ (first + n) ∷ []
 range_suc first zero = ap (λ k. k ∷ []) (omega arith)
-range_suc first (suc n) = ap (λ ks. first ∷ ks) (range_suc (first + 1) n ∙ ap (λ k. range_with_len (first + 1) n ++ k ∷ []) (omega arith))
+range_suc first (suc n) =
+    ap (λ ks. first ∷ ks) (range_suc (first + 1) n ∙ ap (λ k. range_with_len (first + 1) n ++ k ∷ []) (omega arith))
 
 -- the last of n + 1 numbers from 0 on is n
 pub range_more : (n : ℕ) → range_with_len 0 (n + 1) ≡ range_with_len 0 n ++ n ∷ []

@@ -111,8 +111,8 @@ impl Name {
             return None;
         }
         let mut bytes = [0u8; LONGEST];
-        for (place, byte) in text.iter().enumerate() {
-            bytes[place] = in_upper_case(*byte);
+        for (index, byte) in text.iter().enumerate() {
+            bytes[index] = in_upper_case(*byte);
         }
         Some(Name {
             bytes,

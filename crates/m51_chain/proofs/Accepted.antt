@@ -1,36 +1,31 @@
 -- What files of sources give, where they are accepted: a module for each, and the script that was read.
-use Rattle.std.proofs.Common.{◌≡◌, ℕ, suc, ◌+◌, ◌≤◌, true, List, [], ◌∷◌, length, take, drop, length-append, Option}
-use Rattle.std.proofs.Common.{Some, None, Result, Ok, Err, refl, sym, ap, ◌∙◌, subst, arith}
+use Rattle.m51_chain.proofs.Common.{◌≡◌, ℕ, suc, ◌+◌, ◌≤◌, true, List, [], ◌∷◌, length, drop, Option, Some, None}
+use Rattle.m51_chain.proofs.Common.{Result, Ok, Err, refl, sym, ap, ◌∙◌, subst, arith, AnswerTree, Gives, InputError}
+use Rattle.m51_chain.proofs.Common.{InputsTree, ModuleParts, SourceFile, ScriptError, Script, names_read, script_in}
+use Rattle.m51_chain.proofs.Common.{party_files, AreAnswered}
+use Rattle.std.proofs.Common.{take, length-append}
 use Rattle.std.specs.Prelude.{option_to_list}
 use Rattle.std.specs.List.{list_all}
 use Rattle.std.specs.Result.{IsOk}
 use Rattle.std.proofs.lemmas.Bool.{and_parts, leb-true}
 use Rattle.std.proofs.lemmas.List.{length-take-le}
-use Rattle.m51_asm.specs.Answer.{AnswerTree, Faults, Gives}
+use Rattle.m51_asm.specs.Answer.{Faults}
 use Rattle.m51_cells.specs.Outcome.{and_then}
 use Rattle.m51_control.specs.declared.control.Control.{Control}
-use Rattle.m51_inputs.specs.declared.error.InputError.{InputError}
 use Rattle.m51_inputs.specs.declared.error.SourceFaults.{SourceFaults}
 use Rattle.m51_inputs.specs.Files.{includes_of, source_words, sources_of}
-use Rattle.m51_inputs.specs.Inputs.{Answers, InputsTree, inputs_of, or_script}
+use Rattle.m51_inputs.specs.Inputs.{IsInputsAnswer, inputs_of, or_script}
 use Rattle.m51_inputs.specs.Inputs.{script_in as script_read}
 use Rattle.m51_inputs.specs.Objects.{Linked, linked_by, linked_from, with_module}
 use Rattle.m51_inputs.specs.Sources.{AreAnswers, faults_in, modules_in, unless_faults}
-use Rattle.m51_module.specs.declared.parts.ModuleParts.{ModuleParts}
-use Rattle.m51_module.specs.declared.source.SourceFile.{SourceFile}
-use Rattle.m51_script.specs.declared.error.ScriptError.{ScriptError}
-use Rattle.m51_script.specs.declared.script.Script.{Script}
 use Rattle.m51_script.specs.Reading.{plain_script, script_of}
 use Rattle.m51_jobs.specs.declared.endings.Ending.{Ending}
 use Rattle.m51_jobs.specs.declared.endings.Ending.TheVariants as ending
 use Rattle.m51_jobs.specs.Endings.{are_boards, ending_of, is_a_source, is_source}
 use Rattle.m51_jobs.specs.declared.job.Job.TheVariants.{Party}
 use Rattle.m51_jobs.specs.declared.job.PartyJob.{PartyJob}
-use Rattle.m51_jobs.specs.Files.{names_read}
-use Rattle.m51_verbs.specs.FlatRuns.{script_in}
 use Rattle.m51_verbs.specs.Optional.{content_if}
-use Rattle.m51_chain.specs.Parties.{party_files}
-use Rattle.m51_chain.specs.ProgramFiles.{AreAnswered, script_content}
+use Rattle.m51_chain.specs.ProgramFiles.{script_content}
 
 -- the value with which a step continues
 pub on_value : {A B E : Type 0} (r : Result A E) (go : A → Result B E) (y : B) (P : Type 0)
@@ -156,7 +151,7 @@ answered names contents control file answers inputs n sourced linked h =
 
 pub sources_give : (names contents : List (List ℕ)) (control file : Option (List ℕ)) (inputs : InputsTree)
     → list_all is_source names ≡ true
-    → length contents ≡ length names → Answers names contents control file (Ok inputs)
+    → length contents ≡ length names → IsInputsAnswer names contents control file (Ok inputs)
     → (length inputs.modules ≡ length names) × (script_in file ≡ Ok inputs.script)
 sources_give names contents control file inputs all count given =
     let each : length given.answers ≡ length names =

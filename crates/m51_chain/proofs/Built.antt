@@ -1,17 +1,14 @@
 -- The report of a linked program, and what is kept and written of a source.
-use Rattle.std.proofs.Common.{◌≡◌, ℕ, List, Option, Some, refl, append-nil}
+use Rattle.m51_chain.proofs.Common.{◌≡◌, ℕ, List, Option, Some, refl, Linked, ModuleParts, SourceFile, Script}
+use Rattle.m51_chain.proofs.Common.{BoardState, IsStarted, IsReport}
+use Rattle.std.proofs.Common.{append-nil}
 use Rattle.m51_asm.specs.Answer.{Gives as Assembled}
-use Rattle.m51_linker.specs.declared.linked.Linked.{Linked}
-use Rattle.m51_module.specs.declared.parts.ModuleParts.{ModuleParts}
 use Rattle.m51_module.specs.declared.source.Row.{Row}
-use Rattle.m51_module.specs.declared.source.SourceFile.{SourceFile}
 use Rattle.m51_print.specs.Listing.{listing_of}
 use Rattle.m51_records.specs.Spelling.{bytes_of}
-use Rattle.m51_script.specs.declared.script.Script.{Script}
-use Rattle.m51_sim.specs.Boards.{BoardState, IsStarted}
 use Rattle.m51_sim.specs.Report.{report_of}
 use Rattle.m51_chain.specs.Assembles.{assembled_outcome}
-use Rattle.m51_chain.specs.Programs.{IsMap, IsReport, hex_kept}
+use Rattle.m51_chain.specs.Programs.{IsMap, hex_kept}
 use Rattle.m51_verbs.specs.declared.work.Finish.TheVariants.{Ran, Run}
 use Rattle.m51_verbs.specs.Outcome.{outcome_of, status_at, text_at}
 

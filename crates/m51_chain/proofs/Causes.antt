@@ -1,22 +1,17 @@
 -- What caused a status.
-use Rattle.std.proofs.Common.{◌≡◌, ℕ, List, Option, Some, None, refl, sym, ap, ◌∙◌, subst, inl, inr, arith}
+use Rattle.m51_chain.proofs.Common.{◌≡◌, ℕ, List, Option, Some, None, refl, sym, ap, ◌∙◌, subst, inl, inr, arith, Job}
+use Rattle.m51_chain.proofs.Common.{name_kept, names_read, Status, Files, ReadAt, Change, Answer, MayKeep, IsDue, Ended}
 use Rattle.std.specs.Prelude.{option_map}
-use Rattle.m51_jobs.specs.declared.job.Job.{Job}
-use Rattle.m51_jobs.specs.Files.{name_kept, names_read}
-use Rattle.m51_verbs.specs.declared.status.Status.{Status}
 use Rattle.m51_verbs.specs.declared.status.Status.TheVariants as status
-use Rattle.m51_shelf.specs.Shelf.{File, Files}
-use Rattle.m51_shelf.specs.States.{ReadAt}
-use Rattle.m51_chain.specs.Outside.{Change}
-use Rattle.m51_verbs.specs.Outcome.{Answer, under, usage_answer, many_answer, long_answer, unread_answer}
-use Rattle.m51_chain.specs.Expected.{MayKeep}
+use Rattle.m51_shelf.specs.Shelf.{File}
+use Rattle.m51_verbs.specs.Outcome.{under, usage_answer, many_answer, long_answer, unread_answer}
 use Rattle.m51_shelf.specs.Reading.{IsLong}
-use Rattle.m51_verbs.specs.Reading.{AreRead, IsReached}
+use Rattle.m51_verbs.specs.Reading.{AreRead, IsFileReached}
 use Rattle.m51_verbs.specs.Carried as carried
 use Rattle.m51_verbs.specs.Carried.{IsUnkept}
 use Rattle.m51_chain.specs.Due as due
-use Rattle.m51_chain.specs.Due.{IsWorkFor, IsAtFor, IsDueFor, IsDue}
-use Rattle.m51_chain.specs.Told.{Written, Ended, IsSaid, IsWorked, IsKeepFault, IsCaused}
+use Rattle.m51_chain.specs.Due.{IsWorkFor, IsAtFor, IsDueFor}
+use Rattle.m51_chain.specs.Told.{Written, IsSaid, IsWorked, IsKeepFault, IsCaused}
 
 -- ---- what is known of files, without what only visible files give
 
@@ -24,8 +19,8 @@ read_untold : (holds : Option Files) (names contents : List (List ℕ)) → AreR
     → AreRead None names contents
 read_untold holds names contents read = record { count = read.count; within = read.within; held = tt }
 
-reached_untold : (holds : Option Files) (names : List (List ℕ)) (named : List ℕ) → IsReached holds names named
-    → IsReached None names named
+reached_untold : (holds : Option Files) (names : List (List ℕ)) (named : List ℕ) → IsFileReached holds names named
+    → IsFileReached None names named
 reached_untold holds names named at =
     record {
       front = at.front;

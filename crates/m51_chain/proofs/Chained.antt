@@ -1,13 +1,10 @@
 -- Heaviest chains name units of their layout.
-use Rattle.std.proofs.Common.{ℕ, ◌<◌, List, [], ◌∷◌, length, inl, inr, sym, subst}
-use Rattle.std.specs.List.{All}
-use Rattle.std.proofs.lemmas.List.Elements.{All-cons, All-nil}
+use Rattle.m51_chain.proofs.Common.{ℕ, ◌<◌, List, [], ◌∷◌, length, inl, inr, sym, subst, All, All-cons, All-nil}
+use Rattle.m51_chain.proofs.Common.{LayoutParts, vectors}
 use Rattle.m51_module.specs.declared.linked.Chain.{Chain}
-use Rattle.m51_module.specs.declared.parts.LayoutParts.{LayoutParts}
 use Rattle.m51_module.specs.Plan.{IsRootAt}
 use Rattle.m51_module.specs.Sound.{IsSound}
 use Rattle.m51_module.specs.Walks.{IsWalk}
-use Rattle.m51_module.specs.Roots.{vectors}
 use Rattle.m51_module.specs.Chains.{AreHeaviest, ChainsAt, IsHeaviest}
 use Rattle.m51_module.proofs.Units.{root_below}
 use Rattle.m51_print.specs.Map.{NamesUnits}

@@ -1,18 +1,12 @@
 -- What an answer that is due says of the status.
-use Rattle.std.proofs.Common.{◌≡◌, ◌⊎◌, ℕ, List, Option, Some, subst, inl, inr}
-use Rattle.m51_jobs.specs.Files.{names_read}
-use Rattle.m51_verbs.specs.declared.status.Status.{Status}
+use Rattle.m51_chain.proofs.Common.{◌≡◌, ◌⊎◌, ℕ, List, Option, Some, subst, inl, inr, names_read, Status, Files, ReadAt}
+use Rattle.m51_chain.proofs.Common.{Change, Answer, MayKeep, IsDue, Ended}
 use Rattle.m51_verbs.specs.declared.status.Status.TheVariants as status
-use Rattle.m51_shelf.specs.Shelf.{Files}
-use Rattle.m51_shelf.specs.States.{ReadAt}
-use Rattle.m51_chain.specs.Outside.{Change}
-use Rattle.m51_verbs.specs.Outcome.{Answer}
 use Rattle.m51_verbs.specs.Carried as carried
 use Rattle.m51_chain.specs.Expected as answers
-use Rattle.m51_chain.specs.Expected.{IsAnswer, MayKeep}
+use Rattle.m51_chain.specs.Expected.{IsAnswer}
 use Rattle.m51_chain.specs.Due as due
-use Rattle.m51_chain.specs.Due.{IsDue}
-use Rattle.m51_chain.specs.Told.{Ended, IsUnread, IsTold}
+use Rattle.m51_chain.specs.Told.{IsUnread, IsTold}
 use Rattle.m51_verbs.proofs.Readings.{long_after}
 
 -- If the files of the shelf are visible, an answer that is due is that of arguments and files, or a call on the shelf

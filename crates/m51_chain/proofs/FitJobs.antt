@@ -1,18 +1,17 @@
 -- A job of asm has one source, one of gen makes 1 to 100 units, and one of party has 2 to 8 sources.
-use Rattle.std.proofs.Common.{◌≡◌, ◌≤◌, take, ℕ, Bool, true, false, cond, List, [], ◌∷◌, Option, Some, None, refl}
-use Rattle.std.proofs.Common.{subst}
+use Rattle.m51_chain.proofs.Common.{◌≡◌, ◌≤◌, ℕ, true, List, [], ◌∷◌, Option, Some, None, refl, subst, Job}
+use Rattle.std.proofs.Common.{take, Bool, false, cond}
 use Rattle.std.specs.Prelude.{option_map, option_and_then, count_by, ◌==◌, codes}
 use Rattle.std.specs.Str.{bytes_eq}
 use Rattle.std.specs.Str.Parse.{digits_value}
 use Rattle.std.proofs.lemmas.Option.{cond_some}
 use Rattle.std.proofs.lemmas.Bool.{and_parts, eqb-true, leb-true}
 use Rattle.clap.specs.Words.{App, Row}
-use Rattle.m51_jobs.specs.declared.job.Job.{Job}
 use Rattle.m51_jobs.specs.declared.job.Job.TheVariants.{Build, Asm, Library, Flat, Gen, Dis, Stack, Party}
-use Rattle.m51_jobs.specs.Numbers.{number_of, start_of, units_of}
+use Rattle.m51_jobs.specs.Numbers.{decimal_within, start_of, units_of}
 use Rattle.m51_jobs.specs.Endings.{are_assembled, are_boards, is_source}
 use Rattle.m51_args.specs.Commands.{build_app, asm_app, lib_app, flat_app, gen_app, dis_app, stack_app, party_app}
-use Rattle.m51_args.specs.Commands.{rows_in, value_of, words_of}
+use Rattle.m51_args.specs.Commands.{rows_in, option_value, words_of}
 use Rattle.m51_args.specs.Jobs.{asked, asm_files, asm_of, asm_with, gen_with, steps_in, build_of, lib_of, flat_of}
 use Rattle.m51_args.specs.Jobs.{gen_of, link_of, party_files, party_of, party_with, job_by, job_of}
 use Rattle.m51_chain.specs.Asked.{IsFit}
@@ -61,16 +60,17 @@ unfolding party_of
 party_rows None = tt
 party_rows (Some rows) = party_words rows (words_of rows)
 
-number_within : (most low high : ℕ) (text : List ℕ) (n : ℕ) → number_of most low high text ≡ Some n
+number_within : (most low high : ℕ) (text : List ℕ) (n : ℕ) → decimal_within most low high text ≡ Some n
     → (low ≤ n) × (n ≤ high)
-unfolding number_of
+unfolding decimal_within
 number_within most low high text n h =
     let found = cond_some _ _ n h in
     let last = and_parts _ _ found.0 in
     let first = and_parts _ _ last.0 in
     rw (← found.1) (leb-true low (digits_value 10 text) first.1, leb-true (digits_value 10 text) high last.1)
 
-test_within : (b : Bool) (text : List ℕ) (n : ℕ) → cond b None (number_of 3 1 100 text) ≡ Some n → (1 ≤ n) × (n ≤ 100)
+test_within : (b : Bool) (text : List ℕ) (n : ℕ) → cond b None (decimal_within 3 1 100 text) ≡ Some n → (1 ≤ n)
+    × (n ≤ 100)
 test_within true text n h = absurd (cc h)
 test_within false text n h = number_within 3 1 100 text n h
 
@@ -91,9 +91,9 @@ gen_rows : (rows : Option (List Row)) → HasOne (option_map Gen (option_and_the
 unfolding gen_of
 gen_rows None = tt
 gen_rows (Some rows) =
-    gen_units (option_and_then units_of (value_of (codes "units") rows))
-    (option_and_then start_of (value_of (codes "start") rows)) (steps_in rows)
-    (units_within (value_of (codes "units") rows))
+    gen_units (option_and_then units_of (option_value (codes "units") rows))
+    (option_and_then start_of (option_value (codes "start") rows)) (steps_in rows)
+    (units_within (option_value (codes "units") rows))
 
 -- jobs of another verb
 other_one : {A : Type 0} (app : App) (job_in : List Row → Option A) (of : A → Job) (words : List (List ℕ))

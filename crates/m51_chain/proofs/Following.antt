@@ -1,21 +1,14 @@
 -- What comes of a program follows from what comes of it as it is linked, and so do refusals.
-use Rattle.std.proofs.Common.{◌≡◌, ℕ, List, Result, Ok, Err, refl, ap, subst}
+use Rattle.m51_chain.proofs.Common.{◌≡◌, ℕ, List, Result, Ok, Err, refl, ap, subst, IfSome_then, InputError, InputsTree}
+use Rattle.m51_chain.proofs.Common.{Linked, Program, Refusal, Script, Follows, IsInputsOutcome, IsProgramOutcome}
+use Rattle.m51_chain.proofs.Common.{Unlinked, program_in, AreAnswered, Given, IsFilesOutcome, Nothing, ProgramFiles}
+use Rattle.m51_chain.proofs.Common.{Refused, Stop, Outcome}
 use Rattle.std.specs.Prelude.{IfSome, IsErrAnd}
-use Rattle.std.proofs.lemmas.Option.{IfSome_then}
-use Rattle.m51_inputs.specs.declared.error.InputError.{InputError}
-use Rattle.m51_inputs.specs.Inputs.{InputsTree}
-use Rattle.m51_linker.specs.declared.linked.Linked.{Linked}
-use Rattle.m51_linker.specs.Link.{Program}
-use Rattle.m51_module.specs.declared.linked.Refusal.{Refusal}
-use Rattle.m51_script.specs.declared.script.Script.{Script}
 use Rattle.m51_chain.specs.declared.linking.LinkedFiles.{LinkedFiles}
-use Rattle.m51_chain.specs.Linking.{AreLinked, AreRefused, Follows, IsInputsOutcome, IsLinkedOutcome, IsProgramOutcome}
-use Rattle.m51_chain.specs.Linking.{Unlinked, program_in}
-use Rattle.m51_chain.specs.ProgramFiles.{AreAnswered, Given, IsFilesOutcome, IsGivenOutcome, Nothing, ProgramFiles}
-use Rattle.m51_chain.specs.ProgramFiles.{Refused}
+use Rattle.m51_chain.specs.Linking.{AreLinked, AreRefused, IsLinkedOutcome}
+use Rattle.m51_chain.specs.ProgramFiles.{IsGivenOutcome}
 use Rattle.m51_verbs.specs.declared.work.Finished.{Finished}
-use Rattle.m51_verbs.specs.declared.work.Stop.{Stop}
-use Rattle.m51_verbs.specs.Outcome.{Comes, Outcome, stopped}
+use Rattle.m51_verbs.specs.Outcome.{Comes, stopped}
 use Rattle.m51_verbs.proofs.Ends.{comes_weaker}
 
 -- what the exit of a `?` returns, where the error stays

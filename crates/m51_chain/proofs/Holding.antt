@@ -1,11 +1,8 @@
 -- What a shelf holds after the answer for arguments was kept.
-use Rattle.std.proofs.Common.{◌≡◌, inl, inr, ℕ, List, Option, Some, None, refl, sym, ap, subst, ◌∙◌}
-use Rattle.m51_jobs.specs.Files.{name_kept}
-use Rattle.m51_shelf.specs.Shelf.{File, Files}
-use Rattle.m51_shelf.specs.States.{ReadAt}
-use Rattle.m51_verbs.specs.Outcome.{Answer}
+use Rattle.m51_chain.proofs.Common.{◌≡◌, inl, inr, ℕ, List, Option, Some, None, refl, sym, ap, subst, ◌∙◌, name_kept}
+use Rattle.m51_chain.proofs.Common.{Files, ReadAt, Answer, IsDue}
+use Rattle.m51_shelf.specs.Shelf.{File}
 use Rattle.m51_chain.specs.Due as due
-use Rattle.m51_chain.specs.Due.{IsDue}
 use Rattle.m51_verbs.specs.Carried.{HoldsBut}
 use Rattle.m51_chain.specs.Told.{HoldsButKept, IsKeptName}
 use Rattle.m51_chain.proofs.Causes.{under_name}

@@ -1,18 +1,15 @@
 -- Modules that are linked each by itself, their boards, and the report of their party.
-use Rattle.std.proofs.Common.{◌≡◌, ◌≢◌, ℕ, suc, List, [], ◌∷◌, ◌++◌, length, drop, append-nil, Result, Ok, Err, refl}
-use Rattle.std.proofs.Common.{sym, ap, ◌∙◌, subst, arith}
+use Rattle.m51_chain.proofs.Common.{◌≡◌, ℕ, suc, List, [], ◌∷◌, ◌++◌, length, drop, Result, Ok, Err, refl, sym, ap, ◌∙◌}
+use Rattle.m51_chain.proofs.Common.{subst, arith, All-cons, All-nil, IfSome_then, InputsTree, Linked, Program, Refusal}
+use Rattle.m51_chain.proofs.Common.{ModuleParts, LayoutParts, ScriptError, Script, BoardState, IsStarted, Stop, Follows}
+use Rattle.m51_chain.proofs.Common.{IsLinkedOr, IsProgramOutcome, Unlinked, sole_program, Outcome, status_if}
+use Rattle.m51_chain.proofs.Common.{IsPartyWork, party_files, AreAnswered, Given, Nothing}
+use Rattle.std.proofs.Common.{◌≢◌, append-nil}
 use Rattle.std.specs.Prelude.{All, Vec}
 use Rattle.std.specs.declared.alloc.Global.{Global}
 use Rattle.std.specs.Result.{IsOk}
-use Rattle.std.proofs.lemmas.List.Elements.{All-cons, All-nil}
-use Rattle.std.proofs.lemmas.Option.{IfSome_then}
 use Rattle.m51_cells.specs.Outcome.{RefusesWith, and_then}
 use Rattle.m51_cells.specs.Outside.{Rose}
-use Rattle.m51_inputs.specs.Inputs.{InputsTree}
-use Rattle.m51_linker.specs.declared.linked.Linked.{Linked}
-use Rattle.m51_linker.specs.Link.{Program}
-use Rattle.m51_module.specs.declared.linked.Refusal.{Refusal}
-use Rattle.m51_module.specs.declared.parts.ModuleParts.{ModuleParts}
 use Rattle.m51_party.specs.declared.party.PartyEnd.{PartyEnd}
 use Rattle.m51_party.specs.declared.party.PartyEnd.TheVariants as ends
 use Rattle.m51_party.specs.Family.{IsFresh}
@@ -20,26 +17,19 @@ use Rattle.m51_party.specs.Report.{IsPartyReport, has_event}
 use Rattle.m51_party.specs.Rounds.{family_of}
 use Rattle.m51_party.specs.Text.{party_text}
 use Rattle.m51_party.proofs.One.{only_family}
-use Rattle.m51_module.specs.declared.parts.LayoutParts.{LayoutParts}
 use Rattle.m51_jobs.specs.declared.job.PartyJob.{PartyJob}
-use Rattle.m51_script.specs.declared.error.ScriptError.{ScriptError}
 use Rattle.m51_script.specs.declared.error.ScriptError.TheVariants as script
-use Rattle.m51_script.specs.declared.script.Script.{Script}
-use Rattle.m51_script.specs.Reading.{refusal_of}
-use Rattle.m51_sim.specs.Boards.{BoardState, IsStarted}
+use Rattle.m51_script.specs.Reading.{script_refusal}
 use Rattle.m51_sim.specs.Cycles.{inputs_of}
 use Rattle.m51_sim.specs.FlatMachine.{reset_with}
 use Rattle.m51_sim.specs.SeparateMachine.{separate_start}
 use Rattle.m51_shelf.specs.Writing.{SinkState}
-use Rattle.m51_verbs.specs.declared.work.Stop.{Stop}
-use Rattle.m51_verbs.specs.Carried.{IsWritten}
-use Rattle.m51_chain.specs.Linking.{Follows, IsLinkedOr, IsProgramOutcome, Unlinked, alone}
-use Rattle.m51_verbs.specs.Outcome.{Outcome, stopped}
-use Rattle.m51_chain.specs.Parties.{party_status, status_if}
+use Rattle.m51_verbs.specs.Carried.{IsTextWritten}
+use Rattle.m51_verbs.specs.Outcome.{stopped}
+use Rattle.m51_chain.specs.Parties.{party_status}
 use Rattle.m51_chain.specs.Parties as parties
 use Rattle.m51_chain.specs.Parties.{AreBoardsFor, AreBoardsOf, AreBoardsOr, AreJoinedOr, IsBoardOf, IsBoardOr}
-use Rattle.m51_chain.specs.Parties.{IsPartyWork, IsUnlinked, each_of, party_files, programs_of}
-use Rattle.m51_chain.specs.ProgramFiles.{AreAnswered, Given, Nothing}
+use Rattle.m51_chain.specs.Parties.{IsUnlinked, each_of, programs_of}
 use Rattle.m51_verbs.proofs.Edits.{none_left}
 use Rattle.m51_chain.proofs.Accepted.{AreGiven, ok_same}
 use Rattle.m51_chain.proofs.Following.{inputs_refused}
@@ -134,7 +124,7 @@ boards_count script (p ∷ ps) [] h = absurd h
 pub for_count : (script : Script) (modules : List ModuleParts) (boards : List BoardState)
     → AreBoardsFor script modules boards → length boards ≡ length modules
 for_count script modules boards h = boards_count script h.programs boards h.each
-    ∙ given_count alone modules h.programs h.are
+    ∙ given_count sole_program modules h.programs h.are
 
 -- no module
 pub for_none : (script : Script) (boards : List BoardState) → boards ≡ [] → AreBoardsFor script [] boards
@@ -147,7 +137,7 @@ pub for_more : (script : Script) (done : List ModuleParts) (parts : ModuleParts)
     → AreBoardsFor script (done ++ parts ∷ []) new
 for_more script done parts boards new board h is put = rw put (record {
   programs = h.programs ++ is.0 ∷ [];
-  are = given_more alone done parts h.programs is.0 h.are is.1;
+  are = given_more sole_program done parts h.programs is.0 h.are is.1;
   each = boards_more script h.programs boards is.0 board h.each is.2;
 })
 
@@ -167,7 +157,7 @@ pub for_refused : (script : Script) (all done rest : List ModuleParts) (parts : 
 for_refused script all done rest parts boards why is h none = IfSome_then (stopped why) none (λ o it. record {
   why = it.why;
   refuses = subst (λ modules. programs_of modules ≡ Err it.why) is
-      (given_refused alone done parts rest h.programs it.why h.are it.refuses);
+      (given_refused sole_program done parts rest h.programs it.why h.are it.refuses);
   is = it.is;
 })
 
@@ -206,14 +196,14 @@ unlinked_only : (program : Result Program Refusal) (outcome : Outcome) → IsPro
 unlinked_only program outcome (Unlinked why refuses is) = record { why = why; refuses = refuses; is = is }
 unlinked_only program outcome (Follows p linked is are none) = absurd none
 
-pub alone_refused : (script : Script) (parts : ModuleParts) (why : Stop) → IsLinkedOr (alone parts) (Err why)
+pub alone_refused : (script : Script) (parts : ModuleParts) (why : Stop) → IsLinkedOr (sole_program parts) (Err why)
     → IsBoardOr script parts (Err why)
-alone_refused script parts why h = IfSome_then (stopped why) h (unlinked_only (alone parts))
+alone_refused script parts why h = IfSome_then (stopped why) h (unlinked_only (sole_program parts))
 
 -- the board of a program as it is linked, where the script is read again
 pub alone_started : (script again : Script) (parts : ModuleParts) (linked : Linked) (board : BoardState)
     (answer : Result Script ScriptError)
-    → answer ≡ Ok script → answer ≡ Ok again → IsLinkedOr (alone parts) (Ok linked)
+    → answer ≡ Ok script → answer ≡ Ok again → IsLinkedOr (sole_program parts) (Ok linked)
     → IsStarted linked.layout linked.image again board
     → IsBoardOr script parts (Ok board)
 alone_started script again parts linked board answer is also h started = (
@@ -229,7 +219,7 @@ alone_started script again parts linked board answer is also h started = (
 
 -- a script that was accepted is not refused
 pub accepted : (answer : Result Script ScriptError) (error : ScriptError) → IsOk answer → error ≢ script.Memory
-    → RefusesWith (refusal_of error) answer → ⊥
+    → RefusesWith (script_refusal error) answer → ⊥
 accepted answer error ok some h = let refused : IsOk {T = Script} (Err error) =
     subst (λ (r : Result Script ScriptError). IsOk r) (script_refuses answer error some h) ok in absurd (cc refused)
 
@@ -238,7 +228,7 @@ accepted answer error ok some h = let refused : IsOk {T = Script} (Err error) =
 pub party_written : (boards : List BoardState) (n : ℕ) (old new : SinkState) (end : PartyEnd)
     → IsPartyReport boards n (family_of boards n) old.text new.text end
     → (end ≡ ends.WriteFault → Rose old.faults new.faults)
-    → IsWritten (status_if (has_event (family_of boards n))) (party_text boards n (family_of boards n)) old new
+    → IsTextWritten (status_if (has_event (family_of boards n))) (party_text boards n (family_of boards n)) old new
     (party_status end)
 party_written boards n old new ends.Finished report fault = (sym (ap status_if report.0), report.1)
 party_written boards n old new ends.Stopped report fault = (sym (ap status_if report.0), report.1)

@@ -1,3 +1,4 @@
+pub mod Common
 pub mod Dues
 pub mod Causes
 pub mod Holding

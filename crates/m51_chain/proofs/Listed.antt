@@ -1,20 +1,19 @@
 -- The rows that the assembler answers are those of its source and includes.
-use Rattle.std.proofs.Common.{◌≡◌, ℕ, zero, suc, ◌≤◌, min, List, [], ◌∷◌, length, Option, Some, None, refl, sym, ap}
-use Rattle.std.proofs.Common.{subst, arith}
-use Rattle.std.specs.List.{All, slice_index_or}
+use Rattle.m51_chain.proofs.Common.{◌≡◌, ℕ, suc, ◌≤◌, List, [], ◌∷◌, length, Option, Some, None, refl, sym, ap, subst}
+use Rattle.m51_chain.proofs.Common.{arith, All, All-cons, All-head, All-nil, All-tail, AnswerTree, IsAnswer}
+use Rattle.m51_chain.proofs.Common.{ModuleParts, SourceFile}
+use Rattle.std.proofs.Common.{zero, min}
+use Rattle.std.specs.List.{slice_index_or}
 use Rattle.std.specs.Str.Lines.{lines}
 use Rattle.std.proofs.lemmas.List.{length-map}
-use Rattle.std.proofs.lemmas.List.Elements.{All-cons, All-head, All-nil, All-tail}
 use Rattle.m51_asm.specs.Answer as answer
-use Rattle.m51_asm.specs.Answer.{AnswerTree, IsAnswer, IsAnswerOf, answer_of_lines, content_or_faults, placed_or_fault}
+use Rattle.m51_asm.specs.Answer.{IsAnswerOf, answer_of_lines, content_or_faults, placed_or_fault}
 use Rattle.m51_asm.specs.AnswerRows.{rows, rows_from}
 use Rattle.m51_asm.specs.Assignment.{Assignment}
 use Rattle.m51_asm.specs.Fitting.{Fits}
 use Rattle.m51_asm.proofs.AnAssignment.{fits, fitting}
-use Rattle.m51_module.specs.declared.parts.ModuleParts.{ModuleParts}
 use Rattle.m51_module.specs.declared.source.Fault.{Fault}
 use Rattle.m51_module.specs.declared.source.Row.{Row}
-use Rattle.m51_module.specs.declared.source.SourceFile.{SourceFile}
 use Rattle.m51_print.specs.Listing.{AreOf, IsRowOf, lines_of_files}
 use Rattle.m51_text.specs.Answer as text
 use Rattle.m51_text.specs.Answer.{LineTree, TextTree, text_of}

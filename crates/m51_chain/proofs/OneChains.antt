@@ -1,10 +1,9 @@
 -- A sound layout has one list of heaviest chains.
-use Rattle.std.proofs.Common.{◌≡◌, ◌⊎◌, ℕ, ◌<◌, List, [], ◌∷◌, refl, sym, ap, ◌∙◌, subst, arith, inl, inr}
+use Rattle.m51_chain.proofs.Common.{◌≡◌, ◌⊎◌, ℕ, ◌<◌, List, [], ◌∷◌, refl, sym, ap, ◌∙◌, subst, arith, inl, inr}
+use Rattle.m51_chain.proofs.Common.{LayoutParts, vectors}
 use Rattle.m51_module.specs.declared.linked.Chain.{Chain}
-use Rattle.m51_module.specs.declared.parts.LayoutParts.{LayoutParts}
 use Rattle.m51_module.specs.Chains.{AreHeaviest, ChainsAt, ComesFirst, IsHeaviest, weight_along}
 use Rattle.m51_module.specs.Plan.{IsRootAt}
-use Rattle.m51_module.specs.Roots.{vectors}
 use Rattle.m51_module.specs.Sound.{IsSound}
 use Rattle.m51_module.specs.Walks.{IsWalk}
 use Rattle.m51_module.proofs.Units.{one_root}

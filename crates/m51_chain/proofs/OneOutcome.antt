@@ -1,53 +1,43 @@
 -- A job and its contents have one outcome.
-use Rattle.std.proofs.Common.{◌≡◌, ℕ, List, [], ◌∷◌, length, Option, None, Result, Err, sym, ap, ◌∙◌, subst}
+use Rattle.m51_chain.proofs.Common.{◌≡◌, ℕ, List, [], ◌∷◌, length, Option, None, Result, Err, sym, ap, ◌∙◌, subst}
+use Rattle.m51_chain.proofs.Common.{AnswerTree, InputError, InputsTree, Linked, Program, Refusal, Run, LayoutParts}
+use Rattle.m51_chain.proofs.Common.{SourceFile, Script, BoardState, IsStarted, Job, link_files, IsCounted, Follows}
+use Rattle.m51_chain.proofs.Common.{IsInputsOutcome, IsProgramOutcome, Unlinked, program_in, Outcome, status_if}
+use Rattle.m51_chain.proofs.Common.{IsPartyWork, party_files, Given, IsFilesOutcome, ProgramFiles, Refused, IsReport}
 use Rattle.std.proofs.lemmas.List.{ext_get_or}
-use Rattle.m51_asm.specs.Answer.{AnswerTree}
 use Rattle.m51_asm.proofs.OneAnswer.{one_answer as one_text}
 use Rattle.m51_hex.specs.Memory.{memory_in}
-use Rattle.m51_inputs.specs.declared.error.InputError.{InputError}
-use Rattle.m51_inputs.specs.Inputs.{InputsTree}
 use Rattle.m51_inputs.proofs.OneEach.{one_answer as one_for_files}
-use Rattle.m51_linker.specs.declared.linked.Linked.{Linked}
 use Rattle.m51_linker.specs.Image.{IsFilled}
-use Rattle.m51_linker.specs.Link.{IsLinked, Program}
+use Rattle.m51_linker.specs.Link.{IsLinked}
 use Rattle.m51_module.specs.declared.image.TheConstants.{IMAGE_LEN}
-use Rattle.m51_module.specs.declared.linked.Refusal.{Refusal}
-use Rattle.m51_module.specs.declared.linked.Run.{Run}
-use Rattle.m51_module.specs.declared.parts.LayoutParts.{LayoutParts}
-use Rattle.m51_module.specs.declared.source.SourceFile.{SourceFile}
 use Rattle.m51_party.specs.Family.{Family}
 use Rattle.m51_party.specs.Report.{has_event}
 use Rattle.m51_party.proofs.SameBoards.{AllAlike, AreAlike, family_alike, text_alike}
-use Rattle.m51_script.specs.declared.script.Script.{Script}
-use Rattle.m51_sim.specs.Boards.{BoardState, IsStarted}
 use Rattle.m51_stackbound.proofs.Unique.{answer_is_unique}
 use Rattle.m51_text.specs.Answer.{text_of}
 use Rattle.m51_jobs.specs.declared.job.FlatJob.{FlatJob}
-use Rattle.m51_jobs.specs.declared.job.Job.{Job}
 use Rattle.m51_jobs.specs.declared.job.Job.TheVariants as jobs
 use Rattle.m51_chain.specs.Assembles.{IsAssembledOutcome, IsOneOutcome, assembled_outcome}
 use Rattle.m51_verbs.specs.Analyses.{IsBounded, IsDisassembled, bound_outcome}
-use Rattle.m51_chain.specs.Analyses.{link_files}
 use Rattle.m51_chain.specs.Builds.{build_files}
 use Rattle.m51_asm.specs.Answer as answers
 use Rattle.m51_generator.specs.Lines.{generated}
 use Rattle.m51_jobs.specs.declared.job.GenJob.{GenJob}
-use Rattle.m51_chain.specs.Generates.{IsCounted, IsGenOutcome, IsGenerated}
+use Rattle.m51_chain.specs.Generates.{IsGenOutcome, IsGenerated}
 use Rattle.m51_verbs.specs.FlatRuns as flats
 use Rattle.m51_verbs.specs.FlatRuns.{IsFlatOutcome, IsFlatWork, IsScripted, flat_report}
 use Rattle.m51_chain.specs.InputRefusals.{input_outcome}
 use Rattle.m51_verbs.specs.ScriptRefusals.{script_outcome}
-use Rattle.m51_chain.specs.Linking.{Follows, IsInputsOutcome, IsLinkedOutcome, IsProgramOutcome, Unlinked, program_in}
+use Rattle.m51_chain.specs.Linking.{IsLinkedOutcome}
 use Rattle.m51_verbs.specs.LinkRefusals.{link_outcome}
 use Rattle.m51_verbs.specs.Optional.{content_if}
-use Rattle.m51_verbs.specs.Outcome.{Outcome}
-use Rattle.m51_chain.specs.Parties.{status_if}
 use Rattle.m51_chain.specs.Parties as parties
-use Rattle.m51_chain.specs.Parties.{AreBoardsOf, IsBoardOf, IsPartyReport, IsPartyWork, party_files, party_report}
+use Rattle.m51_chain.specs.Parties.{AreBoardsOf, IsBoardOf, IsPartyReport, party_report}
 use Rattle.m51_verbs.specs.Refusals.{hex_outcome}
-use Rattle.m51_chain.specs.ProgramFiles.{Given, IsFilesOutcome, IsGivenOutcome, ProgramFiles, Refused, control_content}
+use Rattle.m51_chain.specs.ProgramFiles.{IsGivenOutcome, control_content}
 use Rattle.m51_chain.specs.ProgramFiles.{script_content, word_contents}
-use Rattle.m51_chain.specs.Programs.{IsReport, program_report}
+use Rattle.m51_chain.specs.Programs.{program_report}
 use Rattle.m51_chain.specs.Verbs.{IsOutcome}
 use Rattle.m51_chain.proofs.Accepted.{ok_same}
 use Rattle.m51_chain.proofs.Joined.{all_fresh}

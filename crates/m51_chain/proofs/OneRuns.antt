@@ -1,18 +1,16 @@
 -- There is one list of runs that content fills, one byte of roots for a unit, and one image.
-use Rattle.std.proofs.Common.{◌≡◌, ℕ, zero, suc, ◌+◌, ◌%◌, ◌/◌, ◌<◌, ◌≤◌, List, [], ◌∷◌, refl, sym, ap, ◌∙◌, arith, inl}
-use Rattle.std.proofs.Common.{inr, subst}
-use Rattle.std.specs.List.{All, AllPairs, Contains}
+use Rattle.m51_chain.proofs.Common.{◌≡◌, ℕ, suc, ◌+◌, ◌<◌, ◌≤◌, List, [], ◌∷◌, refl, sym, ap, ◌∙◌, arith, inl, inr}
+use Rattle.m51_chain.proofs.Common.{subst, All, All-head, All-tail, Run, vectors, ModuleParts}
+use Rattle.std.proofs.Common.{zero, ◌%◌, ◌/◌}
+use Rattle.std.specs.List.{AllPairs, Contains}
 use Rattle.std.proofs.lemmas.Bool.Decides.{eqb_tells, leb_tells}
 use Rattle.std.proofs.lemmas.List.{ext_get_or}
-use Rattle.std.proofs.lemmas.List.Elements.{All-contains, All-head, All-tail, Contains-append_cases}
+use Rattle.std.proofs.lemmas.List.Elements.{All-contains, Contains-append_cases}
 use Rattle.m51_graph.specs.declared.parts.GraphParts.{GraphParts}
 use Rattle.m51_graph.specs.Graph.{AreBits}
 use Rattle.m51_linker.specs.Image.{IsImage}
 use Rattle.m51_linker.specs.Link.{AreRoots}
 use Rattle.m51_linker.specs.Runs.{AreRuns, IsInRun, IsWholeRun}
-use Rattle.m51_module.specs.declared.linked.Run.{Run}
-use Rattle.m51_module.specs.Roots.{vectors}
-use Rattle.m51_module.specs.declared.parts.ModuleParts.{ModuleParts}
 use Rattle.m51_place.specs.declared.placing.Placing.{Placing}
 
 -- numbers with the same lowest bit and the same others

@@ -1,23 +1,21 @@
 -- Plans for work, and for what the shelf did.
-use Rattle.std.proofs.Common.{◌≡◌, ℕ, Bool, true, false, List, Option, None, Result, Ok, Err, refl, ap, ◌∙◌}
+use Rattle.m51_chain.proofs.Common.{◌≡◌, ℕ, true, List, Option, None, Result, Ok, Err, refl, ap, ◌∙◌, Job, name_kept}
+use Rattle.m51_chain.proofs.Common.{MayKeep, status_if, Stop}
+use Rattle.std.proofs.Common.{Bool, false}
 use Rattle.std.specs.Prelude.{IfOk, Some}
 use Rattle.m51_cells.specs.declared.event.Event.{Event}
 use Rattle.m51_cells.specs.declared.memory.NoMemory.{NoMemory}
-use Rattle.m51_jobs.specs.declared.job.Job.{Job}
-use Rattle.m51_jobs.specs.Files.{name_kept}
 use Rattle.m51_chain.specs.declared.work.Task.{Task}
 use Rattle.m51_chain.specs.declared.work.Work.{Work}
 use Rattle.m51_chain.specs.declared.work.Work.TheVariants.{Alone, Party}
 use Rattle.m51_chain.specs.Due.{IsPlanned}
-use Rattle.m51_chain.specs.Expected.{HasOutcome, MayKeep}
-use Rattle.m51_chain.specs.Parties.{status_if}
+use Rattle.m51_chain.specs.Expected.{HasOutcome}
 use Rattle.m51_chain.specs.Verbs.{IsOutcome}
-use Rattle.m51_chain.specs.Work.{Comes, answer_of, outcome_of}
+use Rattle.m51_chain.specs.Work.{Comes, task_answer, outcome_of_work}
 use Rattle.m51_verbs.specs.declared.work.Finish.{Finish}
 use Rattle.m51_verbs.specs.declared.work.Finish.TheVariants as ending
 use Rattle.m51_verbs.specs.declared.work.Reason.{Reason}
 use Rattle.m51_verbs.specs.declared.work.Reason.TheVariants as reason
-use Rattle.m51_verbs.specs.declared.work.Stop.{Stop}
 use Rattle.m51_verbs.specs.declared.work.Stop.TheVariants as stop
 use Rattle.m51_verbs.specs.Outcome.{named_answer, refused, status_at, status_by, status_of}
 
@@ -36,7 +34,7 @@ may_end ending.Event keeps = tt
 may_end (ending.Run board steps) keeps = may_by _ keeps
 may_end (ending.FlatRun board steps) keeps = may_by _ keeps
 
-may_work : (work : Work) → MayKeep (outcome_of work).status (outcome_of work).keeps
+may_work : (work : Work) → MayKeep (outcome_of_work work).status (outcome_of_work work).keeps
 may_work (Alone done) = may_end done.ending done.keeps
 may_work (Party boards steps) = may_if _ None
 
@@ -52,12 +50,12 @@ may_refuse reason.Stack = refl
 pub work_outcome : (job : Job) (contents : List (List ℕ)) (name : Option (List ℕ)) (work : Result Work Stop)
     (result : Result Task NoMemory) → name ≡ name_kept job
     → Comes (IsOutcome job contents) work → IsPlanned name work result
-    → IfOk result (λ task. HasOutcome job contents (answer_of task))
+    → IfOk result (λ task. HasOutcome job contents (task_answer task))
 work_outcome job contents name (Ok work) (Ok task) is comes planned = record {
-  outcome = outcome_of work;
+  outcome = outcome_of_work work;
   work = comes;
   keeps = may_work work;
-  is = planned ∙ ap (λ n. named_answer n (outcome_of work)) is;
+  is = planned ∙ ap (λ n. named_answer n (outcome_of_work work)) is;
 }
 work_outcome job contents name (Ok work) (Err none) is comes planned = tt
 work_outcome job contents name (Err (stop.Refused why text)) (Ok task) is comes planned = record {

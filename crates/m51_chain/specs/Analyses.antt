@@ -2,13 +2,13 @@
 use Rattle.std.specs.Prelude.{ℕ, List, None}
 use Rattle.m51_jobs.specs.declared.job.LinkJob.{LinkJob}
 use Rattle.m51_chain.specs.Linking.{IsLinkedOutcome}
-use Rattle.m51_chain.specs.ProgramFiles.{ProgramFiles, named}
+use Rattle.m51_chain.specs.ProgramFiles.{ProgramFiles, program_files}
 use Rattle.m51_verbs.specs.Analyses.{IsBounded, IsDisassembled}
 use Rattle.m51_verbs.specs.Outcome.{Outcome}
 
 -- they take no script
 abbrev pub link_files : LinkJob → ProgramFiles
-link_files job = named job.files job.control None
+link_files job = program_files job.files job.control None
 
 -- what dis makes of the contents of its files
 abbrev pub IsDisOutcome : LinkJob → List (List ℕ) → Outcome → Type 0

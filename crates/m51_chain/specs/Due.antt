@@ -6,7 +6,7 @@ use Rattle.m51_jobs.specs.declared.job.Job.{Job}
 use Rattle.m51_jobs.specs.Files.{file_count, names_read}
 use Rattle.m51_chain.specs.declared.work.Task.{Task}
 use Rattle.m51_chain.specs.declared.work.Work.{Work}
-use Rattle.m51_chain.specs.Work.{answer_of, outcome_of}
+use Rattle.m51_chain.specs.Work.{task_answer, outcome_of_work}
 use Rattle.m51_verbs.specs.declared.work.Stop.{Stop}
 use Rattle.m51_verbs.specs.declared.work.Stop.TheVariants as stop
 use Rattle.m51_args.specs.Jobs.{job_of}
@@ -15,7 +15,7 @@ use Rattle.m51_shelf.specs.States.{ReadAt, HasFailed}
 use Rattle.m51_verbs.specs.Outcome.{Answer, refused, named_answer}
 use Rattle.m51_verbs.specs.Outcome.{usage_answer, many_answer, long_answer, unread_answer}
 use Rattle.m51_shelf.specs.Reading.{IsLong}
-use Rattle.m51_verbs.specs.Reading.{AreRead, AreGiven, ReadsSome, IsReached}
+use Rattle.m51_verbs.specs.Reading.{AreRead, AreGiven, ReadsSome, IsFileReached}
 use Rattle.m51_chain.specs.Expected.{HasOutcome}
 
 -- The work was done on contents that were read whole, and that are what the shelf returned.
@@ -29,7 +29,7 @@ pub record IsWorkFor (job : Job) (holds : Option Files) (before after : ReadAt) 
 -- A file of the job was reached, those before it being read whole.
 pub record IsAtFor (job : Job) (holds : Option Files) (after : ReadAt) : Type 0 where
   pub few : file_count job ≤ MOST_FILES
-  pub reached : IsReached holds (names_read job) after.named
+  pub reached : IsFileReached holds (names_read job) after.named
 
 -- The answer is due for this job and for what the shelf did.
 pub data IsDueFor (job : Job) (holds : Option Files) (before after : ReadAt) (answer : Answer) : Type 0 where
@@ -56,9 +56,9 @@ pub record ReadsOnly (words : List (List ℕ)) (before after : ReadAt) : Type 0 
 
 -- What is to be done for the outcome of work, if the file that is kept has this name: a step between the parts.
 abbrev pub IsPlanned : Option (List ℕ) → Result Work Stop → Result Task NoMemory → Type 0
-IsPlanned name (Ok work) (Ok task) = answer_of task ≡ named_answer name (outcome_of work)
+IsPlanned name (Ok work) (Ok task) = task_answer task ≡ named_answer name (outcome_of_work work)
 IsPlanned name (Ok work) (Err none) = ⊥
-IsPlanned name (Err (stop.Refused why text)) (Ok task) = answer_of task ≡ named_answer name (refused why text)
+IsPlanned name (Err (stop.Refused why text)) (Ok task) = task_answer task ≡ named_answer name (refused why text)
 IsPlanned name (Err (stop.Refused why text)) (Err none) = ⊥
 IsPlanned name (Err stop.Memory) (Ok task) = ⊥
 IsPlanned name (Err stop.Memory) (Err none) = Unit {0}

@@ -6,7 +6,7 @@ use Rattle.m51_generator.specs.Lines.{generated}
 use Rattle.m51_linker.specs.declared.linked.Linked.{Linked}
 use Rattle.m51_module.specs.declared.source.SourceFile.{SourceFile}
 use Rattle.m51_jobs.specs.declared.job.GenJob.{GenJob}
-use Rattle.m51_chain.specs.Linking.{IsProgramOutcome, alone}
+use Rattle.m51_chain.specs.Linking.{IsProgramOutcome, sole_program}
 use Rattle.m51_verbs.specs.declared.work.Reason.TheVariants as reason
 use Rattle.m51_verbs.specs.Counts.{summary_outcome}
 use Rattle.m51_verbs.specs.FaultLines.{fault_lines}
@@ -20,7 +20,7 @@ abbrev pub IsGenerated : SourceFile → ℕ → AnswerTree → Outcome → Type 
 IsGenerated source steps (answer.Faults faults) outcome =
     outcome ≡ refused reason.Source (fault_lines source.name [] faults)
 IsGenerated source steps (answer.Gives parts rows) outcome =
-    IsProgramOutcome (alone parts) (IsCounted steps) outcome
+    IsProgramOutcome (sole_program parts) (IsCounted steps) outcome
 
 -- what gen makes of its numbers
 pub record IsGenOutcome (job : GenJob) (outcome : Outcome) : Type 0 where

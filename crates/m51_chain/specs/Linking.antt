@@ -20,8 +20,8 @@ pub data IsProgramOutcome (program : Result Program Refusal) (Is : Linked → Ou
       → IsProgramOutcome program Is outcome
 
 -- the program of a module that is linked by itself
-abbrev pub alone : ModuleParts → Result Program Refusal
-alone parts = program_of (parts ∷ []) [] []
+abbrev pub sole_program : ModuleParts → Result Program Refusal
+sole_program parts = program_of (parts ∷ []) [] []
 
 -- modules and libraries are linked by the control lines
 abbrev pub program_in : InputsTree → Result Program Refusal

@@ -18,8 +18,8 @@ use Rattle.m51_script.specs.declared.script.Script.{Script}
 use Rattle.m51_sim.specs.Boards.{BoardState, IsStarted}
 use Rattle.m51_jobs.specs.declared.endings.TheConstants.{LEAST_BOARDS, MOST_BOARDS}
 use Rattle.m51_jobs.specs.declared.job.PartyJob.{PartyJob}
-use Rattle.m51_chain.specs.Linking.{alone}
-use Rattle.m51_chain.specs.ProgramFiles.{IsFilesOutcome, ProgramFiles, named}
+use Rattle.m51_chain.specs.Linking.{sole_program}
+use Rattle.m51_chain.specs.ProgramFiles.{IsFilesOutcome, ProgramFiles, program_files}
 use Rattle.m51_shelf.specs.declared.sink.Failed.{Failed}
 use Rattle.m51_verbs.specs.declared.status.Status.{Status}
 use Rattle.m51_verbs.specs.declared.status.Status.TheVariants as status
@@ -29,7 +29,7 @@ use Rattle.m51_verbs.specs.Outcome.{Outcome, stopped}
 
 -- there is no control file
 abbrev pub party_files : PartyJob → ProgramFiles
-party_files job = named job.files None job.script
+party_files job = program_files job.files None job.script
 
 -- what each gives, or the first refusal in their order
 abbrev pub each_of : {A B E : Type 0} → (A → Result B E) → List A → Result (List B) E
@@ -41,7 +41,7 @@ each_of give (x ∷ xs) = do
 
 -- the programs of modules, each linked by itself
 abbrev pub programs_of : List ModuleParts → Result (List Program) Refusal
-programs_of modules = each_of alone modules
+programs_of modules = each_of sole_program modules
 
 -- the board of a program as it is linked, with a script, after a reset
 pub record IsBoardOf (script : Script) (program : Program) (board : BoardState) : Type 0 where
@@ -101,8 +101,9 @@ pub record IsUnlinked {A : Type 0} (program : Result A Refusal) (outcome : Outco
 
 -- the board of a module that is linked by itself, or a refusal of its link; out of memory is free
 abbrev pub IsBoardOr : Script → ModuleParts → Result BoardState Stop → Type 0
-IsBoardOr script parts (Ok board) = (program : Program) × (alone parts ≡ Ok program) × IsBoardOf script program board
-IsBoardOr script parts (Err stop) = IfSome (stopped stop) (IsUnlinked (alone parts))
+IsBoardOr script parts (Ok board) = (program : Program) × (sole_program parts ≡ Ok program)
+    × IsBoardOf script program board
+IsBoardOr script parts (Err stop) = IfSome (stopped stop) (IsUnlinked (sole_program parts))
 
 -- the boards of modules
 pub record AreBoardsFor (script : Script) (modules : List ModuleParts) (boards : List BoardState) : Type 0 where

@@ -5,7 +5,7 @@ use Rattle.std.specs.List.{All}
 use Rattle.m51_cells.specs.declared.limits.TheConstants.{MOST_FILES, MOST_FILE_BYTES}
 use Rattle.m51_inputs.specs.declared.error.InputError.{InputError}
 use Rattle.m51_inputs.specs.declared.inputs.Inputs.{Inputs}
-use Rattle.m51_inputs.specs.Inputs.{Answers, InputsTree, inputs_tree}
+use Rattle.m51_inputs.specs.Inputs.{IsInputsAnswer, InputsTree, inputs_tree}
 use Rattle.m51_verbs.specs.declared.work.Stop.{Stop}
 use Rattle.m51_chain.specs.InputRefusals.{input_outcome}
 use Rattle.m51_verbs.specs.Optional.{content_if}
@@ -17,8 +17,8 @@ pub record ProgramFiles : Type 0 where
   pub control : Option (List ℕ)
   pub script : Option (List ℕ)
 
-abbrev pub named : List (List ℕ) → Option (List ℕ) → Option (List ℕ) → ProgramFiles
-named words control script = record { words = words; control = control; script = script }
+abbrev pub program_files : List (List ℕ) → Option (List ℕ) → Option (List ℕ) → ProgramFiles
+program_files words control script = record { words = words; control = control; script = script }
 
 -- the contents of the file arguments, of the control file and of the script
 abbrev pub word_contents : ProgramFiles → List (List ℕ) → List (List ℕ)
@@ -34,7 +34,8 @@ script_content files contents =
 -- the answer for files with these contents
 abbrev pub AreAnswered : ProgramFiles → List (List ℕ) → Result InputsTree InputError → Type 0
 AreAnswered files contents given =
-    Answers files.words (word_contents files contents) (control_content files contents) (script_content files contents)
+    IsInputsAnswer files.words (word_contents files contents) (control_content files contents)
+    (script_content files contents)
     given
 
 -- A file is refused, or there is what comes of what the files give.

@@ -13,7 +13,7 @@ use Rattle.m51_shelf.specs.States.{HasFailed}
 use Rattle.m51_chain.specs.Outside.{Change}
 use Rattle.m51_verbs.specs.Outcome.{Answer, usage_answer, many_answer, long_answer, unread_answer}
 use Rattle.m51_verbs.specs.Targets.{unkept_text}
-use Rattle.m51_verbs.specs.Carried.{IsWhole, IsCut, IsUnkept, IsUntouched, IsEnded}
+use Rattle.m51_verbs.specs.Carried.{IsCarriedOut, IsCut, IsUnkept, IsUntouched, IsEnded}
 use Rattle.m51_chain.specs.Expected.{IsAnswer}
 use Rattle.m51_chain.specs.Due.{IsWorkFor, IsAtFor, IsDue}
 
@@ -23,7 +23,7 @@ Untouched c = IsUntouched c.keeps_before c.keeps c.sink_before c.sink
 
 -- the answer is kept and written whole, or how it ends otherwise
 abbrev pub Written : Answer → Change → Status → Type 0
-Written answer c told = IsWhole answer c.keeps_before c.keeps c.sink_before c.sink told
+Written answer c told = IsCarriedOut answer c.keeps_before c.keeps c.sink_before c.sink told
 
 abbrev pub Ended : Answer → Change → Status → Type 0
 Ended answer c told = IsEnded answer c.keeps_before c.keeps c.sink_before c.sink told

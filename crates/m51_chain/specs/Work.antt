@@ -9,15 +9,15 @@ use Rattle.m51_verbs.specs.declared.work.Stop.{Stop}
 use Rattle.m51_verbs.specs.Outcome as verbs
 use Rattle.m51_verbs.specs.Outcome.{Answer, ComesAs, Outcome, named_answer}
 
-abbrev pub outcome_of : Work → Outcome
-outcome_of (work.Alone done) = verbs.outcome_of done
-outcome_of (work.Party boards steps) = party_outcome boards steps
+abbrev pub outcome_of_work : Work → Outcome
+outcome_of_work (work.Alone done) = verbs.outcome_of done
+outcome_of_work (work.Party boards steps) = party_outcome boards steps
 
 -- the outcome of work, out of memory aside, is one of these
 abbrev pub Comes : (Outcome → Type 0) → Result Work Stop → Type 0
-Comes Is result = ComesAs outcome_of Is result
+Comes Is result = ComesAs outcome_of_work Is result
 
 -- a party keeps nothing
-abbrev pub answer_of : Task → Answer
-answer_of (task.Alone plan) = verbs.answer_of plan
-answer_of (task.Party boards steps) = named_answer None (party_outcome boards steps)
+abbrev pub task_answer : Task → Answer
+task_answer (task.Alone plan) = verbs.answer_of plan
+task_answer (task.Party boards steps) = named_answer None (party_outcome boards steps)

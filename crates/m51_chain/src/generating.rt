@@ -2,7 +2,7 @@
 ghost use Rattle.std.specs.Prelude.{◌≤◌};
 ghost use Rattle.m51_jobs.specs.declared.numbers.TheConstants.{MOST_GENERATED_UNITS};
 ghost use Rattle.m51_chain.specs.Generates.{IsCounted, IsGenOutcome};
-ghost use Rattle.m51_chain.specs.Linking.{IsProgramOutcome, alone};
+ghost use Rattle.m51_chain.specs.Linking.{IsProgramOutcome, sole_program};
 ghost use Rattle.m51_verbs.specs.Outcome.{Comes};
 
 use crate::linking::link_alone;
@@ -15,7 +15,7 @@ use std::alloc::Global;
 
 // Links a module, runs it, and counts.
 fn count_program(alloc: Global, steps: Steps, parts: Module) -> Result<Finished, Stop>
-    ensures { Comes (IsProgramOutcome (alone parts) (IsCounted steps)) result }
+    ensures { Comes (IsProgramOutcome (sole_program parts) (IsCounted steps)) result }
 {
     let linked = link_alone(alloc, parts)?;
     Ok(summary(alloc, steps, linked.layout, linked.image)?)

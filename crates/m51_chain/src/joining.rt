@@ -8,7 +8,7 @@ ghost use Rattle.m51_jobs.specs.declared.endings.TheConstants.{LEAST_BOARDS, MOS
 ghost use Rattle.m51_jobs.specs.declared.job.Job.TheVariants.{Party};
 ghost use Rattle.m51_jobs.specs.Endings.{are_boards};
 ghost use Rattle.m51_chain.specs.Parties.{AreBoardsOr, AreJoinedOr, IsBoardOr, IsPartyOutcome, party_outcome};
-ghost use Rattle.m51_chain.specs.Work.{Comes, outcome_of};
+ghost use Rattle.m51_chain.specs.Work.{Comes, outcome_of_work};
 ghost use Rattle.m51_verbs.specs.Contents.{AreContentsOf};
 ghost use Rattle.m51_verbs.specs.FlatRuns.{script_in};
 
@@ -74,7 +74,7 @@ fn together(alloc: Global, boards: Vec<Board>, steps: Steps) -> Result<Work, NoM
     requires least { LEAST_BOARDS ≤ length boards.items }
     requires most { length boards.items ≤ MOST_BOARDS }
     requires fresh { All IsFresh boards.items }
-    ensures { IfOk result (λ work. outcome_of work ≡ party_outcome boards.items steps) }
+    ensures { IfOk result (λ work. outcome_of_work work ≡ party_outcome boards.items steps) }
 {
     Ok(Work::Party {
         party: UnrunParty::make(alloc, boards)?,

@@ -2,8 +2,8 @@
 ghost use Rattle.std.specs.Prelude.{◌≡◌, ◌≤◌, IfOk, length, option_to_list};
 ghost use Rattle.m51_linker.specs.Link.{IsReady, program_of};
 ghost use Rattle.m51_sim.specs.Boards.{IsStarted};
-ghost use Rattle.m51_chain.specs.Linking.{AreLinkedOr, IsLinkedOr, alone};
-ghost use Rattle.m51_chain.specs.ProgramFiles.{AreAnsweredOr, HasParts, named};
+ghost use Rattle.m51_chain.specs.Linking.{AreLinkedOr, IsLinkedOr, sole_program};
+ghost use Rattle.m51_chain.specs.ProgramFiles.{AreAnsweredOr, HasParts, program_files};
 
 use crate::input_refusing::refuse_inputs;
 use m51_args::FileName;
@@ -43,8 +43,8 @@ pub(crate) fn inputs_in(
     script: &Option<FileName>,
     contents: &[Bytes],
 ) -> Result<Inputs, Stop>
-    requires { HasParts (named files.now control.now script.now) contents.now }
-    ensures { AreAnsweredOr (named files.now control.now script.now) contents.now result }
+    requires { HasParts (program_files files.now control.now script.now) contents.now }
+    ensures { AreAnsweredOr (program_files files.now control.now script.now) contents.now result }
 {
     let words = &contents[..files.len()];
     let control_content = content_if(control, &contents[files.len()..]);
@@ -74,7 +74,7 @@ pub(crate) fn link_modules(
 
 // Links a module by itself: there are no libraries and no control lines.
 pub(crate) fn link_alone(alloc: Global, parts: Module) -> Result<Linked, Stop>
-    ensures answer { IsLinkedOr (alone parts) result }
+    ensures answer { IsLinkedOr (sole_program parts) result }
     ensures ready { IfOk result IsReady }
 {
     let mut modules = ListOf::new(alloc);
@@ -91,8 +91,8 @@ pub(crate) fn link_files(
     script: &Option<FileName>,
     contents: &[Bytes],
 ) -> Result<LinkedFiles, Stop>
-    requires { HasParts (named files.now control.now script.now) contents.now }
-    ensures answer { AreLinkedOr (named files.now control.now script.now) contents.now result }
+    requires { HasParts (program_files files.now control.now script.now) contents.now }
+    ensures answer { AreLinkedOr (program_files files.now control.now script.now) contents.now result }
     ensures ready { IfOk result (λ found. IsReady found.linked) }
 {
     let Inputs {

@@ -9,7 +9,7 @@ ghost use Rattle.m51_chain.specs.Asked.{IsFit};
 ghost use Rattle.m51_chain.specs.Due.{IsDue, IsDueFor, IsPlanned, ReadsOnly};
 ghost use Rattle.m51_chain.specs.Expected.{HasOutcome};
 ghost use Rattle.m51_chain.specs.Verbs.{IsOutcome};
-ghost use Rattle.m51_chain.specs.Work.{Comes, answer_of};
+ghost use Rattle.m51_chain.specs.Work.{Comes, task_answer};
 ghost use Rattle.m51_verbs.specs.Contents.{AreContentsOf};
 ghost use Rattle.m51_verbs.specs.Reading.{ReadsSome};
 
@@ -73,7 +73,7 @@ fn target_of(alloc: Global, job: &Job) -> Result<Option<KeptName>, NoMemory>
 fn work_planned(alloc: Global, job: &Job, contents: &[Bytes]) -> Result<Task, NoMemory>
     requires fit { IsFit job.now }
     requires contents { AreContentsOf job.now contents.now }
-    ensures { IfOk result (λ task. HasOutcome job.now contents.now (answer_of task)) }
+    ensures { IfOk result (λ task. HasOutcome job.now contents.now (task_answer task)) }
 {
     let target = target_of(alloc, job)?;
     planned(target, work(alloc, job, contents))
@@ -83,7 +83,7 @@ fn work_planned(alloc: Global, job: &Job, contents: &[Bytes]) -> Result<Task, No
 fn plan_job<F: Shelf>(alloc: Global, job: &Job, files: &mut F) -> Result<Task, NoMemory>
     requires fit { IsFit job.now }
     ensures due { IfOk result (λ task. IsDueFor job.now (F.state files.old).holds
-        (F.state files.old).reads (F.state files.new).reads (answer_of task)) }
+        (F.state files.old).reads (F.state files.new).reads (task_answer task)) }
     ensures frame { OnlyReads (F.state files.old) (F.state files.new) }
     ensures reads { ((F.state files.new).reads ≡ (F.state files.old).reads)
         ⊎ ((file_count job.now ≤ MOST_FILES)
@@ -100,7 +100,7 @@ fn plan_few<F: Shelf>(alloc: Global, job: &Job, files: &mut F) -> Result<Task, N
     requires fit { IsFit job.now }
     requires few { file_count job.now ≤ MOST_FILES }
     ensures due { IfOk result (λ task. IsDueFor job.now (F.state files.old).holds
-        (F.state files.old).reads (F.state files.new).reads (answer_of task)) }
+        (F.state files.old).reads (F.state files.new).reads (task_answer task)) }
     ensures frame { OnlyReads (F.state files.old) (F.state files.new) }
     ensures reads { ((F.state files.new).reads ≡ (F.state files.old).reads)
         ⊎ ReadsSome (names_read job.now) (F.state files.old).reads (F.state files.new).reads }
@@ -126,7 +126,7 @@ pub(crate) fn plan<F: Shelf>(
     files: &mut F,
 ) -> Result<Task, NoMemory>
     ensures due { IfOk result (λ task. IsDue (texts words.now) (F.state files.old).holds
-        (F.state files.old).reads (F.state files.new).reads (answer_of task)) }
+        (F.state files.old).reads (F.state files.new).reads (task_answer task)) }
     ensures usage { job_of (texts words.now) ≡ None → files.new ≡ files.old }
     ensures frame { OnlyReads (F.state files.old) (F.state files.new) }
     ensures reads { ((F.state files.new).reads ≡ (F.state files.old).reads)

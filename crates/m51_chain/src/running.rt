@@ -1,8 +1,8 @@
 //! What is to be done is done. It allocates nothing.
 ghost use Rattle.std.specs.Prelude.{◌≡◌, ◌≤◌, None};
 ghost use Rattle.m51_chain.specs.Parties.{party_outcome, party_status};
-ghost use Rattle.m51_chain.specs.Work.{answer_of};
-ghost use Rattle.m51_verbs.specs.Carried.{HoldsBut, IsEnded, IsWritten};
+ghost use Rattle.m51_chain.specs.Work.{task_answer};
+ghost use Rattle.m51_verbs.specs.Carried.{HoldsBut, IsEnded, IsTextWritten};
 
 use crate::unrun::UnrunParty;
 use crate::work::Task;
@@ -24,7 +24,7 @@ fn party_status(end: PartyEnd) -> Result<Status, Failed>
 
 // Runs the boards of a party, and writes their text.
 fn run_party<S: Sink>(party: UnrunParty, steps: Steps, out: &mut S) -> Result<Status, Failed>
-    ensures written { IsWritten (party_outcome party steps).status (party_outcome party steps).text
+    ensures written { IsTextWritten (party_outcome party steps).status (party_outcome party steps).text
         (S.state out.old) (S.state out.new) result }
     ensures later { (S.state out.old).faults ≤ (S.state out.new).faults }
 {
@@ -33,10 +33,10 @@ fn run_party<S: Sink>(party: UnrunParty, steps: Steps, out: &mut S) -> Result<St
 
 // Keeps, writes and runs what is to be done, up to the first failed call.
 pub(crate) fn perform<F: Shelf, S: Sink>(task: Task, files: &mut F, out: &mut S) -> Status
-    ensures carried { IsEnded (answer_of task) (F.state files.old).keeps (F.state files.new).keeps
+    ensures carried { IsEnded (task_answer task) (F.state files.old).keeps (F.state files.new).keeps
         (S.state out.old) (S.state out.new) result }
-    ensures quiet { (answer_of task).keeps ≡ None → files.new ≡ files.old }
-    ensures holds { HoldsBut (answer_of task).keeps (F.state files.old).holds (F.state files.new).holds }
+    ensures quiet { (task_answer task).keeps ≡ None → files.new ≡ files.old }
+    ensures holds { HoldsBut (task_answer task).keeps (F.state files.old).holds (F.state files.new).holds }
     ensures reads { (F.state files.new).reads ≡ (F.state files.old).reads }
     ensures kept_later { (F.state files.old).keeps.faults ≤ (F.state files.new).keeps.faults }
     ensures later { (S.state out.old).faults ≤ (S.state out.new).faults }

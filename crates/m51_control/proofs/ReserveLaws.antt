@@ -1,5 +1,6 @@
 -- Reserves are read where they are written.
-use Rattle.std.proofs.Common.{◌≡◌, ℕ, ◌-◌, true, not, cond, nat_lt, nat_le, ◌&&◌, List, [], ◌∷◌, ◌++◌, Some, None, refl, sym, ap, ◌∙◌, subst, arith}
+use Rattle.std.proofs.Common.{◌≡◌, ℕ, ◌-◌, true, not, cond, nat_lt, nat_le, ◌&&◌, List, [], ◌∷◌, ◌++◌, Some, None, refl}
+use Rattle.std.proofs.Common.{sym, ap, ◌∙◌, subst, arith}
 use Rattle.std.specs.Char.{is_ascii_alphanumeric}
 use Rattle.std.specs.Option.{option_and_then}
 use Rattle.std.specs.List.{list_all}
@@ -13,29 +14,33 @@ use Rattle.m51_cells.proofs.Passing.{goes_on, guarded, pass_append, weaker}
 use Rattle.m51_control.specs.declared.control.Control.{Control}
 use Rattle.m51_control.specs.declared.control.Control.TheVariants.{Reserve}
 use Rattle.m51_cells.specs.Blanks.{is_blank}
-use Rattle.m51_control.specs.Parts.{opening, closing, hyphen, is_sign, cut_at, part_of, word_in}
-use Rattle.m51_control.specs.Reserve.{number_of_tokens, number_of, number_in, bounds_of, space_of, is_range, IsRange, reserve_of, closed, memory_of, reserve}
+use Rattle.m51_control.specs.Parts.{open_parenthesis, close_parenthesis, hyphen, is_sign, cut_at, single_part, word_in}
+use Rattle.m51_control.specs.Reserve.{number_of_tokens, assembler_number, trimmed_number, bounds_of, space_of, is_range}
+use Rattle.m51_control.specs.Reserve.{IsRange, reserve_of, until_closing, reserved_memory, reserve}
 use Rattle.m51_control.specs.Written.{AreBlanks, WritesWord, WritesNumber}
 use Rattle.m51_control.proofs.CutLaws.{Lacks, cut_sound, cut_complete}
-use Rattle.m51_control.proofs.PartLaws.{is_part_byte, is_field_byte, IsPart, part_sound, part_complete, field_bytes, field_lacks}
+use Rattle.m51_control.proofs.PartLaws.{is_part_byte, is_field_byte, IsPart, part_sound, part_complete, field_bytes}
+use Rattle.m51_control.proofs.PartLaws.{field_lacks}
 use Rattle.m51_control.proofs.NameLaws.{word_sound, word_complete, word_field}
 
 digit_byte : (b : ℕ) → is_ascii_alphanumeric b ≡ true → is_part_byte b ≡ true
 digit_byte b h = grind (arith, nat_tests, h)
 
-number_part : (part : List ℕ) (number : ℕ) → number_of part ≡ Some number → IsPart part
+number_part : (part : List ℕ) (number : ℕ) → assembler_number part ≡ Some number → IsPart part
 number_part [] number h = absurd (cc)
 number_part (b ∷ bs) number h =
     let tests = guarded (list_all is_ascii_alphanumeric (b ∷ bs)) (number_of_tokens (tokens_of (b ∷ bs))) number h in
     record { some = omega arith; each = weaker is_ascii_alphanumeric is_part_byte digit_byte (b ∷ bs) tests.0 }
 
-number_sound : (text : List ℕ) (number : ℕ) → number_in text ≡ Some number → WritesNumber text number
+number_sound : (text : List ℕ) (number : ℕ) → trimmed_number text ≡ Some number → WritesNumber text number
 number_sound text number h =
-    let step = goes_on number_of (part_of text) number h in
+    let step = goes_on assembler_number (single_part text) number h in
     record { part = step.value; surrounds = part_sound text step.value step.found; is = step.goes }
 
-number_complete : (text : List ℕ) (number : ℕ) → WritesNumber text number → number_in text ≡ Some number
-number_complete text number w = ap (λ o. option_and_then number_of o) (part_complete text w.part w.surrounds (number_part w.part number w.is)) ∙ w.is
+number_complete : (text : List ℕ) (number : ℕ) → WritesNumber text number → trimmed_number text ≡ Some number
+number_complete text number w =
+    ap (λ o. option_and_then assembler_number o)
+    (part_complete text w.part w.surrounds (number_part w.part number w.is)) ∙ w.is
 
 number_field : (text : List ℕ) (number : ℕ) → WritesNumber text number → list_all is_field_byte text ≡ true
 number_field text number w = field_bytes text w.part w.surrounds (number_part w.part number w.is)
@@ -51,8 +56,8 @@ pub record WritesBounds (text : List ℕ) (bounds : ℕ × ℕ) : Type 0 where
 pub bounds_sound : (text : List ℕ) (bounds : ℕ × ℕ) → bounds_of text ≡ Some bounds → WritesBounds text bounds
 bounds_sound text bounds h =
     let cut = goes_on _ (cut_at hyphen text) bounds h in
-    let low = goes_on _ (number_in cut.value.0) bounds cut.goes in
-    let high = goes_on _ (number_in cut.value.1) bounds low.goes in
+    let low = goes_on _ (trimmed_number cut.value.0) bounds cut.goes in
+    let high = goes_on _ (trimmed_number cut.value.1) bounds low.goes in
     let whole : WritesBounds text (low.value, high.value) = record {
       lo = cut.value.0;
       hi = cut.value.1;
@@ -65,27 +70,40 @@ bounds_sound text bounds h =
 pub bounds_complete : (text : List ℕ) (bounds : ℕ × ℕ) → WritesBounds text bounds → bounds_of text ≡ Some bounds
 bounds_complete text bounds w =
     ap bounds_of w.is
-    ∙ ap (λ o. option_and_then (λ (cut : List ℕ × List ℕ). option_and_then (λ low. option_and_then (λ high. Some (low, high)) (number_in cut.1)) (number_in cut.0)) o) (cut_complete hyphen w.lo w.hi (field_lacks hyphen refl w.lo (number_field w.lo bounds.0 w.low)))
-    ∙ ap (λ o. option_and_then (λ low. option_and_then (λ high. Some (low, high)) (number_in w.hi)) o) (number_complete w.lo bounds.0 w.low)
+    ∙ ap (λ o. option_and_then
+    (λ (cut : List ℕ × List ℕ). option_and_then
+    (λ low. option_and_then (λ high. Some (low, high)) (trimmed_number cut.1)) (trimmed_number cut.0)) o)
+    (cut_complete hyphen w.lo w.hi (field_lacks hyphen refl w.lo (number_field w.lo bounds.0 w.low)))
+    ∙ ap (λ o. option_and_then (λ low. option_and_then (λ high. Some (low, high)) (trimmed_number w.hi)) o)
+    (number_complete w.lo bounds.0 w.low)
     ∙ ap (λ o. option_and_then (λ high. Some (bounds.0, high)) o) (number_complete w.hi bounds.1 w.high)
 
 lacks_append : (sign : ℕ) (a b : List ℕ) → Lacks sign a → Lacks sign b → Lacks sign (a ++ b)
 lacks_append sign a b h k = pass_append (λ c. not (is_sign sign c)) a b h k
 
-bounds_lack : (text : List ℕ) (bounds : ℕ × ℕ) → WritesBounds text bounds → Lacks closing text
+bounds_lack : (text : List ℕ) (bounds : ℕ × ℕ) → WritesBounds text bounds → Lacks close_parenthesis text
 bounds_lack text bounds w =
-    ap (list_all (λ c. not (is_sign closing c))) w.is
-    ∙ lacks_append closing w.lo (hyphen ∷ w.hi) (field_lacks closing refl w.lo (number_field w.lo bounds.0 w.low)) (field_lacks closing refl w.hi (number_field w.hi bounds.1 w.high))
+    ap (list_all (λ c. not (is_sign close_parenthesis c))) w.is
+    ∙ lacks_append close_parenthesis w.lo (hyphen ∷ w.hi)
+    (field_lacks close_parenthesis refl w.lo (number_field w.lo bounds.0 w.low))
+    (field_lacks close_parenthesis refl w.hi (number_field w.hi bounds.1 w.high))
 
-pub closed_sound : (text inside : List ℕ) → closed text ≡ Some inside → (blanks : List ℕ) × AreBlanks blanks × (text ≡ inside ++ closing ∷ blanks)
+pub closed_sound : (text inside : List ℕ) → until_closing text ≡ Some inside → (blanks : List ℕ) × AreBlanks blanks
+    × (text ≡ inside ++ close_parenthesis ∷ blanks)
 closed_sound text inside h =
-    let cut = goes_on _ (cut_at closing text) inside h in
-    let tests = cond_some (list_all is_blank cut.value.1) cut.value.0 inside cut.goes in
-    (cut.value.1, tests.0, cut_sound closing text cut.value cut.found ∙ ap (λ l. l ++ closing ∷ cut.value.1) tests.1)
+    let cut = goes_on _ (cut_at close_parenthesis text) inside h in
+    let tests = cond_some (list_all is_blank cut.value.1) cut.value.0 inside cut.goes in (
+      cut.value.1,
+      tests.0,
+      cut_sound close_parenthesis text cut.value cut.found
+          ∙ ap (λ l. l ++ close_parenthesis ∷ cut.value.1) tests.1,
+    )
 
-pub closed_complete : (inside blanks : List ℕ) → Lacks closing inside → AreBlanks blanks → closed (inside ++ closing ∷ blanks) ≡ Some inside
+pub closed_complete : (inside blanks : List ℕ) → Lacks close_parenthesis inside → AreBlanks blanks
+    → until_closing (inside ++ close_parenthesis ∷ blanks) ≡ Some inside
 closed_complete inside blanks lacks blank =
-    ap (λ o. option_and_then (λ (cut : List ℕ × List ℕ). cond (list_all is_blank cut.1) (Some cut.0) None) o) (cut_complete closing inside blanks lacks)
+    ap (λ o. option_and_then (λ (cut : List ℕ × List ℕ). cond (list_all is_blank cut.1) (Some cut.0) None) o)
+    (cut_complete close_parenthesis inside blanks lacks)
     ∙ ap (λ t. cond t (Some inside) None) blank
 
 range_fact : (memory : Space) (low high : ℕ) → is_range memory low high ≡ true → IsRange memory low high
@@ -99,7 +117,8 @@ range_fact space.Xram low high h =
 range_fact space.Code low high h = absurd (cc)
 
 range_test : (memory : Space) (low high : ℕ) → IsRange memory low high → is_range memory low high ≡ true
-range_test space.Ram low high h = and_from (nat_le low high) (nat_le high 0xFF) (le-leb low high h.0) (le-leb high 0xFF h.1)
+range_test space.Ram low high h =
+    and_from (nat_le low high) (nat_le high 0xFF) (le-leb low high h.0) (le-leb high 0xFF h.1)
 range_test space.Xram low high h =
     and_from (nat_le low high) (nat_le high 0xFFFF && nat_lt (high - low) 65535) (le-leb low high h.0)
     (and_from (nat_le high 0xFFFF) (nat_lt (high - low) 65535) (le-leb high 0xFFFF h.1) (lt-ltb (high - low) 65535 h.2))
@@ -118,7 +137,7 @@ pub record WritesReserve (inside : List ℕ) (control : Control) : Type 0 where
   pub is_range : WritesBounds range bounds
   pub fits : IsRange memory bounds.0 bounds.1
   pub blank : AreBlanks blanks
-  pub is : inside ≡ text ++ opening ∷ (range ++ closing ∷ blanks)
+  pub is : inside ≡ text ++ open_parenthesis ∷ (range ++ close_parenthesis ∷ blanks)
   pub says : control ≡ Reserve memory bounds.0 bounds.1
 
 pub record WritesMemory (inside : List ℕ) (memory : Space × List ℕ) : Type 0 where
@@ -128,31 +147,36 @@ pub record WritesMemory (inside : List ℕ) (memory : Space × List ℕ) : Type 
   pub is_word : WritesWord text word
   pub is_memory : space_of word ≡ Some memory.0
   pub blank : AreBlanks blanks
-  pub is : inside ≡ text ++ opening ∷ (memory.1 ++ closing ∷ blanks)
+  pub is : inside ≡ text ++ open_parenthesis ∷ (memory.1 ++ close_parenthesis ∷ blanks)
 
-memory_sound : (inside : List ℕ) (memory : Space × List ℕ) → memory_of inside ≡ Some memory → WritesMemory inside memory
+memory_sound : (inside : List ℕ) (memory : Space × List ℕ) → reserved_memory inside ≡ Some memory
+    → WritesMemory inside memory
 memory_sound inside memory h =
-    let cut = goes_on _ (cut_at opening inside) memory h in
+    let cut = goes_on _ (cut_at open_parenthesis inside) memory h in
     let word = goes_on _ (word_in cut.value.0) memory cut.goes in
-    let named = goes_on _ (space_of word.value) memory word.goes in
-    let range = goes_on _ (closed cut.value.1) memory named.goes in
+    let trimmed_name = goes_on _ (space_of word.value) memory word.goes in
+    let range = goes_on _ (until_closing cut.value.1) memory trimmed_name.goes in
     let after = closed_sound cut.value.1 range.value range.found in
-    let whole : WritesMemory inside (named.value, range.value) = record {
+    let whole : WritesMemory inside (trimmed_name.value, range.value) = record {
       text = cut.value.0;
       word = word.value;
       blanks = after.0;
       is_word = word_sound cut.value.0 word.value word.found;
-      is_memory = named.found;
+      is_memory = trimmed_name.found;
       blank = after.1;
-      is = cut_sound opening inside cut.value cut.found ∙ ap (λ l. cut.value.0 ++ opening ∷ l) after.2;
+      is = cut_sound open_parenthesis inside cut.value cut.found
+          ∙ ap (λ l. cut.value.0 ++ open_parenthesis ∷ l) after.2;
     } in
-    subst (λ (m : Space × List ℕ). WritesMemory inside m) (same_Some (named.value, range.value) memory range.goes) whole
+    subst (λ (m : Space × List ℕ). WritesMemory inside m)
+    (same_Some (trimmed_name.value, range.value) memory range.goes) whole
 
 pub reserve_sound : (inside : List ℕ) (control : Control) → reserve inside ≡ Some control → WritesReserve inside control
 reserve_sound inside control h =
-    let memory = goes_on _ (memory_of inside) control h in
+    let memory = goes_on _ (reserved_memory inside) control h in
     let bounds = goes_on _ (bounds_of memory.value.1) control memory.goes in
-    let tests = cond_some (is_range memory.value.0 bounds.value.0 bounds.value.1) (Reserve memory.value.0 bounds.value.0 bounds.value.1) control bounds.goes in
+    let tests =
+    cond_some (is_range memory.value.0 bounds.value.0 bounds.value.1)
+    (Reserve memory.value.0 bounds.value.0 bounds.value.1) control bounds.goes in
     let written = memory_sound inside memory.value memory.found in
     record {
       text = written.text;
@@ -170,19 +194,40 @@ reserve_sound inside control h =
       says = sym tests.1;
     }
 
-memory_complete : (inside : List ℕ) (memory : Space × List ℕ) → Lacks closing memory.1 → WritesMemory inside memory → memory_of inside ≡ Some memory
+memory_complete : (inside : List ℕ) (memory : Space × List ℕ) → Lacks close_parenthesis memory.1
+    → WritesMemory inside memory → reserved_memory inside ≡ Some memory
 memory_complete inside memory lacks w =
-    let after = memory.1 ++ closing ∷ w.blanks in
-    ap memory_of w.is
-    ∙ ap (λ o. option_and_then (λ (cut : List ℕ × List ℕ). option_and_then (λ word. option_and_then (λ m. option_and_then (λ i. Some (m, i)) (closed cut.1)) (space_of word)) (word_in cut.0)) o) (cut_complete opening w.text after (field_lacks opening refl w.text (word_field w.text w.word w.is_word)))
-    ∙ ap (λ o. option_and_then (λ word. option_and_then (λ m. option_and_then (λ i. Some (m, i)) (closed after)) (space_of word)) o) (word_complete w.text w.word w.is_word)
-    ∙ ap (λ o. option_and_then (λ m. option_and_then (λ i. Some (m, i)) (closed after)) o) w.is_memory
+    let after = memory.1 ++ close_parenthesis ∷ w.blanks in
+    ap reserved_memory w.is
+    ∙ ap (λ o. option_and_then
+    (λ (cut : List ℕ × List ℕ). option_and_then
+    (λ word. option_and_then (λ m. option_and_then (λ i. Some (m, i)) (until_closing cut.1)) (space_of word))
+    (word_in cut.0)) o)
+    (cut_complete open_parenthesis w.text after
+    (field_lacks open_parenthesis refl w.text (word_field w.text w.word w.is_word)))
+    ∙ ap (λ o. option_and_then
+    (λ word. option_and_then (λ m. option_and_then (λ i. Some (m, i)) (until_closing after)) (space_of word)) o)
+    (word_complete w.text w.word w.is_word)
+    ∙ ap (λ o. option_and_then (λ m. option_and_then (λ i. Some (m, i)) (until_closing after)) o) w.is_memory
     ∙ ap (λ o. option_and_then (λ i. Some (memory.0, i)) o) (closed_complete memory.1 w.blanks lacks w.blank)
 
-pub reserve_complete : (inside : List ℕ) (control : Control) → WritesReserve inside control → reserve inside ≡ Some control
+pub reserve_complete : (inside : List ℕ) (control : Control) → WritesReserve inside control → reserve inside
+    ≡ Some control
 reserve_complete inside control w =
-    let parts : WritesMemory inside (w.memory, w.range) = record { text = w.text; word = w.word; blanks = w.blanks; is_word = w.is_word; is_memory = w.is_memory; blank = w.blank; is = w.is } in
-    ap (λ o. option_and_then (λ (m : Space × List ℕ). option_and_then (reserve_of m.0) (bounds_of m.1)) o) (memory_complete inside (w.memory, w.range) (bounds_lack w.range w.bounds w.is_range) parts)
+    let parts : WritesMemory inside (w.memory, w.range) =
+    record {
+      text = w.text;
+      word = w.word;
+      blanks = w.blanks;
+      is_word = w.is_word;
+      is_memory = w.is_memory;
+      blank =
+          w.blank;
+      is = w.is;
+    } in
+    ap (λ o. option_and_then (λ (m : Space × List ℕ). option_and_then (reserve_of m.0) (bounds_of m.1)) o)
+    (memory_complete inside (w.memory, w.range) (bounds_lack w.range w.bounds w.is_range) parts)
     ∙ ap (λ o. option_and_then (reserve_of w.memory) o) (bounds_complete w.range w.bounds w.is_range)
-    ∙ ap (λ t. cond t (Some (Reserve w.memory w.bounds.0 w.bounds.1)) None) (range_test w.memory w.bounds.0 w.bounds.1 w.fits)
+    ∙ ap (λ t. cond t (Some (Reserve w.memory w.bounds.0 w.bounds.1)) None)
+    (range_test w.memory w.bounds.0 w.bounds.1 w.fits)
     ∙ ap Some (sym w.says)

@@ -14,5 +14,6 @@ below_128 byte h = grind (arith, nat_tests)
 pub run_is_ascii : (run : List ℕ) → list_all is_ascii_alphanumeric run ≡ true → IsAscii run
 run_is_ascii [] h = IsAscii-nil
 run_is_ascii (byte ∷ run) h =
-    let parts : (is_ascii_alphanumeric byte ≡ true) × (list_all is_ascii_alphanumeric run ≡ true) = and_parts (is_ascii_alphanumeric byte) (list_all is_ascii_alphanumeric run) h in
+    let parts : (is_ascii_alphanumeric byte ≡ true) × (list_all is_ascii_alphanumeric run ≡ true) =
+    and_parts (is_ascii_alphanumeric byte) (list_all is_ascii_alphanumeric run) h in
     IsAscii-cons byte run (below_128 byte parts.0) (run_is_ascii run parts.1)

@@ -24,24 +24,24 @@ with_line number (Some control) (Err error) = Err error
 
 -- The controls of lines, of which the first has this number; or the number of the first line that is not in the
 -- grammar. Lines that are skipped count.
-abbrev pub read_from : ℕ → List (List ℕ) → Read
-read_from number [] = Ok []
-read_from number (line ∷ more) =
-    if is_skipped line then read_from (number + 1) more
-    else with_line number (control_of line) (read_from (number + 1) more)
+abbrev pub controls_from : ℕ → List (List ℕ) → Read
+controls_from number [] = Ok []
+controls_from number (line ∷ more) =
+    if is_skipped line then controls_from (number + 1) more
+    else with_line number (control_of line) (controls_from (number + 1) more)
 
 -- the controls of at most 1,000 lines
 abbrev pub read_lines : List (List ℕ) → Read
-read_lines all = if nat_lt MOST_CONTROL_LINES (length all) then Err Limit else read_from 1 all
+read_lines all = if nat_lt MOST_CONTROL_LINES (length all) then Err Limit else controls_from 1 all
 
 -- the controls of a file: its lines end in LF or CR LF, which the last may lack
 abbrev pub controls_of : List ℕ → Read
 controls_of bytes = read_lines (lines bytes)
 
 -- why a file is refused; out of memory is no refusal
-abbrev pub refusal_of : ControlError → Option ControlError
-refusal_of Memory = None
-refusal_of refusal = Some refusal
+abbrev pub control_refusal : ControlError → Option ControlError
+control_refusal Memory = None
+control_refusal refusal = Some refusal
 
 -- a control as the type of controls keeps it: a reserve is a range of internal RAM or of external data memory
 abbrev pub IsAllowed : Control → Type 0

@@ -10,16 +10,16 @@ use Rattle.m51_control.specs.declared.control.Class.{Class}
 use Rattle.m51_control.specs.declared.control.Class.TheVariants as class
 use Rattle.m51_control.specs.declared.naming.Role.TheVariants as role
 use Rattle.m51_cells.specs.declared.limits.TheConstants.{MOST_LINE_BYTES}
-use Rattle.m51_control.specs.Parts.{◌>>=◌, opening, closing, comma, greater, tilde, is_sign, cut_at}
+use Rattle.m51_control.specs.Parts.{◌>>=◌, open_parenthesis, close_parenthesis, comma, greater, tilde, is_sign, cut_at}
 use Rattle.m51_control.specs.Parts.{before_last, before_blanks, word_in}
-use Rattle.m51_control.specs.Naming.{named, names_in}
+use Rattle.m51_control.specs.Naming.{trimmed_name, names_in}
 use Rattle.m51_control.specs.Reserve.{reserve}
 
 -- u > v, w: calls from one unit to others are added
 abbrev pub add : List ℕ → Option Control
 add inside = do
   cut ← cut_at greater inside
-  from ← named role.Unit cut.0
+  from ← trimmed_name role.Unit cut.0
   to ← names_in role.Unit cut.1
   Some (Add from to)
 
@@ -27,7 +27,7 @@ add inside = do
 abbrev pub cut : List ℕ → Option Control
 cut inside = do
   cut ← cut_at tilde inside
-  from ← named role.Unit cut.0
+  from ← trimmed_name role.Unit cut.0
   to ← names_in role.Unit cut.1
   Some (Cut from to)
 
@@ -37,7 +37,7 @@ overlay inside = if list_any (is_sign greater) inside then add inside else cut i
 
 -- NOOVERLAY(u)
 abbrev pub no_overlay : List ℕ → Option Control
-no_overlay inside = named role.Unit inside >>= (λ unit. Some (NoOverlay unit))
+no_overlay inside = trimmed_name role.Unit inside >>= (λ unit. Some (NoOverlay unit))
 
 -- the class that a word names
 unfoldable pub class_named : List ℕ → Option Class
@@ -78,10 +78,10 @@ by_word word inside =
 -- words, names and numbers hold only letters, digits, ? and _, no other byte than a tab and 20H to 7EH is in a form.
 abbrev pub call_of : List ℕ → Option (List ℕ × List ℕ)
 call_of line = do
-  cut ← cut_at opening line
+  cut ← cut_at open_parenthesis line
   part ← before_blanks cut.0
   word ← name_of part
-  inside ← before_last closing cut.1
+  inside ← before_last close_parenthesis cut.1
   Some (word, inside)
 
 -- the control of a line, which has at most 255 bytes

@@ -5,7 +5,7 @@ use Rattle.m51_cells.specs.Hex.{digit_value}
 use Rattle.m51_cells.specs.Name.{name_of, title_at}
 use Rattle.m51_control.specs.declared.naming.Role.{Role}
 use Rattle.m51_control.specs.declared.naming.Role.TheVariants as role
-use Rattle.m51_control.specs.Parts.{◌>>=◌, at_sign, comma, is_sign, part_of}
+use Rattle.m51_control.specs.Parts.{◌>>=◌, at_sign, comma, is_sign, single_part}
 
 -- the number of four hexadecimal digits
 abbrev pub hex4_value : ℕ → ℕ → ℕ → ℕ → Option ℕ
@@ -17,14 +17,14 @@ hex4_value a b c d = do
   Some (a * 4096 + b * 256 + c * 16 + d)
 
 -- the title of an absolute segment that a text writes: @ and four hexadecimal digits
-abbrev pub title_of : List ℕ → Option (List ℕ)
-title_of (sign ∷ a ∷ b ∷ c ∷ d ∷ []) =
+abbrev pub absolute_title : List ℕ → Option (List ℕ)
+absolute_title (sign ∷ a ∷ b ∷ c ∷ d ∷ []) =
     if sign == at_sign then hex4_value a b c d >>= (λ base. Some (title_at base)) else None
-title_of _ = None
+absolute_title _ = None
 
 -- a unit is written by its name or, if it is absolute, by its title
 abbrev pub unit_of : List ℕ → Option (List ℕ)
-unit_of (sign ∷ digits) = if sign == at_sign then title_of (sign ∷ digits) else name_of (sign ∷ digits)
+unit_of (sign ∷ digits) = if sign == at_sign then absolute_title (sign ∷ digits) else name_of (sign ∷ digits)
 unit_of [] = None
 
 -- the name that a part writes: only a unit may be written by its title
@@ -33,14 +33,14 @@ name_as role.Unit part = unit_of part
 name_as role.Segment part = name_of part
 
 -- the name of a text, with blanks before and after it
-abbrev pub named : Role → List ℕ → Option (List ℕ)
-named r text = part_of text >>= name_as r
+abbrev pub trimmed_name : Role → List ℕ → Option (List ℕ)
+trimmed_name r text = single_part text >>= name_as r
 
 -- what each of these texts names, where each does
 abbrev pub all_named : Role → List (List ℕ) → Option (List (List ℕ))
 all_named r [] = Some []
 all_named r (text ∷ texts) = do
-  name ← named r text
+  name ← trimmed_name r text
   names ← all_named r texts
   Some (name ∷ names)
 

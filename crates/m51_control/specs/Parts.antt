@@ -12,11 +12,11 @@ abbrev pub ◌>>=◌ : {A B : Type 0} → Option A → (A → Option B) → Opti
 found >>= go = option_and_then go found
 
 -- the signs by name
-abbrev pub opening : ℕ
-opening = 0x28
+abbrev pub open_parenthesis : ℕ
+open_parenthesis = 0x28
 
-abbrev pub closing : ℕ
-closing = 0x29
+abbrev pub close_parenthesis : ℕ
+close_parenthesis = 0x29
 
 abbrev pub comma : ℕ
 comma = 0x2C
@@ -66,9 +66,9 @@ before_blanks text =
     if list_all is_blank (drop len text) then Some (take len text) else None
 
 -- the one part of a text, with blanks before and after it
-abbrev pub part_of : List ℕ → Option (List ℕ)
-part_of text = before_blanks (drop (prefix_len is_blank text) text)
+abbrev pub single_part : List ℕ → Option (List ℕ)
+single_part text = before_blanks (drop (prefix_len is_blank text) text)
 
 -- the word or name of a text, in upper case, with blanks before and after it
 abbrev pub word_in : List ℕ → Option (List ℕ)
-word_in text = part_of text >>= name_of
+word_in text = single_part text >>= name_of

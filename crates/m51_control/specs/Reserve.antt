@@ -12,7 +12,7 @@ use Rattle.m51_lex.specs.Tokens.{Cut, tokens_of}
 use Rattle.m51_control.specs.declared.control.Control.{Control}
 use Rattle.m51_control.specs.declared.control.Control.TheVariants.{Reserve}
 use Rattle.m51_cells.specs.Blanks.{is_blank}
-use Rattle.m51_control.specs.Parts.{◌>>=◌, opening, closing, hyphen, cut_at, part_of, word_in}
+use Rattle.m51_control.specs.Parts.{◌>>=◌, open_parenthesis, close_parenthesis, hyphen, cut_at, single_part, word_in}
 
 -- the number that a token is
 abbrev pub number_of_token : What → Option ℕ
@@ -25,19 +25,19 @@ number_of_tokens (Ok (token ∷ [])) = number_of_token token.what
 number_of_tokens _ = None
 
 -- the number that a run of letters and digits writes in the assembler's language
-abbrev pub number_of : List ℕ → Option ℕ
-number_of run = if list_all is_ascii_alphanumeric run then number_of_tokens (tokens_of run) else None
+abbrev pub assembler_number : List ℕ → Option ℕ
+assembler_number run = if list_all is_ascii_alphanumeric run then number_of_tokens (tokens_of run) else None
 
 -- the number of a text, with blanks before and after it
-abbrev pub number_in : List ℕ → Option ℕ
-number_in text = part_of text >>= number_of
+abbrev pub trimmed_number : List ℕ → Option ℕ
+trimmed_number text = single_part text >>= assembler_number
 
 -- the first and the last address, with a hyphen between them
 abbrev pub bounds_of : List ℕ → Option (ℕ × ℕ)
 bounds_of text = do
   cut ← cut_at hyphen text
-  low ← number_in cut.0
-  high ← number_in cut.1
+  low ← trimmed_number cut.0
+  high ← trimmed_number cut.1
   Some (low, high)
 
 -- the memory that a word names
@@ -64,21 +64,21 @@ abbrev pub reserve_of : Space → ℕ × ℕ → Option Control
 reserve_of memory bounds = if is_range memory bounds.0 bounds.1 then Some (Reserve memory bounds.0 bounds.1) else None
 
 -- the text in parentheses, from after the opening one; only blanks follow the closing one
-abbrev pub closed : List ℕ → Option (List ℕ)
-closed text = cut_at closing text >>= (λ cut. if list_all is_blank cut.1 then Some cut.0 else None)
+abbrev pub until_closing : List ℕ → Option (List ℕ)
+until_closing text = cut_at close_parenthesis text >>= (λ cut. if list_all is_blank cut.1 then Some cut.0 else None)
 
 -- the memory of a reserve, and the text in its parentheses
-abbrev pub memory_of : List ℕ → Option (Space × List ℕ)
-memory_of text = do
-  cut ← cut_at opening text
+abbrev pub reserved_memory : List ℕ → Option (Space × List ℕ)
+reserved_memory text = do
+  cut ← cut_at open_parenthesis text
   word ← word_in cut.0
   memory ← space_of word
-  inside ← closed cut.1
+  inside ← until_closing cut.1
   Some (memory, inside)
 
 -- DATA(lo-hi) or XDATA(lo-hi)
 abbrev pub reserve : List ℕ → Option Control
 reserve text = do
-  memory ← memory_of text
+  memory ← reserved_memory text
   bounds ← bounds_of memory.1
   reserve_of memory.0 bounds

@@ -10,9 +10,9 @@ use Rattle.m51_control.specs.declared.naming.Role.{Role}
 use Rattle.m51_control.specs.declared.naming.Role.TheVariants as role
 use Rattle.m51_cells.specs.Blanks.{is_blank}
 use Rattle.m51_cells.specs.declared.limits.TheConstants.{MOST_LINE_BYTES}
-use Rattle.m51_control.specs.Parts.{opening, closing, comma, hyphen, greater, tilde}
+use Rattle.m51_control.specs.Parts.{open_parenthesis, close_parenthesis, comma, hyphen, greater, tilde}
 use Rattle.m51_control.specs.Naming.{name_as}
-use Rattle.m51_control.specs.Reserve.{IsRange, number_of, space_of}
+use Rattle.m51_control.specs.Reserve.{IsRange, assembler_number, space_of}
 use Rattle.m51_control.specs.Grammar.{class_named}
 
 -- only blanks, or nothing
@@ -56,7 +56,7 @@ pub record WritesWord (text word : List ℕ) : Type 0 where
 pub record WritesNumber (text : List ℕ) (number : ℕ) : Type 0 where
   pub part : List ℕ
   pub surrounds : Surrounds part text
-  pub is : number_of part ≡ Some number
+  pub is : assembler_number part ≡ Some number
 
 -- what a word and a text in parentheses write
 pub data Says (word inside : List ℕ) (control : Control) : Type 0 where
@@ -75,7 +75,8 @@ pub data Says (word inside : List ℕ) (control : Control) : Type 0 where
   Reserves : {text memory lo hi : List ℕ} {space : Space} {low high : ℕ} (blanks : List ℕ)
       → word ≡ codes "RESERVE" → WritesWord text memory → space_of memory ≡ Some space
       → WritesNumber lo low → WritesNumber hi high → IsRange space low high → AreBlanks blanks
-      → inside ≡ text ++ opening ∷ (lo ++ hyphen ∷ hi ++ closing ∷ blanks) → control ≡ Reserve space low high
+      → inside ≡ text ++ open_parenthesis ∷ (lo ++ hyphen ∷ hi ++ close_parenthesis ∷ blanks) → control
+      ≡ Reserve space low high
       → Says word inside control
   -- ORDER(class, s, t)
   Orders : {text name list : List ℕ} {class : Class} {segments : List (List ℕ)} → word ≡ codes "ORDER"
@@ -85,7 +86,7 @@ pub data Says (word inside : List ℕ) (control : Control) : Type 0 where
 
 -- The line writes the control: a word in either case, blanks, and a text in parentheses; nothing is before or after
 -- them.
-pub record Writes (line : List ℕ) (control : Control) : Type 0 where
+pub record SpellsLine (line : List ℕ) (control : Control) : Type 0 where
   pub short : length line ≤ MOST_LINE_BYTES
   pub part : List ℕ
   pub word : List ℕ
@@ -93,5 +94,5 @@ pub record Writes (line : List ℕ) (control : Control) : Type 0 where
   pub inside : List ℕ
   pub is_word : name_of part ≡ Some word
   pub blank : AreBlanks blanks
-  pub is : line ≡ part ++ blanks ++ opening ∷ (inside ++ closing ∷ [])
+  pub is : line ≡ part ++ blanks ++ open_parenthesis ∷ (inside ++ close_parenthesis ∷ [])
   pub says : Says word inside control

@@ -6,7 +6,7 @@ ghost use Rattle.m51_control.specs.Parts.{is_sign};
 ghost use Rattle.m51_control.specs.Grammar.{add, cut, overlay, no_overlay, class_named, ordered_of, order, by_word};
 ghost use Rattle.m51_control.specs.Grammar.{call_of, control_of};
 
-use crate::naming::{Role, named, names_in};
+use crate::naming::{Role, names_in, trimmed_name};
 use crate::parts::{before_blanks, before_last, cut_at, word_in};
 use crate::reserving::reserve;
 use crate::{Class, Control};
@@ -28,7 +28,7 @@ fn add(alloc: Global, inside: &[u8]) -> Result<Option<Control>, NoMemory>
     let Some((from, to)) = cut_at(b'>', inside) else {
         return Ok(None);
     };
-    let Some(from) = named(Role::Unit, from) else {
+    let Some(from) = trimmed_name(Role::Unit, from) else {
         return Ok(None);
     };
     match names_in(alloc, Role::Unit, to)? {
@@ -45,7 +45,7 @@ fn cut(alloc: Global, inside: &[u8]) -> Result<Option<Control>, NoMemory>
     let Some((from, to)) = cut_at(b'~', inside) else {
         return Ok(None);
     };
-    let Some(from) = named(Role::Unit, from) else {
+    let Some(from) = trimmed_name(Role::Unit, from) else {
         return Ok(None);
     };
     match names_in(alloc, Role::Unit, to)? {
@@ -70,7 +70,7 @@ fn overlay(alloc: Global, inside: &[u8]) -> Result<Option<Control>, NoMemory>
 fn no_overlay(inside: &[u8]) -> Option<Control>
     ensures { result ≡ no_overlay inside.now }
 {
-    Some(Control::NoOverlay(named(Role::Unit, inside)?))
+    Some(Control::NoOverlay(trimmed_name(Role::Unit, inside)?))
 }
 
 // The class that a word names.

@@ -1,8 +1,8 @@
 //! How control lines name units and segments.
 ghost use Rattle.std.specs.Prelude.{◌≡◌, IfOk, option_map};
-ghost use Rattle.m51_control.specs.Naming.{hex4_value, title_of, unit_of, name_as, named, names_in};
+ghost use Rattle.m51_control.specs.Naming.{hex4_value, absolute_title, unit_of, name_as, trimmed_name, names_in};
 
-use crate::parts::{cut_at, part_of};
+use crate::parts::{cut_at, single_part};
 use m51_cells::{Name, Names, NoMemory, digit_value};
 use std::alloc::Global;
 
@@ -27,8 +27,8 @@ fn hex4_value(a: u8, b: u8, c: u8, d: u8) -> Option<u16>
 }
 
 // The title of an absolute segment that a text writes.
-fn title_of(text: &[u8]) -> Option<Name>
-    ensures { result ≡ title_of text.now }
+fn absolute_title(text: &[u8]) -> Option<Name>
+    ensures { result ≡ absolute_title text.now }
 {
     match text {
         [b'@', a, b, c, d] => Some(Name::at(hex4_value(*a, *b, *c, *d)?)),
@@ -42,7 +42,7 @@ fn unit_of(part: &[u8]) -> Option<Name>
 {
     match part {
         [] => None,
-        [b'@', ..] => title_of(part),
+        [b'@', ..] => absolute_title(part),
         _ => Name::of(part),
     }
 }
@@ -58,10 +58,10 @@ fn name_as(role: Role, part: &[u8]) -> Option<Name>
 }
 
 // The name of a text, with blanks before and after it.
-pub(crate) fn named(role: Role, text: &[u8]) -> Option<Name>
-    ensures { result ≡ named role text.now }
+pub(crate) fn trimmed_name(role: Role, text: &[u8]) -> Option<Name>
+    ensures { result ≡ trimmed_name role text.now }
 {
-    name_as(role, part_of(text)?)
+    name_as(role, single_part(text)?)
 }
 
 // One or more names, with commas between them, if the text is that.
@@ -71,13 +71,13 @@ pub(crate) fn names_in(alloc: Global, role: Role, text: &[u8]) -> Result<Option<
     let mut names = Vec::new(alloc);
     let mut rest = text;
     while let Some((first, after)) = cut_at(b',', rest) {
-        match named(role, first) {
+        match trimmed_name(role, first) {
             Some(name) => names.push(name)?,
             None => return Ok(None),
         }
         rest = after;
     }
-    match named(role, rest) {
+    match trimmed_name(role, rest) {
         Some(name) => names.push(name)?,
         None => return Ok(None),
     }

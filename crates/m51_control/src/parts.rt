@@ -2,7 +2,7 @@
 ghost use Rattle.std.specs.Prelude.{◌≡◌, ◌≤◌, ◌<◌, IfSome, MatchOption, length, option_map};
 ghost use Rattle.std.specs.List.{position_or_len};
 ghost use Rattle.m51_control.specs.Parts.{IsOnePart, SplitsInto, is_sign, cut_at, before_last, before_blanks};
-ghost use Rattle.m51_control.specs.Parts.{part_of, word_in};
+ghost use Rattle.m51_control.specs.Parts.{single_part, word_in};
 
 use m51_cells::{Name, are_blanks, blank_len, part_len};
 
@@ -20,9 +20,9 @@ pub(crate) fn cut_at(sign: u8, text: &[u8]) -> Option<(&[u8], &[u8])>
     ensures parts { MatchOption result (IsOnePart sign text.now) (λ cut. SplitsInto sign text.now cut.0.now cut.1.now) }
     ensures shorter { IfSome result (λ cut. length cut.1.now < length text.now) }
 {
-    let place = sign_place(sign, text);
-    if place < text.len() {
-        Some((&text[..place], &text[place + 1..]))
+    let position = sign_place(sign, text);
+    if position < text.len() {
+        Some((&text[..position], &text[position + 1..]))
     } else {
         None
     }
@@ -53,8 +53,8 @@ pub(crate) fn before_blanks(text: &[u8]) -> Option<&[u8]>
 }
 
 // The one part of a text, with blanks before and after it.
-pub(crate) fn part_of(text: &[u8]) -> Option<&[u8]>
-    ensures { option_map (λ part. part.now) result ≡ part_of text.now }
+pub(crate) fn single_part(text: &[u8]) -> Option<&[u8]>
+    ensures { option_map (λ part. part.now) result ≡ single_part text.now }
 {
     before_blanks(&text[blank_len(text)..])
 }
@@ -63,5 +63,5 @@ pub(crate) fn part_of(text: &[u8]) -> Option<&[u8]>
 pub(crate) fn word_in(text: &[u8]) -> Option<Name>
     ensures { result ≡ word_in text.now }
 {
-    Name::of(part_of(text)?)
+    Name::of(single_part(text)?)
 }

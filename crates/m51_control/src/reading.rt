@@ -5,8 +5,8 @@ ghost use Rattle.m51_cells.specs.declared.limits.TheConstants.{MOST_CONTROL_LINE
 ghost use Rattle.m51_cells.specs.Outcome.{Gives};
 ghost use Rattle.m51_control.specs.declared.control.Control.{Control};
 ghost use Rattle.m51_control.specs.Grammar.{control_of};
-ghost use Rattle.m51_control.specs.Written.{Writes};
-ghost use Rattle.m51_control.specs.Controls.{read_from, controls_of, refusal_of};
+ghost use Rattle.m51_control.specs.Written.{SpellsLine};
+ghost use Rattle.m51_control.specs.Controls.{controls_from, controls_of, control_refusal};
 
 use crate::controls::Controls;
 use crate::error::ControlError;
@@ -17,7 +17,7 @@ use std::alloc::Global;
 // The controls of at most 1,000 lines.
 fn read_lines(alloc: Global, bytes: &[u8]) -> Result<Controls, ControlError>
     requires { length (lines bytes.now) ≤ MOST_CONTROL_LINES }
-    ensures { Gives (λ controls. controls) refusal_of result (read_from 1 (lines bytes.now)) }
+    ensures { Gives (λ controls. controls) control_refusal result (controls_from 1 (lines bytes.now)) }
 {
     let mut controls = Vec::new(alloc);
     let mut rest = bytes;
@@ -45,9 +45,9 @@ fn read_lines(alloc: Global, bytes: &[u8]) -> Result<Controls, ControlError>
 /// Source: own choice ("Control lines").
 pub fn read_controls(alloc: Global, bytes: &[u8]) -> Result<Controls, ControlError>
     // The controls of the lines, or which refusal it is.
-    ensures gives { Gives (λ controls. controls) refusal_of result (controls_of bytes.now) }
+    ensures gives { Gives (λ controls. controls) control_refusal result (controls_of bytes.now) }
     // A line is read as a control exactly if it writes that control.
-    ensures grammar { (line : List ℕ) (control : Control) → (control_of line ≡ Some control) ↔ Writes line control }
+    ensures grammar { (line : List ℕ) (control : Control) → (control_of line ≡ Some control) ↔ SpellsLine line control }
 {
     if line_count(bytes) > MOST_CONTROL_LINES {
         return Err(ControlError::Limit);

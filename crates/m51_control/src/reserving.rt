@@ -3,11 +3,12 @@ ghost use Rattle.std.specs.Prelude.{◌≡◌, Ok, IfOk, IfSome, IsTrue, option_
 ghost use Rattle.std.specs.Char.{is_ascii_alphanumeric};
 ghost use Rattle.std.specs.List.{list_all};
 ghost use Rattle.m51_control.specs.Controls.{IsAllowed};
-ghost use Rattle.m51_control.specs.Reserve.{number_of_tokens, number_of, number_in, bounds_of, space_of, is_range};
-ghost use Rattle.m51_control.specs.Reserve.{IsRange, reserve_of, closed, memory_of, reserve};
+ghost use Rattle.m51_control.specs.Reserve.{number_of_tokens, assembler_number, trimmed_number, bounds_of, space_of};
+ghost use Rattle.m51_control.specs.Reserve.{is_range};
+ghost use Rattle.m51_control.specs.Reserve.{IsRange, reserve_of, until_closing, reserved_memory, reserve};
 
 use crate::Control;
-use crate::parts::{cut_at, part_of, word_in};
+use crate::parts::{cut_at, single_part, word_in};
 use m51_cells::{NoMemory, Space, are_blanks};
 use m51_lex::{LexError, Token, What, tokens};
 use std::alloc::Global;
@@ -20,8 +21,8 @@ fn is_run(text: &[u8]) -> bool
 }
 
 // The number that a run of letters and digits writes in the assembler's language.
-fn number_of(alloc: Global, run: &[u8]) -> Result<Option<u16>, NoMemory>
-    ensures { IfOk result (λ number. number ≡ number_of run.now) }
+fn assembler_number(alloc: Global, run: &[u8]) -> Result<Option<u16>, NoMemory>
+    ensures { IfOk result (λ number. number ≡ assembler_number run.now) }
 {
     if !is_run(run) {
         return Ok(None);
@@ -52,11 +53,11 @@ fn number_of_tokens(tokens: &[Token]) -> Option<u16>
 }
 
 // The number of a text, with blanks before and after it.
-fn number_in(alloc: Global, text: &[u8]) -> Result<Option<u16>, NoMemory>
-    ensures { IfOk result (λ number. number ≡ number_in text.now) }
+fn trimmed_number(alloc: Global, text: &[u8]) -> Result<Option<u16>, NoMemory>
+    ensures { IfOk result (λ number. number ≡ trimmed_number text.now) }
 {
-    match part_of(text) {
-        Some(part) => number_of(alloc, part),
+    match single_part(text) {
+        Some(part) => assembler_number(alloc, part),
         None => Ok(None),
     }
 }
@@ -68,10 +69,10 @@ fn bounds_of(alloc: Global, text: &[u8]) -> Result<Option<(u16, u16)>, NoMemory>
     let Some((low, high)) = cut_at(b'-', text) else {
         return Ok(None);
     };
-    let Some(low) = number_in(alloc, low)? else {
+    let Some(low) = trimmed_number(alloc, low)? else {
         return Ok(None);
     };
-    let Some(high) = number_in(alloc, high)? else {
+    let Some(high) = trimmed_number(alloc, high)? else {
         return Ok(None);
     };
     Ok(Some((low, high)))
@@ -119,8 +120,8 @@ fn reserve_of(space: Space, low: u16, high: u16) -> Option<Control>
 }
 
 // The text in parentheses, from after the opening one; only blanks follow the closing one.
-fn closed(text: &[u8]) -> Option<&[u8]>
-    ensures { option_map (λ inside. inside.now) result ≡ closed text.now }
+fn until_closing(text: &[u8]) -> Option<&[u8]>
+    ensures { option_map (λ inside. inside.now) result ≡ until_closing text.now }
 {
     let (inside, after) = cut_at(b')', text)?;
     if are_blanks(after) {
@@ -131,13 +132,13 @@ fn closed(text: &[u8]) -> Option<&[u8]>
 }
 
 // The memory of a reserve, and the text in its parentheses.
-fn memory_of(text: &[u8]) -> Option<(Space, &[u8])>
-    ensures { option_map (λ m. (m.0, m.1.now)) result ≡ memory_of text.now }
+fn reserved_memory(text: &[u8]) -> Option<(Space, &[u8])>
+    ensures { option_map (λ m. (m.0, m.1.now)) result ≡ reserved_memory text.now }
 {
     let (before, after) = cut_at(b'(', text)?;
     let word = word_in(before)?;
     let space = space_of(word.bytes())?;
-    Some((space, closed(after)?))
+    Some((space, until_closing(after)?))
 }
 
 // The reserve that a text writes: the memory, and in parentheses the first and the last address.
@@ -145,7 +146,7 @@ pub(crate) fn reserve(alloc: Global, text: &[u8]) -> Result<Option<Control>, NoM
     ensures control { IfOk result (λ control. control ≡ reserve text.now) }
     ensures allowed { IfOk result (λ control. IfSome control IsAllowed) }
 {
-    let Some((space, inside)) = memory_of(text) else {
+    let Some((space, inside)) = reserved_memory(text) else {
         return Ok(None);
     };
     let Some((low, high)) = bounds_of(alloc, inside)? else {

@@ -9,7 +9,7 @@ use Rattle.m51_isa.specs.declared.slot.Field.TheVariants.{Addr11, Data, Rel}
 use Rattle.m51_isa.specs.declared.slot.FieldSlot.{FieldSlot}
 use Rattle.m51_isa.specs.Spelling.{Text, field_in, text_of}
 use Rattle.m51_isa.specs.Targets.{near, relative, target_of}
-use Rattle.m51_disasm.specs.Statements.{address_by, address_in, address_of}
+use Rattle.m51_disasm.specs.Statements.{address_by, slot_address, address_of}
 
 sum_wraps : (next n : ℕ) → (next % 65536 + n) % 65536 ≡ (next + n) % 65536
 sum_wraps next n = omega arith
@@ -35,7 +35,7 @@ field_wraps next Addr11 address = ap (λ t. Some t) (near_wraps next address)
 field_wraps next Data number = refl
 field_wraps next other number = refl
 
-operand_wraps : (next : ℕ) (f : Option FieldSlot) → address_in (next % 65536) f ≡ address_in next f
+operand_wraps : (next : ℕ) (f : Option FieldSlot) → slot_address (next % 65536) f ≡ slot_address next f
 operand_wraps next None = refl
 operand_wraps next (Some f) = field_wraps next f.field f.number
 

@@ -16,7 +16,7 @@ use Rattle.m51_module.specs.Sound.{IsSound}
 use Rattle.m51_module.specs.declared.parts.LayoutParts.{LayoutParts}
 use Rattle.m51_module.specs.declared.placed.Placed.{Placed}
 use Rattle.m51_disasm.specs.declared.part.CodeRange.{CodeRange}
-use Rattle.m51_disasm.specs.Parts.{IsInside, has_bytes, part_of, units_of}
+use Rattle.m51_disasm.specs.Parts.{IsInside, has_bytes, placed_range, unit_ranges}
 
 -- if it has a byte, it ends in program memory
 abbrev EndsInside : CodeRange → Type 0
@@ -24,7 +24,7 @@ EndsInside part = 0 < part.size → part.base + part.size ≤ 65536
 
 -- so does a segment of program memory
 segment_ends : (l : LayoutParts) → IsSound l → (s : ℕ) (p : Placed) → IsPlaced l s p → IsCodeSegment p
-    → EndsInside (part_of (Some p))
+    → EndsInside (placed_range (Some p))
 segment_ends l sound s p placed code some =
     let inside = subst
     (λ k. (c : Cell) → Covers (extent_of k p.base p.size) c → c.at < cells_in (extent_of k p.base p.size).space)
@@ -35,16 +35,16 @@ segment_ends l sound s p placed code some =
     omega (arith, last)
 
 unit_ends : (l : LayoutParts) → IsSound l → (u s : ℕ) → slice_get l.units u ≡ Some s
-    → EndsInside (part_of (slice_get l.placed s))
+    → EndsInside (placed_range (slice_get l.placed s))
 unit_ends l sound u s is =
     let found = sound.is_code u s is in
-    subst (λ o. EndsInside (part_of o)) (sym found.1) (segment_ends l sound s found.0 found.1 found.2)
+    subst (λ o. EndsInside (placed_range o)) (sym found.1) (segment_ends l sound s found.0 found.1 found.2)
 
-pub all_inside : (l : LayoutParts) → IsSound l → All IsInside (units_of l)
+pub all_inside : (l : LayoutParts) → IsSound l → All IsInside (unit_ranges l)
 all_inside l sound =
-    let all : List CodeRange = map (λ index. part_of (slice_get l.placed index)) l.units in
+    let all : List CodeRange = map (λ index. placed_range (slice_get l.placed index)) l.units in
     let ends : All EndsInside all =
-    All-map EndsInside (λ index. part_of (slice_get l.placed index)) l.units
+    All-map EndsInside (λ index. placed_range (slice_get l.placed index)) l.units
     (λ k d below. unit_ends l sound k (get_or l.units k d)
     (slice_get_read l.units (length l.units) k (get_or l.units k d) refl below
     (get_or_default l.units k d (get_or l.units k d) below))) in

@@ -7,7 +7,7 @@ use Rattle.m51_disasm.specs.declared.line.SourceLine.{SourceLine}
 use Rattle.m51_disasm.specs.declared.part.CodeRange.{CodeRange}
 use Rattle.m51_disasm.specs.declared.statement.Statement.{Statement}
 use Rattle.m51_disasm.specs.Lines.{beginnings, line_of, statement_lines, targets}
-use Rattle.m51_disasm.specs.Statements.{length_in, statement_at, statements_from, statements_of, target_of}
+use Rattle.m51_disasm.specs.Statements.{length_in, statement_at, statements_from, statements_of, statement_target}
 use Rattle.m51_disasm.specs.Texts.{text_of_lines}
 
 -- bytes that are passed over only move the address
@@ -91,7 +91,7 @@ filter_after h g (x ∷ xs) = ap (cons_option (h (g x))) (filter_after h g xs)
 -- so their lines are those of the statements at their beginnings, and so are their targets
 pub lines_there : (image : List ℕ) (part : CodeRange) (begin led : List ℕ)
     → begin ≡ beginnings (statements_of image part)
-    → led ≡ filter_map (λ a. target_of (statement_at image (part.base + part.size) a)) begin
+    → led ≡ filter_map (λ a. statement_target (statement_at image (part.base + part.size) a)) begin
     → map (λ a. line_of begin led (statement_at image (part.base + part.size) a)) begin
     ≡ statement_lines (statements_of image part)
 lines_there image part begin led is to =
@@ -100,7 +100,7 @@ lines_there image part begin led is to =
     let same : map (statement_at image end) begin ≡ all =
     ap (map (statement_at image end)) is ∙ again image end 0 part.base part.size in
     let found : led ≡ targets all =
-    to ∙ sym (filter_after target_of (statement_at image end) begin) ∙ ap (filter_map target_of) same in
+    to ∙ sym (filter_after statement_target (statement_at image end) begin) ∙ ap (filter_map statement_target) same in
     sym (map_after (line_of begin led) (statement_at image end) begin)
     ∙ ap (map (line_of begin led)) same
     ∙ ap (λ b. map (line_of b led) all) is
@@ -110,12 +110,12 @@ lines_there image part begin led is to =
 pub same_lines : {T E : Type 0} (r : Result T E) (image text : List ℕ) (part : CodeRange) (end : ℕ)
     (begin led found at after : List ℕ)
     → end ≡ part.base + part.size → begin ≡ beginnings (statements_of image part) → found ≡ begin
-    → led ≡ filter_map (λ a. target_of (statement_at image end a)) found → at ≡ begin
+    → led ≡ filter_map (λ a. statement_target (statement_at image end a)) found → at ≡ begin
     → OnOk r (after ≡ text ++ text_of_lines (map (λ a. line_of begin led (statement_at image end a)) at))
     → OnOk r (after ≡ text ++ text_of_lines (statement_lines (statements_of image part)))
 same_lines (Ok u) image text part end begin led found at after ends is same to there h =
     let line : ℕ → ℕ → SourceLine = λ n a. line_of begin led (statement_at image n a) in
-    let leads : ℕ → ℕ → Option ℕ = λ n a. target_of (statement_at image n a) in
+    let leads : ℕ → ℕ → Option ℕ = λ n a. statement_target (statement_at image n a) in
     let targets_there : led ≡ filter_map (leads (part.base + part.size)) begin =
     to ∙ ap (filter_map (leads end)) same ∙ ap (λ n. filter_map (leads n) begin) ends in
     h ∙ ap (λ l. text ++ text_of_lines (map (line end) l)) there

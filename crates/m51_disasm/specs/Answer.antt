@@ -9,13 +9,13 @@ use Rattle.m51_disasm.specs.declared.error.DisError.TheVariants.{Limit, Memory}
 use Rattle.m51_disasm.specs.declared.line.SourceLine.{SourceLine}
 use Rattle.m51_disasm.specs.declared.part.CodeRange.{CodeRange}
 use Rattle.m51_disasm.specs.Lines.{lines_of}
-use Rattle.m51_disasm.specs.Parts.{parts_of}
+use Rattle.m51_disasm.specs.Parts.{code_ranges}
 use Rattle.m51_disasm.specs.Texts.{text_of_lines}
 
 -- what the limit is of; out of memory is no refusal
-abbrev pub refusal_of : DisError → Option Quantity
-refusal_of (Limit what) = Some what
-refusal_of Memory = None
+abbrev pub exceeded_quantity : DisError → Option Quantity
+exceeded_quantity (Limit what) = Some what
+exceeded_quantity Memory = None
 
 -- the text of lines, of which an assembler takes 65,535
 unfoldable pub text_within : List SourceLine → Result (List ℕ) Quantity
@@ -28,4 +28,4 @@ text_by image parts =
 
 -- the text of a layout and its image, or the limit that it passes
 unfoldable pub disassembled : LayoutParts → List ℕ → Result (List ℕ) Quantity
-disassembled l image = text_by image (parts_of l)
+disassembled l image = text_by image (code_ranges l)

@@ -7,7 +7,7 @@ use Rattle.m51_disasm.specs.declared.line.Target.{Target}
 use Rattle.m51_disasm.specs.declared.line.Target.TheVariants.{Nowhere, Label, Number}
 use Rattle.m51_disasm.specs.declared.part.CodeRange.{CodeRange}
 use Rattle.m51_disasm.specs.declared.statement.Statement.{Statement}
-use Rattle.m51_disasm.specs.Statements.{statements_of, target_of}
+use Rattle.m51_disasm.specs.Statements.{statements_of, statement_target}
 
 -- the address is one of these
 abbrev pub is_among : List ℕ → ℕ → Bool
@@ -18,7 +18,7 @@ abbrev pub beginnings : List Statement → List ℕ
 beginnings statements = map (λ s. s.at) statements
 
 abbrev pub targets : List Statement → List ℕ
-targets statements = filter_map target_of statements
+targets statements = filter_map statement_target statements
 
 -- a target is written as a label where a statement of the same unit begins there, and else as a number
 abbrev pub written_target : List ℕ → Option ℕ → Target
@@ -34,7 +34,7 @@ abbrev pub line_of : List ℕ → List ℕ → Statement → SourceLine
 line_of begin led s = line.Statement (record {
   label = label_at led s.at;
   content = s.content;
-  target = written_target begin (target_of s);
+  target = written_target begin (statement_target s);
 })
 
 -- the lines of the statements of one unit

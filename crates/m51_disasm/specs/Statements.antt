@@ -16,8 +16,8 @@ use Rattle.m51_disasm.specs.declared.statement.Content.TheVariants.{Byte, Code}
 use Rattle.m51_disasm.specs.declared.statement.Statement.{Statement}
 
 -- the instruction that begins at an address; past the end of the image the bytes are 0
-unfoldable pub instr_at : List ℕ → ℕ → Option Instr
-instr_at image at = decoded_at (slice_index image at) (slice_index image (at + 1)) (slice_index image (at + 2))
+unfoldable pub instr_in_image : List ℕ → ℕ → Option Instr
+instr_in_image image at = decoded_at (slice_index image at) (slice_index image (at + 1)) (slice_index image (at + 2))
 
 -- The sum of the next address and a rel, which is a signed byte, computed without wrapping, is an address of program
 -- memory.
@@ -52,7 +52,7 @@ content_of end at byte (Some instr) = if can_stand end at instr then Code instr 
 -- the statement at an address of a unit with this end
 unfoldable pub statement_at : List ℕ → ℕ → ℕ → Statement
 statement_at image end at =
-    record { at = at; content = content_of end at (slice_index image at) (instr_at image at) }
+    record { at = at; content = content_of end at (slice_index image at) (instr_in_image image at) }
 
 -- how many bytes it has
 abbrev pub length_in : Content → ℕ
@@ -78,19 +78,19 @@ address_by next Addr11 address = Some (near next address % 65536)
 address_by next Addr16 address = Some address
 address_by next other number = None
 
-abbrev pub address_in : ℕ → Option FieldSlot → Option ℕ
-address_in next None = None
-address_in next (Some f) = address_by next f.field f.number
+abbrev pub slot_address : ℕ → Option FieldSlot → Option ℕ
+slot_address next None = None
+slot_address next (Some f) = address_by next f.field f.number
 
 abbrev pub address_of : ℕ → Text → Option ℕ
 address_of next t =
-    option_or (address_in next (field_in t.first))
-    (option_or (address_in next (field_in t.second)) (address_in next (field_in t.third)))
+    option_or (slot_address next (field_in t.first))
+    (option_or (slot_address next (field_in t.second)) (slot_address next (field_in t.third)))
 
 -- the target of a statement; a byte has none
 abbrev pub target_by : ℕ → Content → Option ℕ
 target_by at (Byte byte) = None
 target_by at (Code instr) = address_of (at + length_of instr) (text_of instr)
 
-unfoldable pub target_of : Statement → Option ℕ
-target_of s = target_by s.at s.content
+unfoldable pub statement_target : Statement → Option ℕ
+statement_target s = target_by s.at s.content

@@ -68,15 +68,15 @@ operand_text target (Plain f) = plain_text target f.field f.number
 operand_text target (NotBit f) = codes "/" ++ short_text f.number
 
 -- an operand after the blank or the comma before it
-unfoldable pub after : List ℕ → Target → Slot → List ℕ
-after sign target Nothing = []
-after sign target slot = sign ++ operand_text target slot
+unfoldable pub operand_after : List ℕ → Target → Slot → List ℕ
+operand_after sign target Nothing = []
+operand_after sign target slot = sign ++ operand_text target slot
 
 -- an instruction: its mnemonic, a blank where it has operands, and its operands with commas between them
 unfoldable pub spelled : Target → Text → List ℕ
 spelled target t =
-    t.mnemonic ++ after (codes " ") target t.first ++ after (codes ",") target t.second
-    ++ after (codes ",") target t.third
+    t.mnemonic ++ operand_after (codes " ") target t.first ++ operand_after (codes ",") target t.second
+    ++ operand_after (codes ",") target t.third
 
 -- what a statement says
 unfoldable pub content_text : Target → Content → List ℕ

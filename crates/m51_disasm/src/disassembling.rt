@@ -1,14 +1,14 @@
 //! The text of a layout and its image.
 ghost use Rattle.std.specs.Prelude.{◌≡◌, ◌≤◌, length, All};
 ghost use Rattle.m51_cells.specs.Outcome.{Gives};
-ghost use Rattle.m51_disasm.specs.Answer.{refusal_of, text_within, text_by, disassembled};
+ghost use Rattle.m51_disasm.specs.Answer.{exceeded_quantity, text_within, text_by, disassembled};
 ghost use Rattle.m51_disasm.specs.Lines.{lines_of};
 ghost use Rattle.m51_disasm.specs.Parts.{IsInside};
 
 use crate::error::DisError;
 use crate::listing::{line_count, text_of};
 use crate::part::CodeRange;
-use crate::parting::parts_of;
+use crate::parting::code_ranges;
 use m51_cells::{MOST_MODULE_SEGMENTS, MOST_SOURCE_LINES};
 use m51_module::{Image, Layout, Quantity};
 use std::alloc::Global;
@@ -19,7 +19,7 @@ fn text_within(alloc: Global, image: &[u8], parts: &[CodeRange]) -> Result<Vec<u
     requires whole { length image.now ≡ 65536 }
     requires inside { All IsInside parts.now }
     requires few { length parts.now ≤ 254 }
-    ensures { Gives (λ text. text.items) refusal_of result (text_within (lines_of image.now parts.now)) }
+    ensures { Gives (λ text. text.items) exceeded_quantity result (text_within (lines_of image.now parts.now)) }
 {
     if line_count(alloc, image, parts)? > MOST_SOURCE_LINES {
         return Err(DisError::Limit {
@@ -34,7 +34,7 @@ fn text_within(alloc: Global, image: &[u8], parts: &[CodeRange]) -> Result<Vec<u
 fn text_by(alloc: Global, image: &[u8], parts: &[CodeRange]) -> Result<Vec<u8>, DisError>
     requires whole { length image.now ≡ 65536 }
     requires inside { All IsInside parts.now }
-    ensures { Gives (λ text. text.items) refusal_of result (text_by image.now parts.now) }
+    ensures { Gives (λ text. text.items) exceeded_quantity result (text_by image.now parts.now) }
 {
     if parts.len() > MOST_MODULE_SEGMENTS {
         return Err(DisError::Limit {
@@ -54,8 +54,8 @@ fn text_by(alloc: Global, image: &[u8], parts: &[CodeRange]) -> Result<Vec<u8>, 
 /// Source: own choice ("Disassembly").
 #[tactic(auto, unfolding(crate::specs::Answer::disassembled))]
 pub fn disassemble(alloc: Global, layout: &Layout, image: &Image) -> Result<Vec<u8>, DisError>
-    ensures { Gives (λ text. text.items) refusal_of result (disassembled layout.now image.now) }
+    ensures { Gives (λ text. text.items) exceeded_quantity result (disassembled layout.now image.now) }
 {
-    let parts = parts_of(alloc, layout)?;
+    let parts = code_ranges(alloc, layout)?;
     text_by(alloc, image.bytes(), &parts)
 }

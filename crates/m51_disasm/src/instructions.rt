@@ -3,9 +3,9 @@ ghost use Rattle.std.specs.Prelude.{◌≡◌, ◌<◌, ◌≤◌, ◌+◌, ◌%
 ghost use Rattle.m51_isa.specs.Table.{length_of};
 ghost use Rattle.m51_isa.specs.Targets.{target_of as target_by_row};
 ghost use Rattle.m51_isa.specs.Spelling.{text_in, text_of, field_in};
-ghost use Rattle.m51_disasm.specs.Statements.{instr_at, ends_inside, leads_inside};
+ghost use Rattle.m51_disasm.specs.Statements.{instr_in_image, ends_inside, leads_inside};
 ghost use Rattle.m51_disasm.specs.Statements.{stays_inside, all_inside, can_stand};
-ghost use Rattle.m51_disasm.specs.Statements.{target_of};
+ghost use Rattle.m51_disasm.specs.Statements.{statement_target};
 
 use crate::statement::{Content, Statement};
 use m51_isa::{
@@ -24,9 +24,9 @@ fn byte_at(image: &[u8], at: usize) -> u8
 }
 
 /// The instruction that begins at the address.
-#[tactic(auto, unfolding(crate::specs::Statements::instr_at))]
-pub(crate) fn instr_at(image: &[u8], at: u16) -> Option<Instr>
-    ensures { result ≡ instr_at image.now at }
+#[tactic(auto, unfolding(crate::specs::Statements::instr_in_image))]
+pub(crate) fn instr_in_image(image: &[u8], at: u16) -> Option<Instr>
+    ensures { result ≡ instr_in_image image.now at }
 {
     let at = usize::from(at);
     decode([
@@ -117,9 +117,9 @@ fn target_after(instr: &Instr, next: u16) -> Option<u16>
 }
 
 /// The target of a statement; a byte has none.
-#[tactic(auto, unfolding(crate::specs::Statements::target_of))]
-pub(crate) fn target_of(statement: &Statement) -> Option<u16>
-    ensures { result ≡ target_of statement.now }
+#[tactic(auto, unfolding(crate::specs::Statements::statement_target))]
+pub(crate) fn statement_target(statement: &Statement) -> Option<u16>
+    ensures { result ≡ statement_target statement.now }
 {
     match &statement.content {
         Content::Byte(_) => None,

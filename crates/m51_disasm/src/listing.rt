@@ -4,11 +4,11 @@ ghost use Rattle.std.specs.List.{filter_map};
 ghost use Rattle.m51_disasm.specs.Lines.{beginnings, targets, is_among, written_target, label_at, line_of};
 ghost use Rattle.m51_disasm.specs.Lines.{statement_lines, part_lines, lines_of};
 ghost use Rattle.m51_disasm.specs.Parts.{IsInside};
-ghost use Rattle.m51_disasm.specs.Statements.{statement_at, statements_of, target_of};
+ghost use Rattle.m51_disasm.specs.Statements.{statement_at, statements_of, statement_target};
 ghost use Rattle.m51_disasm.specs.Texts.{text_of_lines};
 
 use crate::address_set::AddressSet;
-use crate::instructions::target_of;
+use crate::instructions::statement_target;
 use crate::line::{SourceLine, StatementLine, Target};
 use crate::part::CodeRange;
 use crate::statement::Statement;
@@ -20,7 +20,8 @@ use std::alloc::{AllocError, Global};
 // Where the statements at these addresses lead.
 fn targets_of(alloc: Global, image: &[u8], end: u32, at: &[u16]) -> Result<Vec<u16>, AllocError>
     requires { length image.now ≡ 65536 }
-    ensures { IfOk result (λ found. found.items ≡ filter_map (λ a. target_of (statement_at image.now end a)) at.now) }
+    ensures { IfOk result
+        (λ found. found.items ≡ filter_map (λ a. statement_target (statement_at image.now end a)) at.now) }
 {
     at.iter()
         .filter_map(|a| target_at(image, end, *a))
@@ -56,7 +57,7 @@ fn line_of(begins: &AddressSet, led: &AddressSet, statement: &Statement) -> Sour
     SourceLine::Statement(StatementLine {
         label: label_at(led, statement.at),
         content: statement.content,
-        target: written_target(begins, target_of(statement)),
+        target: written_target(begins, statement_target(statement)),
     })
 }
 

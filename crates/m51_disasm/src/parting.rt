@@ -1,6 +1,6 @@
 //! The parts of a layout.
 ghost use Rattle.std.specs.Prelude.{◌≡◌, IfOk, OnOk, All, slice_get};
-ghost use Rattle.m51_disasm.specs.Parts.{part_of, units_of, parts_below, parts_of, IsInside};
+ghost use Rattle.m51_disasm.specs.Parts.{placed_range, unit_ranges, parts_below, code_ranges, IsInside};
 
 use crate::part::CodeRange;
 use m51_cells::NoMemory;
@@ -9,7 +9,7 @@ use std::alloc::{AllocError, Global};
 
 // Base and size of a placed extent, by its index.
 fn part_at(placed: &[Placed], index: u16) -> CodeRange
-    ensures { result ≡ part_of (slice_get placed.now index) }
+    ensures { result ≡ placed_range (slice_get placed.now index) }
 {
     match placed.get(usize::from(index)) {
         None => CodeRange { base: 0, size: 0 },
@@ -21,8 +21,8 @@ fn part_at(placed: &[Placed], index: u16) -> CodeRange
 }
 
 // The units of one byte or more, in the order of the layout.
-fn units_of(alloc: Global, layout: &Layout) -> Result<Vec<CodeRange>, AllocError>
-    ensures { IfOk result (λ units. units.items ≡ units_of layout.now) }
+fn unit_ranges(alloc: Global, layout: &Layout) -> Result<Vec<CodeRange>, AllocError>
+    ensures { IfOk result (λ units. units.items ≡ unit_ranges layout.now) }
 {
     let placed = layout.placed();
     layout
@@ -36,11 +36,11 @@ fn units_of(alloc: Global, layout: &Layout) -> Result<Vec<CodeRange>, AllocError
 // The same, with their bytes in program memory.
 #[tactic(auto, using(crate::proofs::Placing::all_inside))]
 fn units_inside(alloc: Global, layout: &Layout) -> Result<Vec<CodeRange>, AllocError>
-    ensures units { IfOk result (λ units. units.items ≡ units_of layout.now) }
+    ensures units { IfOk result (λ units. units.items ≡ unit_ranges layout.now) }
     ensures inside { IfOk result (λ units. All IsInside units.items) }
 {
     let _ = layout.units();
-    units_of(alloc, layout)
+    unit_ranges(alloc, layout)
 }
 
 // Puts units into the order of their bases.
@@ -53,9 +53,9 @@ fn arrange(units: &mut Vec<CodeRange>) -> Result<(), AllocError>
 }
 
 /// The units of one byte or more, by ascending base.
-#[tactic(auto, unfolding(crate::specs::Parts::parts_of))]
-pub(crate) fn parts_of(alloc: Global, layout: &Layout) -> Result<Vec<CodeRange>, NoMemory>
-    ensures order { IfOk result (λ parts. parts.items ≡ parts_of layout.now) }
+#[tactic(auto, unfolding(crate::specs::Parts::code_ranges))]
+pub(crate) fn code_ranges(alloc: Global, layout: &Layout) -> Result<Vec<CodeRange>, NoMemory>
+    ensures order { IfOk result (λ parts. parts.items ≡ code_ranges layout.now) }
     ensures inside { IfOk result (λ parts. All IsInside parts.items) }
 {
     let mut parts = units_inside(alloc, layout)?;

@@ -2,9 +2,9 @@
 ghost use Rattle.std.specs.Prelude.{◌≡◌, ◌<◌, ◌≤◌, ◌+◌, IfOk, length, vec_len};
 ghost use Rattle.m51_disasm.specs.Lines.{beginnings};
 ghost use Rattle.m51_disasm.specs.Parts.{IsInside};
-ghost use Rattle.m51_disasm.specs.Statements.{content_of, length_in, statement_at, statements_of, target_of};
+ghost use Rattle.m51_disasm.specs.Statements.{content_of, length_in, statement_at, statements_of, statement_target};
 
-use crate::instructions::{can_stand, instr_at, length_of, target_of};
+use crate::instructions::{can_stand, instr_in_image, length_of, statement_target};
 use crate::part::CodeRange;
 use crate::statement::{Content, Statement};
 use m51_cells::NoMemory;
@@ -17,7 +17,7 @@ pub(crate) fn statement_at(image: &[u8], end: u32, at: u16) -> Statement
     ensures { result ≡ statement_at image.now end at }
 {
     let byte = image[usize::from(at)];
-    let content = match instr_at(image, at) {
+    let content = match instr_in_image(image, at) {
         Some(instr) if can_stand(end, at, &instr) => Content::Code(instr),
         _ => Content::Byte(byte),
     };
@@ -49,9 +49,9 @@ fn length_at(image: &[u8], end: u32, at: u16) -> u32
 /// The target of the statement at the address.
 pub(crate) fn target_at(image: &[u8], end: u32, at: u16) -> Option<u16>
     requires { at < length image.now }
-    ensures { result ≡ target_of (statement_at image.now end at) }
+    ensures { result ≡ statement_target (statement_at image.now end at) }
 {
-    target_of(&statement_at(image, end, at))
+    statement_target(&statement_at(image, end, at))
 }
 
 /// Where the statements of a part begin.

@@ -1,7 +1,7 @@
 //! How lines are written.
 ghost use Rattle.std.specs.Prelude.{◌≡◌, ◌++◌, ◌∷◌, [], OnOk};
 ghost use Rattle.m51_isa.specs.Spelling.{text_in};
-ghost use Rattle.m51_disasm.specs.Texts.{target_text, data_text, plain_text, operand_text, after, spelled};
+ghost use Rattle.m51_disasm.specs.Texts.{target_text, data_text, plain_text, operand_text, operand_after, spelled};
 ghost use Rattle.m51_disasm.specs.Texts.{content_text, label_front, statement_text, line_text, text_of_lines};
 
 use crate::line::{SourceLine, StatementLine, Target};
@@ -73,9 +73,9 @@ fn push_operand(text: &mut Vec<u8>, target: Target, slot: &Slot) -> Result<(), N
 }
 
 // An operand after a sign, if there is one.
-#[tactic(auto, unfolding(crate::specs::Texts::after))]
+#[tactic(auto, unfolding(crate::specs::Texts::operand_after))]
 fn push_after(text: &mut Vec<u8>, sign: &[u8], target: Target, slot: &Slot) -> Result<(), NoMemory>
-    ensures { OnOk result (text.new.items ≡ text.old.items ++ after sign.now target slot.now) }
+    ensures { OnOk result (text.new.items ≡ text.old.items ++ operand_after sign.now target slot.now) }
 {
     match slot {
         Slot::Nothing => Ok(()),

@@ -1,28 +1,18 @@
--- All lines of a disassembly give the bytes of the image at their places.
-use Rattle.std.proofs.Common.{◌≡◌, ℕ, suc, ◌+◌, List, [], ◌∷◌, ◌++◌, length, length-append, map, flat_map, append_assoc}
-use Rattle.std.proofs.Common.{Some, refl, sym, ap, ◌∙◌, subst, arith}
-use Rattle.std.specs.Prelude.{slice_get}
-use Rattle.std.specs.List.{AllByRecursion}
+-- All lines of a disassembly give the bytes of the image at their addresses.
+use Rattle.m51_disasm_proof.proofs.Common.{◌≡◌, ℕ, suc, ◌+◌, List, [], ◌∷◌, ◌++◌, length, length-append, map, flat_map}
+use Rattle.m51_disasm_proof.proofs.Common.{append_assoc, Some, refl, sym, ap, ◌∙◌, subst, arith, slice_get}
+use Rattle.m51_disasm_proof.proofs.Common.{AllByRecursion, Stands, LineTree, Assignment, body_at, Fits, SourceLine}
+use Rattle.m51_disasm_proof.proofs.Common.{CodeRange, Statement, beginnings, targets, line_of, IsInside, length_in}
+use Rattle.m51_disasm_proof.proofs.Common.{statements_of, meant, read_from, line_size, lines_before, AreBytes}
 use Rattle.std.proofs.lemmas.List.{length-map}
 use Rattle.std.proofs.lemmas.Grind.{flat_map-append}
-use Rattle.m51_encode.specs.declared.outcome.OperandOutcome.TheVariants.{Stands}
 use Rattle.m51_emit.specs.Content.{content_by}
-use Rattle.m51_text.specs.Answer.{LineTree}
-use Rattle.m51_asm.specs.Assignment.{Assignment, body_at}
 use Rattle.m51_asm.specs.ContentFaults.{line_outcomes_by, line_outcomes}
-use Rattle.m51_asm.specs.Fitting.{Fits}
 use Rattle.m51_asm.specs.ObjectMeanings.{final}
 use Rattle.m51_asm.specs.Pieces.{content_at}
-use Rattle.m51_disasm.specs.declared.line.SourceLine.{SourceLine}
 use Rattle.m51_disasm.specs.declared.line.SourceLine.TheVariants as line
-use Rattle.m51_disasm.specs.declared.part.CodeRange.{CodeRange}
-use Rattle.m51_disasm.specs.declared.statement.Statement.{Statement}
-use Rattle.m51_disasm.specs.Lines.{beginnings, targets, line_of, part_lines, lines_of}
-use Rattle.m51_disasm.specs.Parts.{IsInside}
-use Rattle.m51_disasm.specs.Statements.{length_in, statements_of}
-use Rattle.m51_disasm_proof.specs.Meaning.{meant, read_from}
-use Rattle.m51_disasm_proof.specs.Places.{place_after, line_size, lines_before}
-use Rattle.m51_disasm_proof.specs.Sound.{AreBytes}
+use Rattle.m51_disasm.specs.Lines.{part_lines, lines_of}
+use Rattle.m51_disasm_proof.specs.Places.{place_after}
 use Rattle.m51_disasm_proof.specs.Standing.{LineGives}
 use Rattle.m51_disasm_proof.proofs.LinesGive.{statement_line_gives}
 use Rattle.m51_disasm_proof.proofs.LinesStand.{Says, says_all}
@@ -30,11 +20,11 @@ use Rattle.m51_disasm_proof.proofs.PartLines.{rest_of, whole, whole_is}
 use Rattle.m51_disasm_proof.proofs.PartsInOrder.{AreInOrder}
 use Rattle.m51_disasm_proof.proofs.StatementsStand.{Follow, part_follows}
 
--- these lines, from line k on, which is at that place, give their bytes
+-- these lines, from line k on, which is at that address, give their bytes
 abbrev pub GiveFrom : List LineTree → Assignment → List ℕ → ℕ → ℕ → List SourceLine → Type 0
-GiveFrom lines a image k place [] = Unit {0}
-GiveFrom lines a image k place (l ∷ ls) =
-    LineGives lines a image k place (line_size l) × GiveFrom lines a image (suc k) (place_after place l) ls
+GiveFrom lines a image k address [] = Unit {0}
+GiveFrom lines a image k address (l ∷ ls) =
+    LineGives lines a image k address (line_size l) × GiveFrom lines a image (suc k) (place_after address l) ls
 
 pub gives_after : (lines : List LineTree) (a : Assignment) (image begin led : List ℕ) (statements : List Statement)
     (rest : List SourceLine) (k from to : ℕ) → Follow from statements to
@@ -53,19 +43,19 @@ abbrev IsBare : SourceLine → Type 0
 IsBare (line.Statement s) = ⊥
 IsBare l = Unit {0}
 
-bare_gives : (lines : List LineTree) (a : Assignment) (image : List ℕ) (k place : ℕ) (l : SourceLine) → IsBare l
-    → body_at lines k ≡ (meant l).body → LineGives lines a image k place (line_size l)
+bare_gives : (lines : List LineTree) (a : Assignment) (image : List ℕ) (k address : ℕ) (l : SourceLine) → IsBare l
+    → body_at lines k ≡ (meant l).body → LineGives lines a image k address (line_size l)
 unfolding content_at line_outcomes
-bare_gives lines a image k place line.Nomod51 bare is = record {
+bare_gives lines a image k address line.Nomod51 bare is = record {
   content = ap (content_by (final lines a k) (a.form k)) is;
   stand = subst (λ b. AllByRecursion (λ outcome. outcome ≡ Stands) (line_outcomes_by lines a k b)) (sym is) tt;
 }
-bare_gives lines a image k place (line.Segment base) bare is = record {
+bare_gives lines a image k address (line.Segment base) bare is = record {
   content = ap (content_by (final lines a k) (a.form k)) is;
   stand = subst (λ b. AllByRecursion (λ outcome. outcome ≡ Stands) (line_outcomes_by lines a k b)) (sym is) tt;
 }
-bare_gives lines a image k place (line.Statement s) bare is = absurd bare
-bare_gives lines a image k place line.End bare is = record {
+bare_gives lines a image k address (line.Statement s) bare is = absurd bare
+bare_gives lines a image k address line.End bare is = record {
   content = ap (content_by (final lines a k) (a.form k)) is;
   stand = subst (λ b. AllByRecursion (λ outcome. outcome ≡ Stands) (line_outcomes_by lines a k b)) (sym is) tt;
 }
@@ -133,12 +123,12 @@ module _ (image : List ℕ) (bytes : AreBytes image) (parts : List CodeRange) (i
   says_after (x ∷ xs) ys k is = let next : suc k + length xs ≡ k + suc (length xs) = omega arith in
       subst (λ n. Says lines n ys) next (says_after xs ys (suc k) is.1)
 
-  parts_give : (before after : List CodeRange) → parts ≡ before ++ after → (place : ℕ)
+  parts_give : (before after : List CodeRange) → parts ≡ before ++ after → (address : ℕ)
       → Says lines (lines_before image before) (rest_of image after)
-      → GiveFrom lines a image (lines_before image before) place (rest_of image after)
-  parts_give before [] is place says =
-      (bare_gives lines a image (lines_before image before) place line.End tt says.0, tt)
-  parts_give before (part ∷ after) is place says =
+      → GiveFrom lines a image (lines_before image before) address (rest_of image after)
+  parts_give before [] is address says =
+      (bare_gives lines a image (lines_before image before) address line.End tt says.0, tt)
+  parts_give before (part ∷ after) is address says =
       let statements : List Statement = statements_of image part in
       let begin = beginnings statements in
       let led = targets statements in
@@ -156,7 +146,7 @@ module _ (image : List ℕ) (bytes : AreBytes image) (parts : List CodeRange) (i
       after_says in
       let first : k + 1 ≡ suc k = omega arith in
       let there : lines_before image (before ++ part ∷ []) ≡ k + 1 + length statements = omega (arith, next) in (
-        bare_gives lines a image k place (line.Segment part.base) tt says.0,
+        bare_gives lines a image k address (line.Segment part.base) tt says.0,
         subst (λ n. GiveFrom lines a image n part.base (map (line_of begin led) statements ++ rest_of image after))
             first
             (statements_give before part after is statements 0 part.base (part.base + part.size)

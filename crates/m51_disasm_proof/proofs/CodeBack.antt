@@ -1,36 +1,26 @@
 -- A disassembled instruction is coded as the bytes that it was decoded from.
-use Rattle.std.proofs.Common.{◌≡◌, ℕ, ◌+◌, ◌%◌, Bool, true, false, not, ◌&&◌, ◌||◌, ◌==◌, cond, List, [], ◌∷◌, Option}
-use Rattle.std.proofs.Common.{Some, None, option_map, Ok, refl, sym, ap, ◌∙◌}
+use Rattle.m51_disasm_proof.proofs.Common.{◌≡◌, ℕ, ◌+◌, ◌%◌, Bool, true, false, not, ◌&&◌, ◌||◌, ◌==◌, cond, List, []}
+use Rattle.m51_disasm_proof.proofs.Common.{◌∷◌, Option, Some, None, option_map, Ok, refl, sym, ap, ◌∙◌, cons_option}
+use Rattle.m51_disasm_proof.proofs.Common.{option_or, and_parts, Instr, Jump, Slot, Nothing, Imm, Plain, NotBit}
+use Rattle.m51_disasm_proof.proofs.Common.{FieldSlot, Text, text_of, field_in, look_of, encoded, HasRoom, Meanings}
+use Rattle.m51_disasm_proof.proofs.Common.{Stands, Target, all_inside, operand_of, operands_of, IsSlot, AreSlots}
+use Rattle.m51_disasm_proof.proofs.Common.{StandsAt, IsNamed}
 use Rattle.std.specs.Prelude.{is_some, option_and_then}
-use Rattle.std.specs.List.{cons_option}
-use Rattle.std.specs.Option.{option_or}
-use Rattle.std.proofs.lemmas.Bool.{and_parts}
-use Rattle.m51_isa.specs.declared.instr.Instr.{Instr}
-use Rattle.m51_isa.specs.declared.generics.Jump.{Jump}
-use Rattle.m51_isa.specs.declared.slot.Slot.{Slot}
-use Rattle.m51_isa.specs.declared.slot.Slot.TheVariants.{Nothing, Imm, Plain, NotBit}
-use Rattle.m51_isa.specs.declared.slot.FieldSlot.{FieldSlot}
 use Rattle.m51_isa.specs.Filling.{with_numbers}
 use Rattle.m51_isa.specs.Search.{search, row_or}
-use Rattle.m51_isa.specs.Spelling.{Text, text, text_of, field_in, look_of}
-use Rattle.m51_isa.specs.Table.{encoded, code_of, length_of as row_length}
-use Rattle.m51_isa.specs.TextLaws.{number_in, numbered, refilled, HasRoom, HasNumbers}
+use Rattle.m51_isa.specs.Spelling.{text}
+use Rattle.m51_isa.specs.Table.{code_of, length_of as row_length}
+use Rattle.m51_isa.specs.TextLaws.{number_of_slot, slot_with_number, refilled, HasNumbers}
 use Rattle.m51_isa.proofs.RowsFilled.{texts_are_rows}
 use Rattle.m51_expr.specs.Operand.{OperandTree}
 use Rattle.m51_expr.specs.Tree.{Tree}
-use Rattle.m51_expr.specs.Meanings.{Meanings}
 use Rattle.m51_encode.specs.declared.coding.Coded.{Coded}
 use Rattle.m51_encode.specs.declared.reference.Reference.{Reference}
-use Rattle.m51_encode.specs.declared.outcome.OperandOutcome.TheVariants.{Stands}
 use Rattle.m51_encode.specs.JumpForm.{address_after}
 use Rattle.m51_encode.specs.Filling.{expression, filled_by, filled, references_of}
-use Rattle.m51_encode.specs.Coding.{Line, line, line_of, line_row, gathered, coded_by, coded_line, coded}
+use Rattle.m51_encode.specs.Coding.{Line, line, instruction_line, line_row, gathered, coded_by, coded_line, coded}
 use Rattle.m51_encode.specs.Coding.{three_outcomes, outcomes_by, outcomes_line, outcomes}
-use Rattle.m51_disasm.specs.declared.line.Target.{Target}
-use Rattle.m51_disasm.specs.Statements.{stays_inside, all_inside}
-use Rattle.m51_disasm_proof.specs.Meaning.{operand_of, operands_of}
-use Rattle.m51_disasm_proof.specs.Sound.{IsSlot, AreSlots}
-use Rattle.m51_disasm_proof.specs.Standing.{StandsAt, IsNamed}
+use Rattle.m51_disasm.specs.Statements.{stays_inside}
 use Rattle.m51_disasm_proof.proofs.InstructionsCut.{rows_in_order, instruction_read}
 use Rattle.m51_disasm_proof.proofs.OperandsCut.{is_there, slot_read}
 use Rattle.m51_disasm_proof.proofs.OperandsBack.{byte_in, held_in, IsLed, is_usual, rows_usual, slot_given}
@@ -45,7 +35,7 @@ there_or_none t s false there h = absurd (cc there)
 
 listed : (m : List ℕ) (form : Jump) (a b c : Option OperandTree)
     → ((is_some a || not (is_some b)) && (is_some b || not (is_some c))) ≡ true
-    → line_of m (cons_option a (cons_option b (cons_option c []))) form ≡ Some (line m form a b c)
+    → instruction_line m (cons_option a (cons_option b (cons_option c []))) form ≡ Some (line m form a b c)
 listed m form None None None h = refl
 listed m form (Some a) None None h = refl
 listed m form (Some a) (Some b) None h = refl
@@ -56,7 +46,7 @@ listed m form (Some a) None (Some c) h = absurd (cc h)
 
 -- so the operands of the line are those of the row
 line_is : (t : Target) (i : Instr) (form : Jump) → AreSlots t (text_of i)
-    → line_of (text_of i).mnemonic (operands_of t (text_of i)) form
+    → instruction_line (text_of i).mnemonic (operands_of t (text_of i)) form
     ≡ Some (line (text_of i).mnemonic form (operand_of t (text_of i).first) (operand_of t (text_of i).second)
     (operand_of t (text_of i).third))
 line_is t i form h =
@@ -91,7 +81,7 @@ by_operand names next m f (Some x) = by_expression names next m f (expression x)
 
 -- the number of the row's own operand does not matter
 same_filled : (names : Meanings) (next m : ℕ) (s : Slot) (o : Option OperandTree)
-    → filled names next (field_in (numbered s m)) o ≡ filled names next (field_in s) o
+    → filled names next (field_in (slot_with_number s m)) o ≡ filled names next (field_in s) o
 same_filled names next m (Imm f) o = by_operand names next m f o
 same_filled names next m (Plain f) o = by_operand names next m f o
 same_filled names next m (NotBit f) o = by_operand names next m f o
@@ -144,13 +134,13 @@ module _ (names : Meanings) (segment at : ℕ) (s : StandsAt names segment at) (
     (inside : all_inside (at + row_length i) (text_of i) ≡ true)
     (led : AreLed names segment at s (at + row_length i) t (text_of i)) (named : IsNamed names segment t) where
   abbrev n1 : ℕ
-  n1 = number_in (text_of i).first
+  n1 = number_of_slot (text_of i).first
 
   abbrev n2 : ℕ
-  n2 = number_in (text_of i).second
+  n2 = number_of_slot (text_of i).second
 
   abbrev n3 : ℕ
-  n3 = number_in (text_of i).third
+  n3 = number_of_slot (text_of i).third
 
   abbrev found : Option Instr
   found = search (text_of i).mnemonic (look_of (text_of i).first) (look_of (text_of i).second)
@@ -168,7 +158,7 @@ module _ (names : Meanings) (segment at : ℕ) (s : StandsAt names segment at) (
   row_is_found =
       let read = instruction_read t i h in
       sym (ap (option_and_then line_row) (line_is t i form h))
-      ∙ ap (λ os. option_and_then line_row (line_of (text_of i).mnemonic os form)) read.is
+      ∙ ap (λ os. option_and_then line_row (instruction_line (text_of i).mnemonic os form)) read.is
       ∙ read.row form ∙ ap (λ verb. row_or form verb found) (texts_are_rows.apart i)
 
   abbrev row : Instr
@@ -180,12 +170,12 @@ module _ (names : Meanings) (segment at : ℕ) (s : StandsAt names segment at) (
   next_is : address_after names (row_length row) ≡ (at + row_length i) % 65536
   next_is = (λ j. ((s.here j).number + size_is j) % 65536)
 
-  text_same : text_of i ≡ text (text_of row).mnemonic (numbered (text_of row).first n1)
-      (numbered (text_of row).second n2) (numbered (text_of row).third n3)
+  text_same : text_of i ≡ text (text_of row).mnemonic (slot_with_number (text_of row).first n1)
+      (slot_with_number (text_of row).second n2) (slot_with_number (text_of row).third n3)
   text_same = ap text_of (sym the_row.same) ∙ (texts_are_rows.filled row n1 n2 n3).same
 
   -- an operand gives in the row that is found what it gives in the row
-  given : (x y : Slot) (m : ℕ) → x ≡ numbered y m → is_usual x ≡ true → HasRoom x
+  given : (x y : Slot) (m : ℕ) → x ≡ slot_with_number y m → is_usual x ≡ true → HasRoom x
       → stays_inside (at + row_length i) (field_in x) ≡ true
       → IsLed names segment at s (at + row_length i) t (field_in x)
       → filled names (address_after names (row_length row)) (field_in y) (operand_of t x) ≡ Ok (held_in x)

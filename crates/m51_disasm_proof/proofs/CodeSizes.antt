@@ -1,30 +1,20 @@
 -- The assembler gives a disassembled instruction the length of its row.
-use Rattle.std.proofs.Common.{◌≡◌, Some, option_map, refl, ap, ◌∙◌}
+use Rattle.m51_disasm_proof.proofs.Common.{◌≡◌, Some, option_map, refl, ap, ◌∙◌, Instr, Nop, Jump, text_of, look_of}
+use Rattle.m51_disasm_proof.proofs.Common.{Meanings, SourceLine, Target, Content, length_in, operands_of, body_of}
+use Rattle.m51_disasm_proof.proofs.Common.{meant, line_size, AreSlots, IsContent, IsSound}
 use Rattle.std.specs.Prelude.{unwrap_or}
-use Rattle.m51_isa.specs.declared.instr.Instr.{Instr}
-use Rattle.m51_isa.specs.declared.instr.Instr.TheVariants.{Nop}
-use Rattle.m51_isa.specs.declared.generics.Jump.{Jump}
 use Rattle.m51_isa.specs.Arithmetic.{arithmetic}
 use Rattle.m51_isa.specs.Logic.{logic}
 use Rattle.m51_isa.specs.Moves.{moves}
 use Rattle.m51_isa.specs.Branches.{branches}
 use Rattle.m51_isa.specs.Jumps.{jumps}
 use Rattle.m51_isa.specs.Search.{search, row_or, row_for}
-use Rattle.m51_isa.specs.Spelling.{text_of, look_of}
 use Rattle.m51_isa.specs.Table.{length_of as row_length}
 use Rattle.m51_isa.proofs.RowsFilled.{rows_are_apart}
-use Rattle.m51_expr.specs.Meanings.{Meanings}
 use Rattle.m51_encode.specs.Coding.{length_of}
 use Rattle.m51_asm.specs.Fitting.{size_by}
-use Rattle.m51_disasm.specs.declared.line.SourceLine.{SourceLine}
 use Rattle.m51_disasm.specs.declared.line.SourceLine.TheVariants as line
-use Rattle.m51_disasm.specs.declared.line.Target.{Target}
-use Rattle.m51_disasm.specs.declared.statement.Content.{Content}
 use Rattle.m51_disasm.specs.declared.statement.Content.TheVariants as content
-use Rattle.m51_disasm.specs.Statements.{length_in}
-use Rattle.m51_disasm_proof.specs.Meaning.{operands_of, body_of, meant}
-use Rattle.m51_disasm_proof.specs.Places.{line_size}
-use Rattle.m51_disasm_proof.specs.Sound.{AreSlots, IsContent, IsSound}
 use Rattle.m51_disasm_proof.proofs.InstructionsCut.{instruction_read}
 
 -- a row that is found has the length of the row

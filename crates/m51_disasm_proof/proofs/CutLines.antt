@@ -1,7 +1,8 @@
 -- The cut of a line of words, with blanks between them or none.
-use Rattle.std.proofs.Common.{◌≡◌, ℕ, ◌+◌, ◌-◌, ◌<◌, ◌&&◌, true, List, [], ◌∷◌, ◌++◌, length, length-append, drop, map}
-use Rattle.std.proofs.Common.{Some, Ok, refl, ap, ◌∙◌, append_assoc, arith, subst}
-use Rattle.std.specs.List.{list_all}
+use Rattle.m51_disasm_proof.proofs.Common.{◌≡◌, ℕ, ◌+◌, ◌-◌, ◌<◌, ◌&&◌, true, List, [], ◌∷◌, ◌++◌, length}
+use Rattle.m51_disasm_proof.proofs.Common.{length-append, map, Some, Ok, refl, ap, ◌∙◌, append_assoc, arith, subst}
+use Rattle.m51_disasm_proof.proofs.Common.{list_all, Word, symbol, is_character}
+use Rattle.std.proofs.Common.{drop}
 use Rattle.std.proofs.Math.Seq.{drop-append_seam}
 use Rattle.std.proofs.lemmas.List.Folds.{list_all-append}
 use Rattle.m51_lex.specs.declared.token.Token.{Token}
@@ -13,8 +14,7 @@ use Rattle.m51_expr.specs.Symbol.{symbol_of}
 use Rattle.m51_stmt.specs.Answer.{and_then, or_fault}
 use Rattle.m51_stmt.specs.Statement.{StmtTree}
 use Rattle.m51_stmt.specs.Lines.{statement, statement_fault, read, token_line}
-use Rattle.m51_stmt.proofs.LineCuts.{Word, token_at, AreWords, symbol, are_symbols, one_blank, word_within}
-use Rattle.m51_text.specs.Said.{is_character}
+use Rattle.m51_stmt.proofs.LineCuts.{token_at, AreWords, are_symbols, one_blank, word_within}
 
 -- the word is cut as a token of its own before these bytes
 pub record Stands (w : Word) (rest : List ℕ) : Type 0 where

@@ -1,31 +1,24 @@
 -- The text of a disassembly is read as the lines that are meant.
-use Rattle.std.proofs.Common.{◌≡◌, ℕ, zero, suc, ◌≤◌, ◌==◌, nat_lt, Bool, true, false, cond, List, [], ◌∷◌, ◌++◌}
-use Rattle.std.proofs.Common.{length, map, flat_map, append_assoc, Ok, Err, Result, refl, sym, ◌∙◌, subst, arith}
-use Rattle.std.specs.List.{AllByRecursion, filter}
-use Rattle.std.proofs.lemmas.Grind.{common_steps}
+use Rattle.m51_disasm_proof.proofs.Common.{◌≡◌, ℕ, zero, suc, ◌≤◌, ◌==◌, nat_lt, Bool, true, false, cond, List, [], ◌∷◌}
+use Rattle.m51_disasm_proof.proofs.Common.{◌++◌, length, map, flat_map, append_assoc, Ok, refl, sym, ◌∙◌, subst, arith}
+use Rattle.m51_disasm_proof.proofs.Common.{AllByRecursion, common_steps, LayoutParts, SourceFile, Lines, SourceLine}
+use Rattle.m51_disasm_proof.proofs.Common.{Target, CodeRange, Content, Statement, line_of, beginnings, targets}
+use Rattle.m51_disasm_proof.proofs.Common.{IsInside, statements_of, body_of, meant, read_from, AreBytes}
+use Rattle.std.proofs.Common.{Err, Result}
+use Rattle.std.specs.List.{filter}
 use Rattle.std.proofs.lemmas.List.Elements.{recursion_from_All}
 use Rattle.m51_module.specs.declared.linked.Quantity.{Quantity}
 use Rattle.m51_module.specs.declared.linked.Quantity.TheVariants as quantity
-use Rattle.m51_module.specs.declared.parts.LayoutParts.{LayoutParts}
-use Rattle.m51_module.specs.declared.source.SourceFile.{SourceFile}
 use Rattle.m51_module.specs.Sound as layout
 use Rattle.m51_text.specs.Said.{is_end_body}
-use Rattle.m51_text.specs.Answer.{Lines, text_of}
-use Rattle.m51_disasm.specs.declared.line.SourceLine.{SourceLine}
+use Rattle.m51_text.specs.Answer.{text_of}
 use Rattle.m51_disasm.specs.declared.line.SourceLine.TheVariants as line
-use Rattle.m51_disasm.specs.declared.line.Target.{Target}
-use Rattle.m51_disasm.specs.declared.part.CodeRange.{CodeRange}
-use Rattle.m51_disasm.specs.declared.statement.Content.{Content}
 use Rattle.m51_disasm.specs.declared.statement.Content.TheVariants as content
-use Rattle.m51_disasm.specs.declared.statement.Statement.{Statement}
 use Rattle.m51_disasm.specs.Answer.{text_within, text_by, disassembled}
-use Rattle.m51_disasm.specs.Lines.{line_of, part_lines, lines_of, beginnings, targets}
-use Rattle.m51_disasm.specs.Parts.{IsInside, units_of, parts_below, parts_of}
-use Rattle.m51_disasm.specs.Statements.{statements_of}
+use Rattle.m51_disasm.specs.Lines.{part_lines, lines_of}
+use Rattle.m51_disasm.specs.Parts.{unit_ranges, parts_below, code_ranges}
 use Rattle.m51_disasm.specs.Texts.{text_of_lines}
 use Rattle.m51_disasm.proofs.Placing.{all_inside}
-use Rattle.m51_disasm_proof.specs.Meaning.{body_of, meant, read_from}
-use Rattle.m51_disasm_proof.specs.Sound.{AreBytes}
 use Rattle.m51_disasm_proof.proofs.SoundLines.{lines_sound}
 use Rattle.m51_disasm_proof.proofs.TextRead.{EndsOnce, text_read}
 
@@ -54,9 +47,10 @@ below_inside units (suc address) h =
     both_inside (parts_below units address) (filter (λ unit. unit.base == address) units) (below_inside units address h)
     (filter_inside (λ unit. unit.base == address) units h)
 
-pub parts_inside : (l : LayoutParts) → layout.IsSound l → AllByRecursion IsInside (parts_of l)
-unfolding parts_of
-parts_inside l sound = below_inside (units_of l) 0x10000 (recursion_from_All IsInside (units_of l) (all_inside l sound))
+pub parts_inside : (l : LayoutParts) → layout.IsSound l → AllByRecursion IsInside (code_ranges l)
+unfolding code_ranges
+parts_inside l sound =
+    below_inside (unit_ranges l) 0x10000 (recursion_from_All IsInside (unit_ranges l) (all_inside l sound))
 
 -- ---- END comes last
 
@@ -103,9 +97,9 @@ lines_end image parts =
 -- ---- a text that is given is that of its lines, of which there are not too many
 
 pub record IsGiven (l : LayoutParts) (image text : List ℕ) : Type 0 where
-  pub parts : length (parts_of l) ≤ 254
-  pub lines : length (lines_of image (parts_of l)) ≤ 65535
-  pub text_is : text ≡ text_of_lines (lines_of image (parts_of l))
+  pub parts : length (code_ranges l) ≤ 254
+  pub lines : length (lines_of image (code_ranges l)) ≤ 65535
+  pub text_is : text ≡ text_of_lines (lines_of image (code_ranges l))
 
 few : (most n : ℕ) → nat_lt most n ≡ false → n ≤ most
 few most n h = grind (arith, common_steps, h)
@@ -123,15 +117,15 @@ answered false false x text h = (refl, (refl, cc h))
 pub given : (l : LayoutParts) (image text : List ℕ) → disassembled l image ≡ Ok text → IsGiven l image text
 unfolding disassembled text_by text_within
 given l image text h =
-    let lines = lines_of image (parts_of l) in
-    let a = answered (nat_lt 254 (length (parts_of l))) (nat_lt 65535 (length lines)) (text_of_lines lines) text h in
-    record { parts = few 254 (length (parts_of l)) a.0; lines = few 65535 (length lines) a.1.0; text_is = a.1.1 }
+    let lines = lines_of image (code_ranges l) in
+    let a = answered (nat_lt 254 (length (code_ranges l))) (nat_lt 65535 (length lines)) (text_of_lines lines) text h in
+    record { parts = few 254 (length (code_ranges l)) a.0; lines = few 65535 (length lines) a.1.0; text_is = a.1.1 }
 
 -- each text that is given is read as the lines that are meant
 pub disassembly_read : (l : LayoutParts) (image text : List ℕ) (source : SourceFile) → layout.IsSound l → AreBytes image
     → disassembled l image ≡ Ok text → source.bytes ≡ text
-    → text_of source [] ≡ Lines (read_from 1 (lines_of image (parts_of l)))
+    → text_of source [] ≡ Lines (read_from 1 (lines_of image (code_ranges l)))
 disassembly_read l image text source sound bytes answer is =
     let g = given l image text answer in
-    text_read source (lines_of image (parts_of l)) (lines_sound image bytes (parts_of l) (parts_inside l sound))
-    (lines_end image (parts_of l)) g.lines (is ∙ g.text_is)
+    text_read source (lines_of image (code_ranges l)) (lines_sound image bytes (code_ranges l) (parts_inside l sound))
+    (lines_end image (code_ranges l)) g.lines (is ∙ g.text_is)

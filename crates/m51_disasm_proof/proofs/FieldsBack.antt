@@ -1,25 +1,24 @@
 -- The fields of a disassembled instruction take the numbers that they were decoded with.
-use Rattle.std.proofs.Common.{◌≡◌, ℕ, ◌+◌, ◌/◌, ◌%◌, ◌<◌, ◌≤◌, nat_lt, nat_le, Bool, true, false, not, ◌&&◌, ◌||◌, cond}
-use Rattle.std.proofs.Common.{Some, None, refl, sym, ap, ◌∙◌, arith, eq-eqb}
+use Rattle.m51_disasm_proof.proofs.Common.{◌≡◌, ℕ, ◌+◌, ◌/◌, ◌%◌, ◌<◌, ◌≤◌, nat_lt, nat_le, Bool, true, false, not}
+use Rattle.m51_disasm_proof.proofs.Common.{◌&&◌, ◌||◌, cond, Some, None, refl, sym, ap, ◌∙◌, arith, eq-eqb, ltb-true}
+use Rattle.m51_disasm_proof.proofs.Common.{and_parts, Field, Meanings, Number, StandsAt, code_value}
 use Rattle.std.proofs.Math.Bool.{and-false, or-true}
 use Rattle.std.proofs.lemmas.Option.{same_Some}
-use Rattle.std.proofs.lemmas.Bool.{ltb-true, ltb-false, le-leb, leb-true, and_parts}
+use Rattle.std.proofs.lemmas.Bool.{ltb-false, le-leb, leb-true}
 use Rattle.m51_cells.specs.declared.kind.Base.TheVariants as base
 use Rattle.m51_cells.specs.declared.kind.Kind.TheVariants as kind
-use Rattle.m51_isa.specs.declared.slot.Field.{Field}
 use Rattle.m51_isa.specs.declared.slot.Field.TheVariants as field
 use Rattle.m51_isa.specs.Targets.{relative, near}
 use Rattle.m51_isa.specs.TextLaws.{kept}
 use Rattle.m51_expr.specs.declared.value.Value.{Value}
 use Rattle.m51_expr.specs.Value.{plain}
-use Rattle.m51_expr.specs.Meanings.{Meanings, is_absolute}
+use Rattle.m51_expr.specs.Meanings.{is_absolute_base}
 use Rattle.m51_encode.specs.declared.reference.FieldValue.{FieldValue}
-use Rattle.m51_encode.specs.declared.reference.FieldValue.TheVariants.{Number, Linked}
+use Rattle.m51_encode.specs.declared.reference.FieldValue.TheVariants.{Linked}
 use Rattle.m51_encode.specs.Bases.{is_current, is_linked, is_numbered, stands_absolute, same_segment}
 use Rattle.m51_encode.specs.FieldValues.{distance, is_near, rel_of, addr11_of, field_of}
 use Rattle.m51_encode.specs.Reference.{reference_of}
 use Rattle.m51_disasm.specs.Statements.{ends_inside, leads_inside, address_by}
-use Rattle.m51_disasm_proof.specs.Standing.{StandsAt, code_value}
 
 -- ---- numbers
 
@@ -55,7 +54,7 @@ rel_back : (next rel : ℕ) → next < 65536 → rel < 256 → ends_inside next 
     → rel_of next (relative next rel) ≡ Some (Number rel)
 rel_back next rel low small h = rel_by next rel (nat_lt rel 128) refl low small h
 
--- the place in the block of the address that it leads to
+-- the offset in the block of the address that it leads to
 block_back : (next address : ℕ) → next < 65536 → address < 2048
     → addr11_of next (near next address % 65536) ≡ Some (Number address)
 block_back next address low small =
@@ -76,7 +75,7 @@ module _ (names : Meanings) (segment at : ℕ) (s : StandsAt names segment at) w
   current = ap (λ (v : Value). same_segment (base.Segment segment) v.base) s.here ∙ eq-eqb segment segment refl
 
   absolute : stands_absolute names ≡ true
-  absolute = ap (λ (v : Value). is_absolute names v.base) s.here ∙ s.absolute
+  absolute = ap (λ (v : Value). is_absolute_base names v.base) s.here ∙ s.absolute
 
   own_is_bare : is_linked names (base.Segment segment) ≡ false
   own_is_bare =

@@ -1,16 +1,11 @@
 -- A disassembled instruction is cut into the words of the instruction that is meant.
-use Rattle.std.proofs.Common.{◌≡◌, ℕ, Bool, true, false, not, ◌&&◌, ◌||◌, map, List, [], ◌∷◌, ◌++◌, append-nil}
-use Rattle.std.proofs.Common.{append_assoc, Some, refl, sym, ap, ◌∙◌, subst}
-use Rattle.std.specs.Prelude.{codes, option_and_then}
-use Rattle.std.specs.List.{cons_option}
-use Rattle.m51_cells.specs.Name.{name_of}
-use Rattle.m51_isa.specs.declared.instr.Instr.{Instr}
-use Rattle.m51_isa.specs.declared.instr.Instr.TheVariants.{Nop}
-use Rattle.m51_isa.specs.declared.slot.Slot.{Slot}
-use Rattle.m51_isa.specs.declared.slot.Slot.TheVariants.{Nothing}
-use Rattle.m51_isa.specs.declared.generics.Jump.{Jump}
+use Rattle.m51_disasm_proof.proofs.Common.{◌≡◌, ℕ, Bool, true, false, not, ◌&&◌, ◌||◌, map, List, [], ◌∷◌, ◌++◌}
+use Rattle.m51_disasm_proof.proofs.Common.{append-nil, append_assoc, Some, refl, sym, ap, ◌∙◌, subst, codes}
+use Rattle.m51_disasm_proof.proofs.Common.{cons_option, name_of, Instr, Nop, Slot, Nothing, Jump, text_of, look_of}
+use Rattle.m51_disasm_proof.proofs.Common.{OperandTree, Word, symbol, name_word, Target, operands_of, IsSlot, AreSlots}
+use Rattle.std.specs.Prelude.{option_and_then}
 use Rattle.m51_isa.specs.Search.{has_row, row_for}
-use Rattle.m51_isa.specs.Spelling.{text, text_of, look_of}
+use Rattle.m51_isa.specs.Spelling.{text}
 use Rattle.m51_isa.specs.Arithmetic.{arithmetic}
 use Rattle.m51_isa.specs.Logic.{logic}
 use Rattle.m51_isa.specs.Moves.{moves}
@@ -20,17 +15,12 @@ use Rattle.m51_expr.specs.declared.symbol.Symbol.TheVariants as symbols
 use Rattle.m51_expr.specs.Symbol.{operator_of, prefix_word, relation_word, arithmetic_word, word_symbol}
 use Rattle.m51_expr.specs.Words.{is_language_word}
 use Rattle.m51_expr.specs.Looks.{has_form}
-use Rattle.m51_stmt.specs.Statement.{OperandTree, Code}
-use Rattle.m51_stmt.proofs.LineCuts.{Word, symbol}
-use Rattle.m51_stmt.proofs.WordCuts.{name_word}
+use Rattle.m51_stmt.specs.Statement.{Code}
 use Rattle.m51_stmt.proofs.ListWords.{Each, comma_word}
 use Rattle.m51_stmt.proofs.PrintedOperands.{IsOperand, operand_words, operand_part}
 use Rattle.m51_stmt.proofs.PrintedBodies.{body_words, IsCode}
-use Rattle.m51_encode.specs.Coding.{line_of, line_row}
-use Rattle.m51_disasm.specs.declared.line.Target.{Target}
-use Rattle.m51_disasm.specs.Texts.{operand_text, after, spelled}
-use Rattle.m51_disasm_proof.specs.Meaning.{operands_of}
-use Rattle.m51_disasm_proof.specs.Sound.{IsSlot, AreSlots}
+use Rattle.m51_encode.specs.Coding.{instruction_line, line_row}
+use Rattle.m51_disasm.specs.Texts.{operand_text, operand_after, spelled}
 use Rattle.m51_disasm_proof.proofs.CutLines.{IsCutInto, no_words, after_blank, after_word}
 use Rattle.m51_disasm_proof.proofs.StandingWords.{name_stands, comma_stands}
 use Rattle.m51_disasm_proof.proofs.OperandsCut.{IsReadOperand, is_there, slot_read}
@@ -73,8 +63,9 @@ part_symbols o xs ys e =
     part.before xs ∙ ap (λ l. map symbol (operand_words o []) ++ l) e ∙ sym (part.before ys)
 
 -- an operand that is not missing is written after its sign
-after_there : (sign : List ℕ) (t : Target) (s : Slot) → is_there s ≡ true → after sign t s ≡ sign ++ operand_text t s
-unfolding after
+after_there : (sign : List ℕ) (t : Target) (s : Slot) → is_there s ≡ true → operand_after sign t s
+    ≡ sign ++ operand_text t s
+unfolding operand_after
 after_there sign t Nothing h = absurd (cc h)
 after_there sign t s h = refl
 
@@ -83,7 +74,7 @@ pub record IsReadCode (t : Target) (mnemonic : List ℕ) (a b c : Slot) : Type 0
   pub operands : List OperandTree
   pub is : operands_of t (text mnemonic a b c) ≡ operands
   pub form : has_form mnemonic operands ≡ has_row mnemonic (look_of a) (look_of b) (look_of c)
-  pub row : (form : Jump) → option_and_then line_row (line_of mnemonic operands form)
+  pub row : (form : Jump) → option_and_then line_row (instruction_line mnemonic operands form)
       ≡ row_for mnemonic form (look_of a) (look_of b) (look_of c)
   pub each : Each IsOperand operands
   pub words : List Word
@@ -95,7 +86,7 @@ joined m a b c ws cut = subst (λ l. IsCutInto l ws) (sym (append_assoc (m ++ a)
 
 module _ (t : Target) (m : List ℕ) (written : name_of m ≡ Some m) where
   alone : IsReadCode t m Nothing Nothing Nothing
-  unfolding after spelled
+  unfolding operand_after spelled
   alone = record {
     operands = [];
     is = refl;
@@ -114,7 +105,7 @@ module _ (t : Target) (m : List ℕ) (written : name_of m ≡ Some m) where
       (after_blank rest ws c)
 
   with_one : (a : Slot) → is_there a ≡ true → IsReadOperand t a → IsReadCode t m a Nothing Nothing
-  unfolding after spelled
+  unfolding operand_after spelled
   with_one a p x = record {
     operands = x.operand ∷ [];
     is = ap (λ o. cons_option o []) x.is;
@@ -123,7 +114,7 @@ module _ (t : Target) (m : List ℕ) (written : name_of m ≡ Some m) where
     each = (x.good, tt);
     words = name_word m ∷ x.words [];
     symbols = ap (λ l. symbol (name_word m) ∷ l) (x.symbols []);
-    cut = joined m (after (codes " ") t a) [] [] (name_word m ∷ x.words [])
+    cut = joined m (operand_after (codes " ") t a) [] [] (name_word m ∷ x.words [])
         (subst (λ l. IsCutInto (m ++ (l ++ [])) (name_word m ∷ x.words [])) (sym (after_there (codes " ") t a p))
         (begun _ _ (x.cut [] [] refl no_words)));
   }
@@ -133,7 +124,7 @@ module _ (t : Target) (m : List ℕ) (written : name_of m ≡ Some m) where
 
   with_two : (a b : Slot) → is_there a ≡ true → is_there b ≡ true → IsReadOperand t a → IsReadOperand t b
       → IsReadCode t m a b Nothing
-  unfolding after spelled
+  unfolding operand_after spelled
   with_two a b p q x y =
       let ws : List Word = name_word m ∷ x.words (comma_word ∷ y.words []) in
       record {
@@ -148,15 +139,16 @@ module _ (t : Target) (m : List ℕ) (written : name_of m ≡ Some m) where
             ∙ part_symbols x.operand (comma_word ∷ y.words []) (comma_word ∷ operand_words y.operand [])
             (ap (λ l. symbol comma_word ∷ l) (y.symbols [])));
         cut =
-            joined m (after (codes " ") t a) (after (codes ",") t b) [] ws
-            (subst (λ l. IsCutInto (m ++ (l ++ (after (codes ",") t b ++ []))) ws) (sym (after_there (codes " ") t a p))
+            joined m (operand_after (codes " ") t a) (operand_after (codes ",") t b) [] ws
+            (subst (λ l. IsCutInto (m ++ (l ++ (operand_after (codes ",") t b ++ []))) ws)
+            (sym (after_there (codes " ") t a p))
             (subst (λ l. IsCutInto (m ++ 32 ∷ (operand_text t a ++ (l ++ []))) ws) (sym (after_there (codes ",") t b q))
             (begun _ _ (x.cut _ _ refl (comma _ _ (y.cut [] [] refl no_words))))));
       }
 
   with_three : (a b c : Slot) → is_there a ≡ true → is_there b ≡ true → is_there c ≡ true → IsReadOperand t a
       → IsReadOperand t b → IsReadOperand t c → IsReadCode t m a b c
-  unfolding after spelled
+  unfolding operand_after spelled
   with_three a b c p q r x y z =
       let last : List Word = comma_word ∷ z.words [] in
       let ws : List Word = name_word m ∷ x.words (comma_word ∷ y.words last) in
@@ -175,10 +167,10 @@ module _ (t : Target) (m : List ℕ) (written : name_of m ≡ Some m) where
             (comma_word ∷ operand_words y.operand (comma_word ∷ operand_words z.operand []))
             (ap (λ l. symbol comma_word ∷ l) later));
         cut =
-            joined m (after (codes " ") t a) (after (codes ",") t b) (after (codes ",") t c) ws
-            (subst (λ l. IsCutInto (m ++ (l ++ (after (codes ",") t b ++ after (codes ",") t c))) ws)
+            joined m (operand_after (codes " ") t a) (operand_after (codes ",") t b) (operand_after (codes ",") t c) ws
+            (subst (λ l. IsCutInto (m ++ (l ++ (operand_after (codes ",") t b ++ operand_after (codes ",") t c))) ws)
             (sym (after_there (codes " ") t a p))
-            (subst (λ l. IsCutInto (m ++ 32 ∷ (operand_text t a ++ (l ++ after (codes ",") t c))) ws)
+            (subst (λ l. IsCutInto (m ++ 32 ∷ (operand_text t a ++ (l ++ operand_after (codes ",") t c))) ws)
             (sym (after_there (codes ",") t b q))
             (subst (λ l. IsCutInto (m ++ 32 ∷ (operand_text t a ++ 44 ∷ (operand_text t b ++ l))) ws)
             (sym (after_there (codes ",") t c r))

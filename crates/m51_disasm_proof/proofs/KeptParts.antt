@@ -1,27 +1,17 @@
 -- The segments of the module of a disassembly: one for each part.
-use Rattle.std.proofs.Common.{◌≡◌, ◌≢◌, ℕ, zero, suc, ◌+◌, ◌-◌, ◌<◌, ◌==◌, Bool, true, false, cond, List, [], ◌∷◌, ◌++◌}
-use Rattle.std.proofs.Common.{length, length-append, map, append_assoc, append-nil, refl, sym, ap, ◌∙◌, arith, eq-eqb}
-use Rattle.std.specs.List.{AllByRecursion}
-use Rattle.std.proofs.lemmas.Bool.{ne_eqb}
+use Rattle.m51_disasm_proof.proofs.Common.{◌≡◌, ◌≢◌, ℕ, zero, suc, ◌+◌, ◌-◌, ◌<◌, ◌==◌, Bool, true, false, cond, List}
+use Rattle.m51_disasm_proof.proofs.Common.{[], ◌∷◌, ◌++◌, length, length-append, map, append_assoc, append-nil, refl}
+use Rattle.m51_disasm_proof.proofs.Common.{sym, ap, ◌∙◌, arith, eq-eqb, AllByRecursion, ne_eqb, LineTree, TextSegment}
+use Rattle.m51_disasm_proof.proofs.Common.{Assignment, absolute, opening, body_at, Fits, Kept, SourceLine, Target}
+use Rattle.m51_disasm_proof.proofs.Common.{CodeRange, Content, Statement, beginnings, targets, line_of, statement_lines}
+use Rattle.m51_disasm_proof.proofs.Common.{IsInside, statements_of, body_of, meant, read_from, segment_after, line_size}
+use Rattle.m51_disasm_proof.proofs.Common.{IsSound}
 use Rattle.std.proofs.lemmas.List.{length-map}
 use Rattle.m51_cells.specs.declared.kind.Kind.TheVariants as kind
-use Rattle.m51_text.specs.Answer.{LineTree}
-use Rattle.m51_asm.specs.Assignment.{TextSegment, Assignment, absolute, opening, body_at}
-use Rattle.m51_asm.specs.Fitting.{size_at, filled, Fits}
-use Rattle.m51_asm.specs.ObjectSegments.{Kept, size_of, absolute_of, if_filled, begun_by, kept_by, kept_before, kept}
-use Rattle.m51_disasm.specs.declared.line.SourceLine.{SourceLine}
+use Rattle.m51_asm.specs.Fitting.{size_at, filled}
+use Rattle.m51_asm.specs.ObjectSegments.{size_of, absolute_of, if_filled, begun_by, kept_by, kept_before, kept}
 use Rattle.m51_disasm.specs.declared.line.SourceLine.TheVariants as line
-use Rattle.m51_disasm.specs.declared.line.Target.{Target}
-use Rattle.m51_disasm.specs.declared.part.CodeRange.{CodeRange}
-use Rattle.m51_disasm.specs.declared.statement.Content.{Content}
 use Rattle.m51_disasm.specs.declared.statement.Content.TheVariants as content
-use Rattle.m51_disasm.specs.declared.statement.Statement.{Statement}
-use Rattle.m51_disasm.specs.Lines.{beginnings, targets, line_of, statement_lines}
-use Rattle.m51_disasm.specs.Parts.{IsInside}
-use Rattle.m51_disasm.specs.Statements.{statements_of}
-use Rattle.m51_disasm_proof.specs.Meaning.{body_of, meant, read_from}
-use Rattle.m51_disasm_proof.specs.Places.{segment_after, line_size}
-use Rattle.m51_disasm_proof.specs.Sound.{IsSound}
 use Rattle.m51_disasm_proof.proofs.LinesStand.{Says, LineStands, at_start, size_of as line_size_is, says_all}
 use Rattle.m51_disasm_proof.proofs.LineSteps.{given_after, step, other_segment}
 use Rattle.m51_disasm_proof.proofs.PartLines.{rest_of, whole, through}

@@ -1,11 +1,10 @@
 -- Labels of two addresses are two names.
-use Rattle.std.proofs.Common.{◌≡◌, ◌≢◌, ℕ, ◌+◌, ◌-◌, ◌*◌, ◌/◌, ◌%◌, ◌<◌, ◌≤◌, nat_lt, Bool, true, false, cond, List}
-use Rattle.std.proofs.Common.{get_or, refl, sym, ap, ◌∙◌, arith}
-use Rattle.std.specs.Fmt.{digit_glyph}
+use Rattle.m51_disasm_proof.proofs.Common.{◌≡◌, ◌≢◌, ℕ, ◌+◌, ◌-◌, ◌*◌, ◌/◌, ◌%◌, ◌<◌, ◌≤◌, nat_lt, Bool, true, false}
+use Rattle.m51_disasm_proof.proofs.Common.{cond, List, get_or, refl, sym, ap, ◌∙◌, arith, digit_glyph, ltb-true}
+use Rattle.m51_disasm_proof.proofs.Common.{label_text}
 use Rattle.std.specs.Str.{bytes_eq}
-use Rattle.std.proofs.lemmas.Bool.{ltb-true, ltb-false, lt-ltb, le-ltb}
+use Rattle.std.proofs.lemmas.Bool.{ltb-false, lt-ltb, le-ltb}
 use Rattle.std.proofs.lemmas.Slice.Eq.{bytes_eq-Decides}
-use Rattle.m51_disasm.specs.Texts.{label_text}
 
 -- the number of a digit
 abbrev number_of : ℕ → ℕ

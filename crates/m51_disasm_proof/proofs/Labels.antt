@@ -1,21 +1,18 @@
 -- The labels of a disassembly are names that a statement may define.
-use Rattle.std.proofs.Common.{◌≡◌, ◌≢◌, ℕ, ◌/◌, ◌%◌, ◌<◌, ◌&&◌, nat_eq, cond, Bool, true, false, List, [], ◌∷◌, length}
-use Rattle.std.proofs.Common.{Some, None, refl, ap, ◌∙◌, arith}
-use Rattle.std.specs.Prelude.{codes}
+use Rattle.m51_disasm_proof.proofs.Common.{◌≡◌, ◌≢◌, ℕ, ◌/◌, ◌%◌, ◌<◌, ◌&&◌, cond, Bool, true, false, List, [], ◌∷◌}
+use Rattle.m51_disasm_proof.proofs.Common.{length, Some, None, refl, ap, ◌∙◌, arith, codes, digit_glyph, common_steps}
+use Rattle.m51_disasm_proof.proofs.Common.{name_of, label_text}
+use Rattle.std.proofs.Common.{nat_eq}
 use Rattle.std.specs.Char.{to_ascii_uppercase}
-use Rattle.std.specs.Fmt.{digit_glyph}
 use Rattle.std.specs.Str.{bytes_eq}
-use Rattle.std.proofs.lemmas.Grind.{common_steps}
 use Rattle.std.proofs.lemmas.Slice.Eq.{bytes_eq-Decides}
 use Rattle.m51_cells.specs.Name as cells
-use Rattle.m51_cells.specs.Name.{name_of}
 use Rattle.m51_expr.specs.declared.symbol.Symbol.TheVariants as symbols
 use Rattle.m51_expr.specs.Symbol.{operator_of, prefix_word, relation_word, arithmetic_word, word_symbol}
 use Rattle.m51_expr.specs.Symbol.{operator_or_word}
 use Rattle.m51_expr.specs.Words.{is_language_word, is_reserved}
 use Rattle.m51_stmt.proofs.PrintedTrees.{IsLeafName}
 use Rattle.m51_stmt.proofs.PrintedExterns.{IsFree}
-use Rattle.m51_disasm.specs.Texts.{label_text}
 
 -- a hexadecimal digit in upper case
 record IsGlyph (c : ℕ) : Type 0 where

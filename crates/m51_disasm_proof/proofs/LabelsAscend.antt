@@ -1,17 +1,12 @@
 -- The labels of a disassembly ascend.
-use Rattle.std.proofs.Common.{ℕ, ◌+◌, ◌<◌, ◌≤◌, Bool, true, false, cond, List, [], ◌∷◌, ◌++◌, map, flat_map}
-use Rattle.std.proofs.Common.{append_assoc, Some, None, sym, subst, arith}
-use Rattle.std.specs.List.{AllByRecursion}
+use Rattle.m51_disasm_proof.proofs.Common.{ℕ, ◌+◌, ◌<◌, ◌≤◌, Bool, true, false, cond, List, [], ◌∷◌, ◌++◌, map}
+use Rattle.m51_disasm_proof.proofs.Common.{flat_map, append_assoc, Some, None, sym, subst, arith, AllByRecursion}
+use Rattle.m51_disasm_proof.proofs.Common.{SourceLine, CodeRange, Content, Statement, is_among, beginnings, targets}
+use Rattle.m51_disasm_proof.proofs.Common.{line_of, IsInside, length_in, statements_of}
 use Rattle.m51_isa.proofs.Codes.{rows_are_short}
-use Rattle.m51_disasm.specs.declared.line.SourceLine.{SourceLine}
 use Rattle.m51_disasm.specs.declared.line.SourceLine.TheVariants as line
-use Rattle.m51_disasm.specs.declared.part.CodeRange.{CodeRange}
-use Rattle.m51_disasm.specs.declared.statement.Content.{Content}
 use Rattle.m51_disasm.specs.declared.statement.Content.TheVariants as content
-use Rattle.m51_disasm.specs.declared.statement.Statement.{Statement}
-use Rattle.m51_disasm.specs.Lines.{is_among, beginnings, targets, line_of, part_lines, lines_of}
-use Rattle.m51_disasm.specs.Parts.{IsInside}
-use Rattle.m51_disasm.specs.Statements.{length_in, statements_of}
+use Rattle.m51_disasm.specs.Lines.{part_lines, lines_of}
 use Rattle.m51_disasm_proof.proofs.LabelsDefined.{LiesFrom, after_label, Ascends}
 use Rattle.m51_disasm_proof.proofs.PartsInOrder.{AreInOrder}
 use Rattle.m51_disasm_proof.proofs.StatementsStand.{Follow, part_follows}

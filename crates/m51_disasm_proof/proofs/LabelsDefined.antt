@@ -1,16 +1,11 @@
 -- Labels that ascend along the lines are defined once.
-use Rattle.std.proofs.Common.{◌≡◌, ℕ, zero, suc, ◌+◌, ◌<◌, ◌≤◌, cond, List, [], ◌∷◌, ◌++◌, take, Option, Some, None}
-use Rattle.std.proofs.Common.{option_map, refl, ap, ◌∙◌, subst, arith}
-use Rattle.std.specs.Prelude.{slice_get}
+use Rattle.m51_disasm_proof.proofs.Common.{◌≡◌, ℕ, zero, suc, ◌+◌, ◌<◌, ◌≤◌, cond, List, [], ◌∷◌, ◌++◌, take, Option}
+use Rattle.m51_disasm_proof.proofs.Common.{Some, None, option_map, refl, ap, ◌∙◌, subst, arith, slice_get, SourceLine}
+use Rattle.m51_disasm_proof.proofs.Common.{Target, Content, label_text, body_of, meant, read_from}
 use Rattle.m51_asm.specs.Definitions.{Definition, Defined, Label, definitions_in, defined_by, label_defined, found_in}
 use Rattle.m51_asm.specs.Definitions.{or_later, definition_from}
-use Rattle.m51_disasm.specs.declared.line.SourceLine.{SourceLine}
 use Rattle.m51_disasm.specs.declared.line.SourceLine.TheVariants as line
-use Rattle.m51_disasm.specs.declared.line.Target.{Target}
-use Rattle.m51_disasm.specs.declared.statement.Content.{Content}
 use Rattle.m51_disasm.specs.declared.statement.Content.TheVariants as content
-use Rattle.m51_disasm.specs.Texts.{label_text}
-use Rattle.m51_disasm_proof.specs.Meaning.{body_of, meant, read_from}
 use Rattle.m51_disasm_proof.proofs.LabelTexts.{same_label, other_label}
 
 -- the label of a line

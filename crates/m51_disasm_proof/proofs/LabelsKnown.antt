@@ -1,26 +1,18 @@
 -- A label of a disassembly has the value of its address.
-use Rattle.std.proofs.Common.{◌≡◌, ℕ, zero, suc, ◌+◌, ◌%◌, ◌<◌, true, cond, List, [], ◌∷◌, ◌++◌, length, map, flat_map}
-use Rattle.std.proofs.Common.{Some, None, sym, ap, ◌∙◌, subst, arith}
-use Rattle.std.specs.Prelude.{slice_get}
-use Rattle.std.specs.List.{AllByRecursion}
+use Rattle.m51_disasm_proof.proofs.Common.{◌≡◌, ℕ, zero, suc, ◌+◌, ◌%◌, ◌<◌, true, cond, List, [], ◌∷◌, ◌++◌, length}
+use Rattle.m51_disasm_proof.proofs.Common.{map, flat_map, Some, None, sym, ap, ◌∙◌, subst, arith, slice_get}
+use Rattle.m51_disasm_proof.proofs.Common.{AllByRecursion, Assignment, absolute, Fits, SourceLine, CodeRange, Statement}
+use Rattle.m51_disasm_proof.proofs.Common.{is_among, beginnings, targets, line_of, IsInside, statements_of, label_text}
+use Rattle.m51_disasm_proof.proofs.Common.{read_from, lines_before, AreBytes, code_value}
 use Rattle.m51_cells.specs.declared.kind.Base.TheVariants as base
 use Rattle.m51_cells.specs.declared.kind.Kind.TheVariants as kind
 use Rattle.m51_expr.specs.declared.value.Part.TheVariants.{Whole}
-use Rattle.m51_asm.specs.Assignment.{Assignment, absolute, here_at}
+use Rattle.m51_asm.specs.Assignment.{here_at}
 use Rattle.m51_asm.specs.Definitions.{definition_of}
-use Rattle.m51_asm.specs.Fitting.{named_value, Fits}
-use Rattle.m51_disasm.specs.declared.line.SourceLine.{SourceLine}
+use Rattle.m51_asm.specs.Fitting.{named_value}
 use Rattle.m51_disasm.specs.declared.line.SourceLine.TheVariants as line
-use Rattle.m51_disasm.specs.declared.part.CodeRange.{CodeRange}
-use Rattle.m51_disasm.specs.declared.statement.Statement.{Statement}
-use Rattle.m51_disasm.specs.Lines.{is_among, beginnings, targets, line_of, part_lines, lines_of}
-use Rattle.m51_disasm.specs.Parts.{IsInside}
-use Rattle.m51_disasm.specs.Statements.{statements_of}
-use Rattle.m51_disasm.specs.Texts.{label_text}
-use Rattle.m51_disasm_proof.specs.Meaning.{read_from}
-use Rattle.m51_disasm_proof.specs.Places.{lines_before, IsSpot}
-use Rattle.m51_disasm_proof.specs.Sound.{AreBytes}
-use Rattle.m51_disasm_proof.specs.Standing.{code_value}
+use Rattle.m51_disasm.specs.Lines.{part_lines, lines_of}
+use Rattle.m51_disasm_proof.specs.Places.{IsSpot}
 use Rattle.m51_disasm_proof.proofs.LabelsAscend.{lines_ascend}
 use Rattle.m51_disasm_proof.proofs.LabelsDefined.{label_of, label_in, label_small, defined_from}
 use Rattle.m51_disasm_proof.proofs.LinesStand.{lines_stand}
@@ -57,15 +49,15 @@ statement_line_at image before part after j s e =
 
 -- ---- values
 
--- a place, as a value
+-- an address, as a value
 pub place_value : (a : Assignment) (k segment address at : ℕ) → address < 65536
-    → IsSpot a k (record { segment = absolute segment kind.Code at; place = address })
+    → IsSpot a k (record { segment = absolute segment kind.Code at; address = address })
     → here_at a k ≡ code_value segment address
 place_value a k segment address at small spot =
     let same : address % 65536 ≡ address = omega (arith, small) in
     let first : here_at a k ≡ code_value segment (address % 65536) =
     (λ i. record {
-      number = spot.place i % 65536;
+      number = spot.address i % 65536;
       class = (spot.segment i).kind;
       base = base.Segment (spot.segment i).id;
       part = Whole;
@@ -85,7 +77,7 @@ module _ (image : List ℕ) (bytes : AreBytes image) (before : List CodeRange) (
   -- the spot of a statement
   pub stands_there : (j : ℕ) (s : Statement) → slice_get statements j ≡ Some s
       → IsSpot a (lines_before image before + suc j)
-      (record { segment = absolute (lines_before image before + 2) kind.Code part.base; place = s.at })
+      (record { segment = absolute (lines_before image before + 2) kind.Code part.base; address = s.at })
   stands_there j s e = lines_stand ls (lines_sound image bytes (before ++ part ∷ after) inside) a f
       (lines_before image before + suc j) _ (statement_spot image before part after j s e)
 

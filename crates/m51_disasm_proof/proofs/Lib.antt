@@ -1,3 +1,4 @@
+pub mod Common
 pub mod CutLines
 pub mod StandingWords
 pub mod Labels

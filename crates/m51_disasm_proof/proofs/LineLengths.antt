@@ -1,20 +1,13 @@
 -- The lines of a disassembly are short.
-use Rattle.std.proofs.Common.{ℕ, ◌≤◌, List, ◌++◌, length, length-append, Option, Some, None, arith}
-use Rattle.std.specs.Prelude.{codes}
-use Rattle.m51_isa.specs.declared.instr.Instr.{Instr}
-use Rattle.m51_isa.specs.declared.instr.Instr.TheVariants.{Nop}
-use Rattle.m51_isa.specs.declared.slot.Field.{Field}
+use Rattle.m51_disasm_proof.proofs.Common.{ℕ, ◌≤◌, List, ◌++◌, length, length-append, Option, Some, None, arith, codes}
+use Rattle.m51_disasm_proof.proofs.Common.{Instr, Nop, Field, Slot, Nothing, Imm, Plain, text_of, SourceLine, Target}
+use Rattle.m51_disasm_proof.proofs.Common.{Content}
 use Rattle.m51_isa.specs.declared.slot.Field.TheVariants as field
-use Rattle.m51_isa.specs.declared.slot.Slot.{Slot}
-use Rattle.m51_isa.specs.declared.slot.Slot.TheVariants.{Nothing, Imm, Plain}
-use Rattle.m51_isa.specs.Spelling.{text_of}
-use Rattle.m51_disasm.specs.declared.line.SourceLine.{SourceLine}
 use Rattle.m51_disasm.specs.declared.line.SourceLine.TheVariants as line
-use Rattle.m51_disasm.specs.declared.line.Target.{Target}
 use Rattle.m51_disasm.specs.declared.line.Target.TheVariants as target
-use Rattle.m51_disasm.specs.declared.statement.Content.{Content}
 use Rattle.m51_disasm.specs.declared.statement.Content.TheVariants as content
-use Rattle.m51_disasm.specs.Texts.{target_text, data_text, plain_text, operand_text, after, spelled, content_text}
+use Rattle.m51_disasm.specs.Texts.{target_text, data_text, plain_text, operand_text, operand_after, spelled}
+use Rattle.m51_disasm.specs.Texts.{content_text}
 use Rattle.m51_disasm.specs.Texts.{label_front, statement_text, line_text}
 
 target_few : (t : Target) → length (target_text t) ≤ 6
@@ -40,8 +33,8 @@ operand_few t (Imm f) = let few = data_few f.field f.number in omega (arith, few
 operand_few t (Plain f) = let few = plain_few t f.field f.number in omega (arith, few)
 operand_few t s = omega arith
 
-after_few : (sign : List ℕ) (t : Target) (s : Slot) → length sign ≤ 1 → length (after sign t s) ≤ 8
-unfolding after
+after_few : (sign : List ℕ) (t : Target) (s : Slot) → length sign ≤ 1 → length (operand_after sign t s) ≤ 8
+unfolding operand_after
 after_few sign t Nothing h = omega arith
 after_few sign t s h = let few = operand_few t s in let e = length-append sign (operand_text t s) in
     omega (arith, few, e, h)
@@ -62,8 +55,9 @@ content_few : (t : Target) (c : Content) → length (content_text t c) ≤ 29
 unfolding content_text spelled
 content_few t (content.Byte byte) = omega arith
 content_few t (content.Code i) =
-    joined_few (text_of i).mnemonic (after (codes " ") t (text_of i).first) (after (codes ",") t (text_of i).second)
-    (after (codes ",") t (text_of i).third)
+    joined_few (text_of i).mnemonic (operand_after (codes " ") t (text_of i).first)
+    (operand_after (codes ",") t (text_of i).second)
+    (operand_after (codes ",") t (text_of i).third)
     (mnemonic_few i) (after_few (codes " ") t (text_of i).first (omega arith))
     (after_few (codes ",") t (text_of i).second (omega arith))
     (after_few (codes ",") t (text_of i).third (omega arith))

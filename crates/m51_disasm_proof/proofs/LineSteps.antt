@@ -1,15 +1,9 @@
--- How each line of a disassembly changes the place of the next one.
-use Rattle.std.proofs.Common.{◌≡◌, ◌≢◌, ℕ, zero, suc, ◌+◌, ◌<◌, List, [], ◌∷◌, Some, refl, ap, ◌∙◌, arith}
-use Rattle.std.specs.Prelude.{slice_get}
-use Rattle.m51_stmt.specs.Statement.{BodyTree, Empty}
-use Rattle.m51_text.specs.Answer.{LineTree}
-use Rattle.m51_asm.specs.Assignment.{TextSegment, Assignment, body_at}
-use Rattle.m51_asm.specs.Fitting.{Fits}
-use Rattle.m51_disasm.specs.declared.line.SourceLine.{SourceLine}
+-- How each line of a disassembly changes the address of the next one.
+use Rattle.m51_disasm_proof.proofs.Common.{◌≡◌, ◌≢◌, ℕ, zero, suc, ◌+◌, ◌<◌, List, [], ◌∷◌, Some, refl, ap, ◌∙◌, arith}
+use Rattle.m51_disasm_proof.proofs.Common.{slice_get, BodyTree, LineTree, TextSegment, Assignment, body_at, Fits}
+use Rattle.m51_disasm_proof.proofs.Common.{SourceLine, meant, read_from, segment_after, line_size, IsSound}
+use Rattle.m51_stmt.specs.Statement.{Empty}
 use Rattle.m51_disasm.specs.declared.line.SourceLine.TheVariants as line
-use Rattle.m51_disasm_proof.specs.Meaning.{meant, read_from}
-use Rattle.m51_disasm_proof.specs.Places.{segment_after, line_size}
-use Rattle.m51_disasm_proof.specs.Sound.{IsSound}
 use Rattle.m51_disasm_proof.proofs.LinesStand.{LineStands, begins, keeps_line, content_keeps}
 
 -- how many bytes the open segment has after a line, from the number before the line
@@ -17,7 +11,7 @@ abbrev pub given_after : ℕ → SourceLine → ℕ
 given_after given (line.Segment base) = 0
 given_after given other = given + line_size other
 
--- the segment and the place of the next line
+-- the segment and the address of the next line
 pub step : (lines : List LineTree) (a : Assignment) (f : Fits lines a) (k : ℕ) (s : TextSegment) (given : ℕ)
     (l : SourceLine) → IsSound l → LineStands lines a f k s given
     → body_at lines k ≡ (meant l).body → LineStands lines a f (suc k) (segment_after k s l) (given_after given l)

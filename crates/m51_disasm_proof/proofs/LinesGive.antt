@@ -1,34 +1,23 @@
--- Each line of a disassembly gives the bytes of the image at its place.
-use Rattle.std.proofs.Common.{◌≡◌, ℕ, zero, suc, ◌+◌, ◌<◌, Bool, true, false, cond, List, [], ◌∷◌, ◌++◌, length, map}
-use Rattle.std.proofs.Common.{Option, Some, None, option_map, refl, sym, ap, ◌∙◌, subst, arith}
-use Rattle.std.specs.Prelude.{slice_get}
-use Rattle.std.specs.List.{AllByRecursion}
-use Rattle.m51_text.specs.Answer.{LineTree}
+-- Each line of a disassembly gives the bytes of the image at its address.
+use Rattle.m51_disasm_proof.proofs.Common.{◌≡◌, ℕ, zero, suc, ◌+◌, ◌<◌, Bool, true, false, cond, List, [], ◌∷◌, ◌++◌}
+use Rattle.m51_disasm_proof.proofs.Common.{length, map, Option, Some, None, option_map, refl, sym, ap, ◌∙◌, subst}
+use Rattle.m51_disasm_proof.proofs.Common.{arith, slice_get, AllByRecursion, LineTree, Stands, Assignment, body_at}
+use Rattle.m51_disasm_proof.proofs.Common.{Fits, object_segments, segment_number, SourceLine, Target, CodeRange}
+use Rattle.m51_disasm_proof.proofs.Common.{Content, Statement, is_among, beginnings, targets, written_target, line_of}
+use Rattle.m51_disasm_proof.proofs.Common.{IsInside, length_in, statements_of, label_text, body_of, read_from}
+use Rattle.m51_disasm_proof.proofs.Common.{lines_before, AreBytes, IsSound, StandsAt, IsNamed, code_value, bytes_at}
 use Rattle.m51_module.specs.Validity.{numbered}
 use Rattle.m51_encode.specs.declared.outcome.OperandOutcome.{OperandOutcome}
-use Rattle.m51_encode.specs.declared.outcome.OperandOutcome.TheVariants.{Stands}
 use Rattle.m51_emit.specs.Content.{content_by, outcomes_by}
-use Rattle.m51_asm.specs.Assignment.{Assignment, body_of as text_body, body_at}
+use Rattle.m51_asm.specs.Assignment.{body_of as text_body}
 use Rattle.m51_asm.specs.ContentFaults.{line_outcomes_by, line_outcomes}
-use Rattle.m51_asm.specs.Fitting.{Fits}
 use Rattle.m51_asm.specs.ObjectMeanings.{is_fixed, object_value, final}
-use Rattle.m51_asm.specs.ObjectSegments.{object_segments, segment_number}
 use Rattle.m51_asm.specs.Pieces.{content_at}
-use Rattle.m51_disasm.specs.declared.line.SourceLine.{SourceLine}
-use Rattle.m51_disasm.specs.declared.line.Target.{Target}
 use Rattle.m51_disasm.specs.declared.line.Target.TheVariants as target
-use Rattle.m51_disasm.specs.declared.part.CodeRange.{CodeRange}
-use Rattle.m51_disasm.specs.declared.statement.Content.{Content}
 use Rattle.m51_disasm.specs.declared.statement.Content.TheVariants as content
-use Rattle.m51_disasm.specs.declared.statement.Statement.{Statement}
-use Rattle.m51_disasm.specs.Lines.{is_among, beginnings, targets, written_target, line_of, lines_of}
-use Rattle.m51_disasm.specs.Parts.{IsInside}
-use Rattle.m51_disasm.specs.Statements.{statement_at, length_in, statements_of, target_of}
-use Rattle.m51_disasm.specs.Texts.{label_text}
-use Rattle.m51_disasm_proof.specs.Meaning.{body_of, read_from}
-use Rattle.m51_disasm_proof.specs.Places.{lines_before}
-use Rattle.m51_disasm_proof.specs.Sound.{AreBytes, IsSound}
-use Rattle.m51_disasm_proof.specs.Standing.{StandsAt, IsNamed, code_value, bytes_at, GivesBytes, LineGives}
+use Rattle.m51_disasm.specs.Lines.{lines_of}
+use Rattle.m51_disasm.specs.Statements.{statement_at, statement_target}
+use Rattle.m51_disasm_proof.specs.Standing.{GivesBytes, LineGives}
 use Rattle.m51_disasm_proof.proofs.KeptParts.{kept_parts, kept_are}
 use Rattle.m51_disasm_proof.proofs.LabelsKnown.{statement_line_at, place_value, stands_there, label_known}
 use Rattle.m51_disasm_proof.proofs.LineSteps.{line_read_at}
@@ -135,7 +124,7 @@ module _ (image : List ℕ) (bytes : AreBytes image) (before : List CodeRange) (
   named_by k address true begin led = label_in k address begin led
   named_by k address false begin led = tt
 
-  named : (k j : ℕ) (s : Statement) (o : Option ℕ) → slice_get statements j ≡ Some s → target_of s ≡ o
+  named : (k j : ℕ) (s : Statement) (o : Option ℕ) → slice_get statements j ≡ Some s → statement_target s ≡ o
       → IsNamed (final lines a k) number (written_target (beginnings statements) o)
   named k j s None e to = tt
   named k j s (Some address) e to =
@@ -149,19 +138,20 @@ module _ (image : List ℕ) (bytes : AreBytes image) (before : List CodeRange) (
       let k = lines_before image before + suc j in
       let l : SourceLine = line_of (beginnings statements) (targets statements) s in
       let names = final lines a k in
-      let t : Target = written_target (beginnings statements) (target_of s) in
+      let t : Target = written_target (beginnings statements) (statement_target s) in
       let there = one_of IsAtAddress statements j s all_there e in
       let is : body_at lines k ≡ body_of t s.content =
       ap text_body (line_read_at 1 (lines_of image (before ++ part ∷ after)) k l
       (statement_line_at image before part after j s e)) in
       let gives : GivesBytes names (a.form k) (body_of t s.content) (bytes_at image s.at (length_in s.content)) =
       subst (λ (x : Statement). GivesBytes names (a.form k)
-      (body_of (written_target (beginnings statements) (target_of x)) x.content)
+      (body_of (written_target (beginnings statements) (statement_target x)) x.content)
       (bytes_at image s.at (length_in x.content))) (sym there.is)
       (statement_gives image bytes (beginnings statements) end s.at names number (stands_in j s e there.small)
       (a.form k)
-      (subst (λ (x : Statement). IsNamed names number (written_target (beginnings statements) (target_of x))) there.is
-      (named k j s (target_of s) e refl))) in
+      (subst (λ (x : Statement). IsNamed names number (written_target (beginnings statements) (statement_target x)))
+      there.is
+      (named k j s (statement_target s) e refl))) in
       record {
         content = ap (content_by names (a.form k)) is ∙ gives.content;
         stand = subst StandAll (sym (ap (line_outcomes_by lines a k) is ∙ outcomes_of lines a k t s.content))

@@ -1,28 +1,21 @@
 -- No line of a disassembly has a fault by the lines above it.
-use Rattle.std.proofs.Common.{◌≡◌, ℕ, zero, suc, ◌+◌, ◌<◌, ◌≤◌, ◌==◌, ◌&&◌, ◌||◌, not, nat_lt, Bool, true, false, cond}
-use Rattle.std.proofs.Common.{List, [], ◌∷◌, length, Option, Some, None, refl, sym, ap, ◌∙◌, subst, arith}
-use Rattle.std.specs.List.{AllByRecursion}
-use Rattle.std.proofs.lemmas.Bool.{le-ltb, ne_eqb}
+use Rattle.m51_disasm_proof.proofs.Common.{◌≡◌, ℕ, zero, suc, ◌+◌, ◌<◌, ◌≤◌, ◌==◌, ◌&&◌, ◌||◌, not, nat_lt, Bool, true}
+use Rattle.m51_disasm_proof.proofs.Common.{false, cond, List, [], ◌∷◌, length, Option, Some, None, refl, sym, ap, ◌∙◌}
+use Rattle.m51_disasm_proof.proofs.Common.{subst, arith, AllByRecursion, ne_eqb, Meanings, LineTree, TextSegment}
+use Rattle.m51_disasm_proof.proofs.Common.{Assignment, body_at, above, Fits, SourceLine, Target, Content, body_of}
+use Rattle.m51_disasm_proof.proofs.Common.{meant, read_from, segment_after, line_size, IsSound}
+use Rattle.std.proofs.lemmas.Bool.{le-ltb}
 use Rattle.m51_cells.specs.declared.fault.TheConstants.{DEFINED_TWICE, BAD_FORM, PAST_THE_END, TOO_MANY}
 use Rattle.m51_cells.specs.declared.kind.Kind.TheVariants as kind
 use Rattle.m51_cells.specs.declared.kind.Reloc.TheVariants as reloc
 use Rattle.m51_cells.specs.Kinds.{is_absolute, same_kind}
-use Rattle.m51_expr.specs.Meanings.{Meanings}
 use Rattle.m51_expr.specs.Evaluation.{value_of}
-use Rattle.m51_text.specs.Answer.{LineTree}
-use Rattle.m51_asm.specs.Assignment.{TextSegment, Assignment, body_at, above}
-use Rattle.m51_asm.specs.Fitting.{Fits, size_at, filled, externals_in, externals_before}
-use Rattle.m51_asm.specs.PlacedFaults.{end_of, is_past, is_misplaced, is_numbered_by, segments_before, is_too_many}
+use Rattle.m51_asm.specs.Fitting.{size_at, filled, externals_in, externals_before}
+use Rattle.m51_asm.specs.PlacedFaults.{kind_end, is_past, is_misplaced, is_numbered_by, segments_before, is_too_many}
 use Rattle.m51_asm.specs.PlacedFaults.{operand_fault, placed_fault}
 use Rattle.m51_asm.specs.Repeats.{is_repeated}
-use Rattle.m51_disasm.specs.declared.line.SourceLine.{SourceLine}
 use Rattle.m51_disasm.specs.declared.line.SourceLine.TheVariants as line
-use Rattle.m51_disasm.specs.declared.line.Target.{Target}
-use Rattle.m51_disasm.specs.declared.statement.Content.{Content}
 use Rattle.m51_disasm.specs.declared.statement.Content.TheVariants as content
-use Rattle.m51_disasm_proof.specs.Meaning.{body_of, meant, read_from}
-use Rattle.m51_disasm_proof.specs.Places.{segment_after, line_size}
-use Rattle.m51_disasm_proof.specs.Sound.{IsSound}
 use Rattle.m51_disasm_proof.proofs.LinesStand.{Says, LineStands, size_of, spot_here}
 use Rattle.m51_disasm_proof.proofs.LineSteps.{given_after, step, of_bodies}
 
@@ -44,7 +37,7 @@ count_after count given l = count
 
 -- the bytes given to a segment end in program memory, the segment is not too large, and there are few enough segments
 pub record HasPlace (base given count : ℕ) : Type 0 where
-  pub place : base + given ≤ 65536
+  pub address : base + given ≤ 65536
   pub size : given ≤ 65535
   pub few : count + some given ≤ 254
 
@@ -201,18 +194,18 @@ module _ (lines : List LineTree) (a : Assignment) (f : Fits lines a) (none : (k 
         let t : TextSegment = segment_after k s l in
         let well = still_code k s l code in
         let spot = spot_here lines a f (suc k) t (given_after given l) next in
-        let end_is : end_of (a.segment (suc k)).kind ≡ 65536 = ap (λ (x : TextSegment). end_of x.kind) next.segment
-        ∙ ap end_of well.kind_is in
+        let end_is : kind_end (a.segment (suc k)).kind ≡ 65536 = ap (λ (x : TextSegment). kind_end x.kind) next.segment
+        ∙ ap kind_end well.kind_is in
         let base = base_is k s l in
         let fits_in : a.place (suc k) ≤ 65536 =
-        (let p = spot.place in let r = room.place in omega (arith, p, r, base)) in
+        (let p = spot.address in let r = room.address in omega (arith, p, r, base)) in
         let gave : filled lines a (a.segment (suc k)).id (suc k) ≡ given_after given l =
         ap (λ (x : TextSegment). filled lines a x.id (suc k)) next.segment ∙ next.given_is in
         let small = room.size in
         let most = room.few in
         let counted = count_is k s given count l sound code h is few in
         let not_past : is_past lines a k ≡ false =
-        (λ i. le-ltb (end_of (a.segment (suc k)).kind) (a.place (suc k)) (omega (arith, end_is, fits_in)) i
+        (λ i. le-ltb (kind_end (a.segment (suc k)).kind) (a.place (suc k)) (omega (arith, end_is, fits_in)) i
         || le-ltb 65535 (filled lines a (a.segment (suc k)).id (suc k)) (omega (arith, gave, small)) i) in
         let not_many : is_too_many lines a k ≡ false =
         (λ i. le-ltb 254 (segments_before lines a (suc k)) (omega (arith, counted, most)) i

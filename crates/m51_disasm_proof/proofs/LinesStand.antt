@@ -1,31 +1,26 @@
 -- The spots of the lines of a disassembly, under each assignment that fits them.
-use Rattle.std.proofs.Common.{◌≡◌, ◌≢◌, ℕ, zero, suc, ◌+◌, ◌<◌, ◌≤◌, ◌==◌, true, cond, List, [], ◌∷◌, Option, Some}
-use Rattle.std.proofs.Common.{refl, ap, sym, ◌∙◌, subst, arith, slice_get, eq-eqb, ⊎_elim}
-use Rattle.std.specs.List.{AllByRecursion}
-use Rattle.std.proofs.str.Laws.{order}
-use Rattle.std.proofs.lemmas.Bool.{ne_eqb}
+use Rattle.m51_disasm_proof.proofs.Common.{◌≡◌, ◌≢◌, ℕ, zero, suc, ◌+◌, ◌<◌, ◌≤◌, ◌==◌, true, cond, List, [], ◌∷◌}
+use Rattle.m51_disasm_proof.proofs.Common.{Option, Some, refl, ap, sym, ◌∙◌, subst, arith, eq-eqb, ⊎_elim}
+use Rattle.m51_disasm_proof.proofs.Common.{AllByRecursion, order, ne_eqb, Meanings, BodyTree, LineTree, TextSegment}
+use Rattle.m51_disasm_proof.proofs.Common.{Assignment, absolute, opening, body_at, above, Fits, SourceLine, Target}
+use Rattle.m51_disasm_proof.proofs.Common.{Content, meant, read_from, line_size, spots_from, IsSound}
+use Rattle.std.proofs.Common.{slice_get}
 use Rattle.m51_cells.specs.declared.kind.Kind.{Kind}
 use Rattle.m51_cells.specs.declared.kind.Kind.TheVariants as kind
 use Rattle.m51_expr.specs.Tree as tree
 use Rattle.m51_expr.specs.Evaluation.{value_of}
-use Rattle.m51_expr.specs.Meanings.{Meanings}
-use Rattle.m51_stmt.specs.Statement.{BodyTree, Select}
-use Rattle.m51_text.specs.Answer.{LineTree}
-use Rattle.m51_asm.specs.Assignment.{TextSegment, Assignment, absolute, opening, body_of, body_at, above, number_of}
-use Rattle.m51_asm.specs.Fitting.{last_absolute, segment_by, segment_behind, size_by, size_at, filled, Fits}
-use Rattle.m51_disasm.specs.declared.line.SourceLine.{SourceLine}
+use Rattle.m51_stmt.specs.Statement.{Select}
+use Rattle.m51_asm.specs.Assignment.{body_of}
+use Rattle.m51_asm.specs.Assignment.{number_or_zero}
+use Rattle.m51_asm.specs.Fitting.{last_absolute, segment_by, segment_behind, size_by, size_at, filled}
 use Rattle.m51_disasm.specs.declared.line.SourceLine.TheVariants as line
-use Rattle.m51_disasm.specs.declared.line.Target.{Target}
-use Rattle.m51_disasm.specs.declared.statement.Content.{Content}
 use Rattle.m51_disasm.specs.declared.statement.Content.TheVariants as content
 use Rattle.m51_disasm_proof.specs.Meaning as meaning
-use Rattle.m51_disasm_proof.specs.Meaning.{meant, read_from}
-use Rattle.m51_disasm_proof.specs.Places.{Spot, line_size, spots_from, IsSpot}
-use Rattle.m51_disasm_proof.specs.Sound.{IsSound}
+use Rattle.m51_disasm_proof.specs.Places.{Spot, IsSpot}
 use Rattle.m51_disasm_proof.proofs.CodeSizes.{size_is}
 
 -- the number of CSEG AT
-number_is : (names : Meanings) (base : ℕ) → number_of names (tree.Number base) ≡ base
+number_is : (names : Meanings) (base : ℕ) → number_or_zero names (tree.Number base) ≡ base
 unfolding value_of
 number_is names base = refl
 
@@ -131,46 +126,46 @@ module _ (lines : List LineTree) (a : Assignment) (f : Fits lines a) where
       goes_on k s given (line_size l) (meant l).body h is keeps (size_of k l sound is)
 
   pub spot_here : (k : ℕ) (s : TextSegment) (given : ℕ) → LineStands k s given
-      → IsSpot a k (record { segment = s; place = s.base + given })
+      → IsSpot a k (record { segment = s; address = s.base + given })
   spot_here k s given h = record {
     segment = h.segment;
-    place = f.places k ∙ (λ i. (h.segment i).base + filled lines a (h.segment i).id k)
+    address = f.places k ∙ (λ i. (h.segment i).base + filled lines a (h.segment i).id k)
         ∙ ap (λ n. s.base + n) h.given_is;
   }
 
   -- the lines from line k on are in their spots
-  spots_are : (ls : List SourceLine) (k : ℕ) (s : TextSegment) (given place : ℕ) → place ≡ s.base + given
+  spots_are : (ls : List SourceLine) (k : ℕ) (s : TextSegment) (given address : ℕ) → address ≡ s.base + given
       → AllByRecursion IsSound ls → LineStands k s given → Says lines k ls
-      → (j : ℕ) (spot : Spot) → slice_get (spots_from k s place ls) j ≡ Some spot → IsSpot a (k + j) spot
-  spots_are [] k s given place at sound h is j spot e = absurd (cc e)
-  spots_are (l ∷ ls) k s given place at sound h is zero spot e =
-      let same : record { segment = s; place = place } ≡ spot = cc e in
+      → (j : ℕ) (spot : Spot) → slice_get (spots_from k s address ls) j ≡ Some spot → IsSpot a (k + j) spot
+  spots_are [] k s given address at sound h is j spot e = absurd (cc e)
+  spots_are (l ∷ ls) k s given address at sound h is zero spot e =
+      let same : record { segment = s; address = address } ≡ spot = cc e in
       let here : k ≡ k + 0 = omega arith in
       subst (IsSpot a (k + 0)) same
-      (subst (λ n. IsSpot a (k + 0) (record { segment = s; place = n })) (sym at)
-      (subst (λ i. IsSpot a i (record { segment = s; place = s.base + given })) here (spot_here k s given h)))
-  spots_are (line.Nomod51 ∷ ls) k s given place at sound h is (suc j) spot e =
+      (subst (λ n. IsSpot a (k + 0) (record { segment = s; address = n })) (sym at)
+      (subst (λ i. IsSpot a i (record { segment = s; address = s.base + given })) here (spot_here k s given h)))
+  spots_are (line.Nomod51 ∷ ls) k s given address at sound h is (suc j) spot e =
       let next : suc k + j ≡ k + suc j = omega arith in
       subst (λ i. IsSpot a i spot) next
-      (spots_are ls (suc k) s (given + 0) (place + 0) (omega (arith, at)) sound.1
+      (spots_are ls (suc k) s (given + 0) (address + 0) (omega (arith, at)) sound.1
       (keeps_line k s given line.Nomod51 sound.0 h is.0 (λ lines k names last s. refl)) is.1 j spot e)
-  spots_are (line.Segment base ∷ ls) k s given place at sound h is (suc j) spot e =
+  spots_are (line.Segment base ∷ ls) k s given address at sound h is (suc j) spot e =
       let next : suc k + j ≡ k + suc j = omega arith in
       let begin : base ≡ base + 0 = omega arith in
       subst (λ i. IsSpot a i spot) next
       (spots_are ls (suc k) (absolute (k + 2) kind.Code base) 0 base begin sound.1 (begins k s given base h is.0) is.1 j
       spot e)
-  spots_are (line.Statement st ∷ ls) k s given place at sound h is (suc j) spot e =
+  spots_are (line.Statement st ∷ ls) k s given address at sound h is (suc j) spot e =
       let next : suc k + j ≡ k + suc j = omega arith in
       let n = line_size (line.Statement st) in
-      let moved : place + n ≡ s.base + (given + n) = omega (arith, at) in
+      let moved : address + n ≡ s.base + (given + n) = omega (arith, at) in
       subst (λ i. IsSpot a i spot) next
-      (spots_are ls (suc k) s (given + n) (place + n) moved sound.1
+      (spots_are ls (suc k) s (given + n) (address + n) moved sound.1
       (keeps_line k s given (line.Statement st) sound.0 h is.0 (content_keeps st.target st.content)) is.1 j spot e)
-  spots_are (line.End ∷ ls) k s given place at sound h is (suc j) spot e =
+  spots_are (line.End ∷ ls) k s given address at sound h is (suc j) spot e =
       let next : suc k + j ≡ k + suc j = omega arith in
       subst (λ i. IsSpot a i spot) next
-      (spots_are ls (suc k) s (given + 0) (place + 0) (omega (arith, at)) sound.1
+      (spots_are ls (suc k) s (given + 0) (address + 0) (omega (arith, at)) sound.1
       (keeps_line k s given line.End sound.0 h is.0 (λ lines k names last s. refl)) is.1 j spot e)
 
 -- under each assignment that fits, each line of a disassembly is in its spot

@@ -1,31 +1,22 @@
 -- Lines that give their bytes have no fault and no fixup, and a disassembly says nothing else.
-use Rattle.std.proofs.Common.{◌≡◌, ℕ, zero, suc, ◌+◌, ◌==◌, ◌||◌, Bool, true, false, cond, List, [], ◌∷◌, ◌++◌, length}
-use Rattle.std.proofs.Common.{map, flat_map, None, refl, ap, ◌∙◌}
-use Rattle.std.specs.List.{AllByRecursion, list_any}
-use Rattle.m51_expr.specs.Meanings.{Meanings}
+use Rattle.m51_disasm_proof.proofs.Common.{◌≡◌, ℕ, zero, suc, ◌+◌, ◌==◌, ◌||◌, Bool, true, false, cond, List, [], ◌∷◌}
+use Rattle.m51_disasm_proof.proofs.Common.{◌++◌, length, map, flat_map, None, refl, ap, ◌∙◌, AllByRecursion, list_any}
+use Rattle.m51_disasm_proof.proofs.Common.{Meanings, Stands, LineTree, Assignment, above, Kept, object_segments}
+use Rattle.m51_disasm_proof.proofs.Common.{segment_number, SourceLine, Target, CodeRange, Content, statements_of}
+use Rattle.m51_disasm_proof.proofs.Common.{body_of, meant, read_from}
 use Rattle.m51_module.specs.declared.content.Fixup.{Fixup}
 use Rattle.m51_module.specs.declared.segment.Segment.{Segment}
 use Rattle.m51_encode.specs.declared.outcome.OperandOutcome.{OperandOutcome}
-use Rattle.m51_encode.specs.declared.outcome.OperandOutcome.TheVariants.{Stands}
 use Rattle.m51_emit.specs.declared.content.EmittedContent.{EmittedContent as Given}
 use Rattle.m51_emit.specs.Outcomes.{made_with, part_fault, or_next, leftmost_fault}
 use Rattle.m51_emit.specs.Pieces.{fixup_of}
-use Rattle.m51_text.specs.Answer.{LineTree}
-use Rattle.m51_asm.specs.Assignment.{Assignment, above}
 use Rattle.m51_asm.specs.ContentFaults.{made_before, line_outcomes, content_fault, if_fault, faults_from}
-use Rattle.m51_asm.specs.ObjectSegments.{Kept, object_segments, segment_number}
 use Rattle.m51_asm.specs.Parts.{externals_by, externals, publics_by, publics_before, selects_by, is_selected, banks}
 use Rattle.m51_asm.specs.Parts.{name_by, name_in, version_of}
 use Rattle.m51_asm.specs.Pieces.{offset_at, fixups_from}
-use Rattle.m51_disasm.specs.declared.line.SourceLine.{SourceLine}
 use Rattle.m51_disasm.specs.declared.line.SourceLine.TheVariants as line
-use Rattle.m51_disasm.specs.declared.line.Target.{Target}
-use Rattle.m51_disasm.specs.declared.part.CodeRange.{CodeRange}
-use Rattle.m51_disasm.specs.declared.statement.Content.{Content}
 use Rattle.m51_disasm.specs.declared.statement.Content.TheVariants as content
-use Rattle.m51_disasm.specs.Statements.{statements_of}
-use Rattle.m51_disasm_proof.specs.Meaning.{body_of, meant, read_from}
-use Rattle.m51_disasm_proof.specs.Module.{segment_of}
+use Rattle.m51_disasm_proof.specs.Module.{range_segment}
 use Rattle.m51_disasm_proof.proofs.AllLinesGive.{GiveFrom}
 use Rattle.m51_disasm_proof.proofs.KeptParts.{kept_parts}
 use Rattle.m51_disasm_proof.proofs.LineSteps.{of_bodies}
@@ -39,12 +30,13 @@ stands_well (x ∷ outcomes) made h =
     ap (λ o. or_next (part_fault made o) (leftmost_fault (made_with made o) outcomes)) h.0
     ∙ stands_well outcomes made h.1
 
-pub no_content_faults : (lines : List LineTree) (a : Assignment) (image : List ℕ) (n k place : ℕ) (ls : List SourceLine)
-    → GiveFrom lines a image k place ls
+pub no_content_faults : (lines : List LineTree) (a : Assignment) (image : List ℕ) (n k address : ℕ)
+    (ls : List SourceLine)
+    → GiveFrom lines a image k address ls
     → faults_from (content_fault lines a) k (read_from n ls) ≡ []
 unfolding content_fault
-no_content_faults lines a image n k place [] gives = refl
-no_content_faults lines a image n k place (l ∷ ls) gives =
+no_content_faults lines a image n k address [] gives = refl
+no_content_faults lines a image n k address (l ∷ ls) gives =
     ap (λ o. if_fault (record { file = 0; line = n; stmt = meant l }) o
     (faults_from (content_fault lines a) (suc k) (read_from (n + 1) ls)))
     (stands_well (line_outcomes lines a k) (made_before lines a k) gives.0.stand)
@@ -56,11 +48,11 @@ both_none : (b : Bool) (xs : List Fixup) → xs ≡ [] → cond b xs xs ≡ []
 both_none true xs e = e
 both_none false xs e = e
 
-segment_fixups : (lines : List LineTree) (a : Assignment) (image : List ℕ) (s : Kept) (n k place : ℕ)
-    (ls : List SourceLine) → GiveFrom lines a image k place ls
+segment_fixups : (lines : List LineTree) (a : Assignment) (image : List ℕ) (s : Kept) (n k address : ℕ)
+    (ls : List SourceLine) → GiveFrom lines a image k address ls
     → fixups_from lines a s k (read_from n ls) ≡ []
-segment_fixups lines a image s n k place [] gives = refl
-segment_fixups lines a image s n k place (l ∷ ls) gives =
+segment_fixups lines a image s n k address [] gives = refl
+segment_fixups lines a image s n k address (l ∷ ls) gives =
     let more : List Fixup = fixups_from lines a s (suc k) (read_from (n + 1) ls) in
     ap (λ (c : Given). cond ((a.segment k).id == s.id)
     (map (fixup_of (object_segments lines a) (segment_number lines a s.id) (offset_at lines a k)) c.references
@@ -149,14 +141,14 @@ no_name other n (l ∷ ls) = line_name (name_in other (read_from (n + 1) ls)) l 
 -- ---- the segments
 
 pub segments_are : (image : List ℕ) (k : ℕ) (parts : List CodeRange)
-    → map (λ s. s.segment) (kept_parts image k parts) ≡ map segment_of parts
+    → map (λ s. s.segment) (kept_parts image k parts) ≡ map range_segment parts
 segments_are image k [] = refl
 segments_are image k (part ∷ parts) =
-    ap (λ l. segment_of part ∷ l) (segments_are image (suc k + length (statements_of image part)) parts)
+    ap (λ l. range_segment part ∷ l) (segments_are image (suc k + length (statements_of image part)) parts)
 
-no_arguments : (parts : List CodeRange) → list_any (λ (s : Segment). s.argument) (map segment_of parts) ≡ false
+no_arguments : (parts : List CodeRange) → list_any (λ (s : Segment). s.argument) (map range_segment parts) ≡ false
 no_arguments [] = refl
 no_arguments (part ∷ parts) = no_arguments parts
 
-pub first_version : (parts : List CodeRange) → version_of (map segment_of parts) ≡ 1
+pub first_version : (parts : List CodeRange) → version_of (map range_segment parts) ≡ 1
 first_version parts = ap (λ b. cond b 2 1) (no_arguments parts)

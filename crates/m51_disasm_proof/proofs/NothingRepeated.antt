@@ -1,19 +1,13 @@
 -- No line of a disassembly repeats a definition.
-use Rattle.std.proofs.Common.{◌≡◌, ℕ, ◌&&◌, ◌||◌, false, List, [], take, Option, Some, None, option_map, refl, ap, ◌∙◌}
-use Rattle.std.specs.Prelude.{slice_get}
-use Rattle.std.specs.List.{list_any}
-use Rattle.m51_text.specs.Answer.{LineTree}
+use Rattle.m51_disasm_proof.proofs.Common.{◌≡◌, ℕ, ◌&&◌, ◌||◌, false, List, [], take, Option, Some, None, option_map}
+use Rattle.m51_disasm_proof.proofs.Common.{refl, ap, ◌∙◌, slice_get, list_any, LineTree, SourceLine, Target, Content}
+use Rattle.m51_disasm_proof.proofs.Common.{label_text, body_of, meant, read_from}
 use Rattle.m51_asm.specs.Definitions.{Definition, Label, label_defined, definition_of}
 use Rattle.m51_asm.specs.Assignment.{defined_of}
 use Rattle.m51_asm.specs.Repeats.{clashes, or_here, repeats_from, repeats_a_name, publics_in, publics_again}
 use Rattle.m51_asm.specs.Repeats.{names_module, is_repeated}
-use Rattle.m51_disasm.specs.declared.line.SourceLine.{SourceLine}
 use Rattle.m51_disasm.specs.declared.line.SourceLine.TheVariants as line
-use Rattle.m51_disasm.specs.declared.line.Target.{Target}
-use Rattle.m51_disasm.specs.declared.statement.Content.{Content}
 use Rattle.m51_disasm.specs.declared.statement.Content.TheVariants as content
-use Rattle.m51_disasm.specs.Texts.{label_text}
-use Rattle.m51_disasm_proof.specs.Meaning.{body_of, meant, read_from}
 use Rattle.m51_disasm_proof.proofs.LineSteps.{of_bodies, line_read_at}
 use Rattle.m51_disasm_proof.proofs.LabelsDefined.{label_of, Ascends, defines_label, label_small, undefined_above}
 

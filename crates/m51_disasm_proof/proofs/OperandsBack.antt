@@ -1,31 +1,22 @@
 -- The operands of a disassembled instruction give the numbers that it was decoded with.
-use Rattle.std.proofs.Common.{◌≡◌, ℕ, ◌%◌, Bool, true, false, not, ◌&&◌, Option, Some, None, Ok, refl, ap, ◌∙◌, subst}
-use Rattle.std.proofs.Common.{arith}
+use Rattle.m51_disasm_proof.proofs.Common.{◌≡◌, ℕ, ◌%◌, Bool, true, false, not, ◌&&◌, Option, Some, None, Ok, refl, ap}
+use Rattle.m51_disasm_proof.proofs.Common.{◌∙◌, subst, arith, Instr, Nop, Field, FieldSlot, Slot, Imm, Plain, NotBit}
+use Rattle.m51_disasm_proof.proofs.Common.{Text, text_of, field_in, HasRoom, Meanings, Number, Target, operand_of}
+use Rattle.m51_disasm_proof.proofs.Common.{StandsAt, IsNamed, code_value}
 use Rattle.m51_cells.specs.declared.kind.Kind.TheVariants as kind
-use Rattle.m51_isa.specs.declared.instr.Instr.{Instr}
-use Rattle.m51_isa.specs.declared.instr.Instr.TheVariants.{Nop}
-use Rattle.m51_isa.specs.declared.slot.Field.{Field}
 use Rattle.m51_isa.specs.declared.slot.Field.TheVariants as field
-use Rattle.m51_isa.specs.declared.slot.FieldSlot.{FieldSlot}
-use Rattle.m51_isa.specs.declared.slot.Slot.{Slot}
-use Rattle.m51_isa.specs.declared.slot.Slot.TheVariants.{Imm, Plain, NotBit}
-use Rattle.m51_isa.specs.Spelling.{Text, text_of, field_in}
-use Rattle.m51_isa.specs.TextLaws.{kept, number_in, HasRoom}
+use Rattle.m51_isa.specs.TextLaws.{kept, number_of_slot}
 use Rattle.m51_expr.specs.Tree as tree
 use Rattle.m51_expr.specs.Tree.{Tree}
 use Rattle.m51_expr.specs.declared.value.Value.{Value}
 use Rattle.m51_expr.specs.Value.{plain}
-use Rattle.m51_expr.specs.Meanings.{Meanings}
 use Rattle.m51_expr.specs.Evaluation.{or_unknown, value_of}
-use Rattle.m51_encode.specs.declared.reference.FieldValue.TheVariants.{Number}
 use Rattle.m51_encode.specs.FieldValues.{field_of}
 use Rattle.m51_encode.specs.Filling.{and_then, or_out_of_range, held_at, valued, filled}
 use Rattle.m51_asm.proofs.ContentFields.{Held}
-use Rattle.m51_disasm.specs.declared.line.Target.{Target}
 use Rattle.m51_disasm.specs.declared.line.Target.TheVariants as target
 use Rattle.m51_disasm.specs.Statements.{leads_inside, stays_inside, address_by}
-use Rattle.m51_disasm_proof.specs.Meaning.{target_operand, operand_of}
-use Rattle.m51_disasm_proof.specs.Standing.{StandsAt, IsNamed, code_value}
+use Rattle.m51_disasm_proof.specs.Meaning.{target_operand}
 use Rattle.m51_disasm_proof.proofs.FieldsBack.{Own, Bare, address_back, data_back, data16_back, direct_back, bit_back}
 
 -- ---- what operands rows have
@@ -81,7 +72,7 @@ abbrev number_held : ℕ → ℕ → Held
 number_held byte number = held_at byte (Number number)
 
 abbrev pub held_in : Slot → Held
-held_in s = number_held (byte_in s) (number_in s)
+held_in s = number_held (byte_in s) (number_of_slot s)
 
 -- what is found in a field goes into it
 value_given : (names : Meanings) (next : ℕ) (at : Field) (byte number : ℕ) (v : Value)
@@ -178,9 +169,9 @@ module _ (names : Meanings) (segment at : ℕ) (s : StandsAt names segment at) w
       → IsLed next t (field_in o) → IsNamed names segment t → filled names (next % 65536) (field_in o) (operand_of t o)
       ≡ Ok (held_in o)
   slot_given t next (Imm f) usual room inside led named =
-      data_given t (next % 65536) f.field f.byte f.number usual (ap number_in room)
+      data_given t (next % 65536) f.field f.byte f.number usual (ap number_of_slot room)
   slot_given t next (Plain f) usual room inside led named =
-      address_given t next f.field f.byte f.number usual (ap number_in room) inside led named
+      address_given t next f.field f.byte f.number usual (ap number_of_slot room) inside led named
   slot_given t next (NotBit f) usual room inside led named =
-      bit_given t (next % 65536) f.field f.byte f.number usual (ap number_in room)
+      bit_given t (next % 65536) f.field f.byte f.number usual (ap number_of_slot room)
   slot_given t next o usual room inside led named = refl

@@ -1,29 +1,22 @@
 -- The operands of a disassembled instruction are cut into the words of the operands that are meant.
-use Rattle.std.proofs.Common.{◌≡◌, ℕ, zero, suc, ◌%◌, ◌<◌, true, false, Bool, map, List, ◌∷◌, ◌++◌, Some, refl, sym}
-use Rattle.std.proofs.Common.{◌∙◌, arith, subst}
-use Rattle.std.specs.Prelude.{codes}
-use Rattle.m51_isa.specs.declared.slot.Field.{Field}
+use Rattle.m51_disasm_proof.proofs.Common.{◌≡◌, ℕ, zero, suc, ◌%◌, ◌<◌, true, false, Bool, map, List, ◌∷◌, ◌++◌, Some}
+use Rattle.m51_disasm_proof.proofs.Common.{refl, sym, ◌∙◌, arith, subst, codes, Field, Slot, Nothing, R, AtR, Imm}
+use Rattle.m51_disasm_proof.proofs.Common.{Plain, NotBit, name_of, OperandTree, Word, symbol, name_word, number_word}
+use Rattle.m51_disasm_proof.proofs.Common.{sign_word, Target, label_text, byte_text, word_text, operand_of, IsSlot}
 use Rattle.m51_isa.specs.declared.slot.Field.TheVariants as field
-use Rattle.m51_isa.specs.declared.slot.Slot.{Slot}
-use Rattle.m51_isa.specs.declared.slot.Slot.TheVariants.{Nothing, A, Ab, C, Dptr, APc, ADptr, AtDptr, R, AtR, Imm}
-use Rattle.m51_isa.specs.declared.slot.Slot.TheVariants.{Plain, NotBit}
+use Rattle.m51_isa.specs.declared.slot.Slot.TheVariants.{A, Ab, C, Dptr, APc, ADptr, AtDptr}
 use Rattle.m51_isa.specs.Spelling as isa
 use Rattle.m51_isa.proofs.Distinct.{of_register}
-use Rattle.m51_cells.specs.Name.{name_of}
 use Rattle.m51_expr.specs.Tree as tree
 use Rattle.m51_expr.specs.Looks as looks
 use Rattle.m51_stmt.specs.Statement as meant
-use Rattle.m51_stmt.specs.Statement.{OperandTree}
 use Rattle.m51_stmt.specs.Printing.{register_word}
-use Rattle.m51_stmt.proofs.LineCuts.{Word, symbol}
-use Rattle.m51_stmt.proofs.WordCuts.{name_word, number_word, sign_word}
 use Rattle.m51_stmt.proofs.PrintedOperands.{IsOperand, operand_words, register_written}
-use Rattle.m51_disasm.specs.declared.line.Target.{Target}
 use Rattle.m51_disasm.specs.declared.line.Target.TheVariants as target
-use Rattle.m51_disasm.specs.Texts.{label_text, byte_text, word_text, digit_text, target_text, data_text, plain_text}
+use Rattle.m51_disasm.specs.Texts.{digit_text, target_text, data_text, plain_text}
 use Rattle.m51_disasm.specs.Texts.{operand_text}
-use Rattle.m51_disasm_proof.specs.Meaning.{target_operand, address_operand, operand_of}
-use Rattle.m51_disasm_proof.specs.Sound.{IsTarget, IsAddress, IsSlot}
+use Rattle.m51_disasm_proof.specs.Meaning.{target_operand, address_operand}
+use Rattle.m51_disasm_proof.specs.Sound.{IsTarget, IsAddress}
 use Rattle.m51_disasm_proof.proofs.CutLines.{IsCutInto, after_word}
 use Rattle.m51_disasm_proof.proofs.StandingWords.{Ends, name_stands, at_stands, plus_stands, hash_stands, slash_stands}
 use Rattle.m51_disasm_proof.proofs.StandingWords.{byte_word, byte_stands, word_stands}

@@ -1,17 +1,10 @@
 -- The lines of a disassembly, part by part.
-use Rattle.std.proofs.Common.{◌≡◌, ℕ, suc, ◌+◌, ◌-◌, List, [], ◌∷◌, ◌++◌, length, map, flat_map, append_assoc, refl, ap}
-use Rattle.std.proofs.Common.{◌∙◌, subst, arith}
-use Rattle.std.specs.List.{AllByRecursion}
-use Rattle.m51_text.specs.Answer.{LineTree}
-use Rattle.m51_asm.specs.Assignment.{TextSegment, Assignment}
-use Rattle.m51_asm.specs.Fitting.{Fits}
-use Rattle.m51_disasm.specs.declared.line.SourceLine.{SourceLine}
+use Rattle.m51_disasm_proof.proofs.Common.{◌≡◌, ℕ, suc, ◌+◌, ◌-◌, List, [], ◌∷◌, ◌++◌, length, map, flat_map}
+use Rattle.m51_disasm_proof.proofs.Common.{append_assoc, refl, ap, ◌∙◌, subst, arith, AllByRecursion, LineTree}
+use Rattle.m51_disasm_proof.proofs.Common.{TextSegment, Assignment, Fits, SourceLine, CodeRange, Statement, line_of}
+use Rattle.m51_disasm_proof.proofs.Common.{statement_lines, length_in, statements_of, IsSound}
 use Rattle.m51_disasm.specs.declared.line.SourceLine.TheVariants as line
-use Rattle.m51_disasm.specs.declared.part.CodeRange.{CodeRange}
-use Rattle.m51_disasm.specs.declared.statement.Statement.{Statement}
-use Rattle.m51_disasm.specs.Lines.{line_of, statement_lines, part_lines, lines_of}
-use Rattle.m51_disasm.specs.Statements.{length_in, statements_of}
-use Rattle.m51_disasm_proof.specs.Sound.{IsSound}
+use Rattle.m51_disasm.specs.Lines.{part_lines, lines_of}
 use Rattle.m51_disasm_proof.proofs.LabelsAscend.{follows_to}
 use Rattle.m51_disasm_proof.proofs.LinesStand.{Says, LineStands}
 use Rattle.m51_disasm_proof.proofs.LineSteps.{step}
@@ -40,7 +33,7 @@ pub whole_is : (image : List ℕ) (parts : List CodeRange) → lines_of image pa
 unfolding lines_of
 whole_is image parts = ap (λ l. line.Nomod51 ∷ l) (rest_is image parts)
 
--- the segment and the place of the lines after statements
+-- the segment and the address of the lines after statements
 pub record IsThrough (lines : List LineTree) (a : Assignment) (f : Fits lines a) (k : ℕ) (s : TextSegment) (given : ℕ)
     (rest : List SourceLine) : Type 0 where
   pub stands : LineStands lines a f k s given

@@ -1,26 +1,16 @@
 -- The pieces of a disassembly are the bytes of its parts.
-use Rattle.std.proofs.Common.{◌≡◌, ℕ, suc, ◌+◌, ◌-◌, ◌<◌, ◌≤◌, cond, List, [], ◌∷◌, ◌++◌, length, length-append, map}
-use Rattle.std.proofs.Common.{flat_map, append_assoc, append-nil, Some, option_map, refl, sym, ap, ◌∙◌, arith, eq-eqb}
-use Rattle.std.specs.List.{AllByRecursion}
-use Rattle.std.proofs.lemmas.Bool.{ne_eqb}
+use Rattle.m51_disasm_proof.proofs.Common.{◌≡◌, ℕ, suc, ◌+◌, ◌-◌, ◌<◌, ◌≤◌, cond, List, [], ◌∷◌, ◌++◌, length}
+use Rattle.m51_disasm_proof.proofs.Common.{length-append, map, flat_map, append_assoc, append-nil, Some, option_map}
+use Rattle.m51_disasm_proof.proofs.Common.{refl, sym, ap, ◌∙◌, arith, eq-eqb, AllByRecursion, ne_eqb, LineTree}
+use Rattle.m51_disasm_proof.proofs.Common.{TextSegment, Assignment, absolute, opening, Fits, Kept, segment_number}
+use Rattle.m51_disasm_proof.proofs.Common.{SourceLine, CodeRange, Statement, beginnings, targets, IsInside}
+use Rattle.m51_disasm_proof.proofs.Common.{statements_of, read_from, IsSound, bytes_at}
 use Rattle.m51_cells.specs.declared.kind.Kind.TheVariants as kind
-use Rattle.m51_text.specs.Answer.{LineTree}
 use Rattle.m51_emit.specs.Pieces.{pieces_of_run}
-use Rattle.m51_asm.specs.Assignment.{TextSegment, Assignment, absolute, opening}
-use Rattle.m51_asm.specs.Fitting.{Fits}
-use Rattle.m51_asm.specs.ObjectSegments.{Kept, absolute_of, from_one, place_in, number_in, kept, segment_number}
+use Rattle.m51_asm.specs.ObjectSegments.{absolute_of, from_one, place_in, number_in, kept}
 use Rattle.m51_asm.specs.Pieces.{runs_from, segment_pieces, pieces}
-use Rattle.m51_disasm.specs.declared.line.SourceLine.{SourceLine}
 use Rattle.m51_disasm.specs.declared.line.SourceLine.TheVariants as line
-use Rattle.m51_disasm.specs.declared.part.CodeRange.{CodeRange}
-use Rattle.m51_disasm.specs.declared.statement.Statement.{Statement}
-use Rattle.m51_disasm.specs.Lines.{beginnings, targets}
-use Rattle.m51_disasm.specs.Parts.{IsInside}
-use Rattle.m51_disasm.specs.Statements.{statements_of}
-use Rattle.m51_disasm_proof.specs.Meaning.{read_from}
 use Rattle.m51_disasm_proof.specs.Module.{pieces_from}
-use Rattle.m51_disasm_proof.specs.Sound.{IsSound}
-use Rattle.m51_disasm_proof.specs.Standing.{bytes_at}
 use Rattle.m51_disasm_proof.proofs.AllLinesGive.{GiveFrom, gives_after}
 use Rattle.m51_disasm_proof.proofs.KeptParts.{kept_parts, kept_are, lines_of_part, length_read}
 use Rattle.m51_disasm_proof.proofs.LinesStand.{Says, LineStands, at_start, says_all}
@@ -71,15 +61,15 @@ module _ (lines : List LineTree) (a : Assignment) (f : Fits lines a) (image : Li
       ∙ append-nil (pieces_of_run number (0, bytes_at image part.base part.size))
 
   -- the pieces of parts, before whose segments there are others
-  parts_pieces : (parts : List CodeRange) (xs : List Kept) (k place : ℕ) (s : TextSegment) (given : ℕ)
+  parts_pieces : (parts : List CodeRange) (xs : List Kept) (k address : ℕ) (s : TextSegment) (given : ℕ)
       → AllByRecursion IsInside parts → AllByRecursion IsSound (rest_of image parts)
       → LineStands lines a f k s given → Says lines k (rest_of image parts)
-      → GiveFrom lines a image k place (rest_of image parts)
+      → GiveFrom lines a image k address (rest_of image parts)
       → length lines ≡ k + length (rest_of image parts) → kept lines a ≡ xs ++ kept_parts image k parts
       → AreBelow (k + 2) xs
       → flat_map (segment_pieces lines a) (kept_parts image k parts) ≡ pieces_from (suc (length xs)) image parts
-  parts_pieces [] xs k place s given inside sound h is gives count all below = refl
-  parts_pieces (part ∷ parts) xs k place s given inside sound h is gives count all below =
+  parts_pieces [] xs k address s given inside sound h is gives count all below = refl
+  parts_pieces (part ∷ parts) xs k address s given inside sound h is gives count all below =
       let statements : List Statement = statements_of image part in
       let begin = beginnings statements in
       let led = targets statements in
@@ -92,7 +82,7 @@ module _ (lines : List LineTree) (a : Assignment) (f : Fits lines a) (image : Li
       (part_follows image part) next sound.1 is.1 in
       let number : segment_number lines a y.id ≡ suc (length xs) =
       number_after (kept lines a) xs (kept_parts image later parts) y all below in
-      let run = part_run lines a f image part parts k place s given inside.0.some sound h is gives count in
+      let run = part_run lines a f image part parts k address s given inside.0.some sound h is gives count in
       let more : suc (length (xs ++ y ∷ [])) ≡ suc (suc (length xs)) =
       (let e = length-append xs (y ∷ []) in omega (arith, e)) in
       let rest_pieces = parts_pieces parts (xs ++ y ∷ []) later (part.base + part.size) t

@@ -1,25 +1,17 @@
 -- The bytes of each part of a disassembly are one run.
-use Rattle.std.proofs.Common.{◌≡◌, ◌≢◌, ℕ, zero, suc, ◌+◌, ◌-◌, ◌<◌, ◌==◌, Bool, true, false, cond, List, [], ◌∷◌, ◌++◌}
-use Rattle.std.proofs.Common.{length, map, append-nil, refl, sym, ap, ◌∙◌, arith, eq-eqb, slice_index}
-use Rattle.std.specs.List.{AllByRecursion}
-use Rattle.std.proofs.lemmas.Bool.{ne_eqb}
+use Rattle.m51_disasm_proof.proofs.Common.{◌≡◌, ◌≢◌, ℕ, zero, suc, ◌+◌, ◌-◌, ◌<◌, ◌==◌, Bool, true, false, cond, List}
+use Rattle.m51_disasm_proof.proofs.Common.{[], ◌∷◌, ◌++◌, length, map, append-nil, refl, sym, ap, ◌∙◌, arith, eq-eqb}
+use Rattle.m51_disasm_proof.proofs.Common.{slice_index, AllByRecursion, ne_eqb, LineTree, TextSegment, Assignment}
+use Rattle.m51_disasm_proof.proofs.Common.{absolute, Fits, SourceLine, CodeRange, Statement, beginnings, targets}
+use Rattle.m51_disasm_proof.proofs.Common.{line_of, statement_lines, length_in, statements_of, segment_after, IsSound}
+use Rattle.m51_disasm_proof.proofs.Common.{bytes_at}
 use Rattle.std.proofs.lemmas.List.FromFn.{length-map-range_with_len}
 use Rattle.m51_cells.specs.declared.kind.Kind.TheVariants as kind
-use Rattle.m51_text.specs.Answer.{LineTree}
 use Rattle.m51_emit.specs.declared.content.EmittedContent.{EmittedContent}
 use Rattle.m51_emit.specs.Pieces.{Run, if_bytes}
-use Rattle.m51_asm.specs.Assignment.{TextSegment, Assignment, absolute}
-use Rattle.m51_asm.specs.Fitting.{filled, Fits}
+use Rattle.m51_asm.specs.Fitting.{filled}
 use Rattle.m51_asm.specs.Pieces.{content_at, offset_at, runs_from}
-use Rattle.m51_disasm.specs.declared.line.SourceLine.{SourceLine}
 use Rattle.m51_disasm.specs.declared.line.SourceLine.TheVariants as line
-use Rattle.m51_disasm.specs.declared.part.CodeRange.{CodeRange}
-use Rattle.m51_disasm.specs.declared.statement.Statement.{Statement}
-use Rattle.m51_disasm.specs.Lines.{beginnings, targets, line_of, statement_lines}
-use Rattle.m51_disasm.specs.Statements.{length_in, statements_of}
-use Rattle.m51_disasm_proof.specs.Places.{segment_after}
-use Rattle.m51_disasm_proof.specs.Sound.{IsSound}
-use Rattle.m51_disasm_proof.specs.Standing.{bytes_at}
 use Rattle.m51_disasm_proof.proofs.AllLinesGive.{GiveFrom, gives_after}
 use Rattle.m51_disasm_proof.proofs.LabelsAscend.{follows_to}
 use Rattle.m51_disasm_proof.proofs.LinesStand.{Says, LineStands}
@@ -114,15 +106,15 @@ module _ (lines : List LineTree) (a : Assignment) (f : Fits lines a) (image : Li
       (step lines a f k s given l sound.0 h is.0) is.1 (omega (arith, low)) (other_segment k id s l low ne)
 
   -- nor to the one that is open where a part begins or END comes
-  none_after : (parts : List CodeRange) (k place : ℕ) (s : TextSegment) (given : ℕ)
+  none_after : (parts : List CodeRange) (k address : ℕ) (s : TextSegment) (given : ℕ)
       → AllByRecursion IsSound (rest_of image parts) → LineStands lines a f k s given
       → Says lines k (rest_of image parts)
-      → GiveFrom lines a image k place (rest_of image parts) → runs_of lines a s.id k (length (rest_of image parts))
+      → GiveFrom lines a image k address (rest_of image parts) → runs_of lines a s.id k (length (rest_of image parts))
       ≡ []
   unfolding runs_of
-  none_after [] k place s given sound h is gives =
+  none_after [] k address s given sound h is gives =
       bare lines a s.id k 0 (ap (λ (c : EmittedContent). c.bytes) gives.0.content)
-  none_after (part ∷ parts) k place s given sound h is gives =
+  none_after (part ∷ parts) k address s given sound h is gives =
       let l : SourceLine = line.Segment part.base in
       let more : List SourceLine = statement_lines (statements_of image part) ++ rest_of image parts in
       let id_is : (a.segment k).id ≡ s.id = ap (λ (x : TextSegment). x.id) h.segment in
@@ -176,13 +168,13 @@ some_run image at (suc n) h = refl
 
 -- a part is one run
 pub part_run : (lines : List LineTree) (a : Assignment) (f : Fits lines a) (image : List ℕ) (part : CodeRange)
-    (parts : List CodeRange) (k place : ℕ) (s : TextSegment) (given : ℕ) → 0 < part.size
+    (parts : List CodeRange) (k address : ℕ) (s : TextSegment) (given : ℕ) → 0 < part.size
     → AllByRecursion IsSound (rest_of image (part ∷ parts)) → LineStands lines a f k s given
     → Says lines k (rest_of image (part ∷ parts))
-    → GiveFrom lines a image k place (rest_of image (part ∷ parts))
+    → GiveFrom lines a image k address (rest_of image (part ∷ parts))
     → length lines ≡ k + length (rest_of image (part ∷ parts))
     → runs_from lines a (k + 2) 0 lines ≡ (0, bytes_at image part.base part.size) ∷ []
-part_run lines a f image part parts k place s given some sound h is gives count =
+part_run lines a f image part parts k address s given some sound h is gives count =
     let statements : List Statement = statements_of image part in
     let begin = beginnings statements in
     let led = targets statements in

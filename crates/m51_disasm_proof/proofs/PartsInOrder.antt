@@ -1,10 +1,10 @@
 -- The parts of a sound layout are in order, and none of them reaches into the next.
-use Rattle.std.proofs.Common.{◌≡◌, ◌≢◌, ◌⊎◌, inl, inr, ℕ, zero, suc, ◌+◌, ◌<◌, ◌≤◌, ◌==◌, Bool, true, false, cond, List}
-use Rattle.std.proofs.Common.{[], ◌∷◌, map, Some, refl, sym, ap, ◌∙◌, subst, arith, ⊎_elim}
-use Rattle.std.specs.Prelude.{slice_get}
+use Rattle.m51_disasm_proof.proofs.Common.{◌≡◌, ◌≢◌, ℕ, zero, suc, ◌+◌, ◌<◌, ◌≤◌, ◌==◌, Bool, true, false, cond, List}
+use Rattle.m51_disasm_proof.proofs.Common.{[], ◌∷◌, map, Some, refl, sym, ap, ◌∙◌, subst, arith, ⊎_elim, slice_get}
+use Rattle.m51_disasm_proof.proofs.Common.{order, ltb-true, LayoutParts, CodeRange}
+use Rattle.std.proofs.Common.{◌⊎◌, inl, inr}
 use Rattle.std.specs.List.{filter}
-use Rattle.std.proofs.str.Laws.{order}
-use Rattle.std.proofs.lemmas.Bool.{eqb-true, ltb-true}
+use Rattle.std.proofs.lemmas.Bool.{eqb-true}
 use Rattle.m51_cells.specs.Extent.{Meet, extent_of}
 use Rattle.m51_cells.specs.declared.extent.Extent.{Extent}
 use Rattle.m51_cells.specs.declared.kind.Kind.TheVariants as kind
@@ -12,10 +12,8 @@ use Rattle.m51_module.specs.Cells.{extent_at, code_cell}
 use Rattle.m51_module.specs.Conflict.{FirstPlain}
 use Rattle.m51_module.specs.Plan.{IsCodeSegment, IsPlaced, IsOverlaid}
 use Rattle.m51_module.specs.Sound.{IsSound}
-use Rattle.m51_module.specs.declared.parts.LayoutParts.{LayoutParts}
 use Rattle.m51_module.specs.declared.placed.Placed.{Placed}
-use Rattle.m51_disasm.specs.declared.part.CodeRange.{CodeRange}
-use Rattle.m51_disasm.specs.Parts.{part_of, has_bytes, units_of, parts_below, parts_of}
+use Rattle.m51_disasm.specs.Parts.{placed_range, has_bytes, unit_ranges, parts_below, code_ranges}
 use Rattle.m51_asm.proofs.Members.{In, Every, Pairs, no_element, in_first, in_later, in_cons, in_append, in_map, at_in}
 use Rattle.m51_asm.proofs.Members.{pairs_append, pairs_map, pairs_weaker}
 use Rattle.m51_disasm_proof.specs.Sound.{HaveSizes}
@@ -111,7 +109,7 @@ no_meeting a b m n none some more =
 
 module _ (l : LayoutParts) (sound : IsSound l) where
   abbrev unit_part : ℕ → CodeRange
-  unit_part index = part_of (slice_get l.placed index)
+  unit_part index = placed_range (slice_get l.placed index)
 
   plain : (s : ℕ) (p : Placed) → IsPlaced l s p → IsCodeSegment p → IsOverlaid l s → ⊥
   plain s p placed code over =
@@ -122,7 +120,7 @@ module _ (l : LayoutParts) (sound : IsSound l) where
   code_extent p e = ap (λ k. extent_of k p.base p.size) e
 
   placed_apart : (s t : ℕ) (p q : Placed) → s ≢ t → IsPlaced l s p → IsPlaced l t q → IsCodeSegment p → IsCodeSegment q
-      → Apart (part_of (Some p)) (part_of (Some q))
+      → Apart (placed_range (Some p)) (placed_range (Some q))
   placed_apart s t p q ne one two code other =
       no_meeting p.base q.base p.size q.size
       (λ meet. sound.apart s t p q one two ne (FirstPlain (plain s p one code))
@@ -135,14 +133,14 @@ module _ (l : LayoutParts) (sound : IsSound l) where
       let p = sound.is_code u s one in
       let q = sound.is_code v t two in
       let ne : s ≢ t = λ e. let same = sound.once u v t (one ∙ ap (λ x. Some x) e) two in omega (arith, less, same) in
-      subst (λ o. Apart (part_of o) (unit_part t)) (sym p.1)
-      (subst (λ o. Apart (part_of (Some p.0)) (part_of o)) (sym q.1)
+      subst (λ o. Apart (placed_range o) (unit_part t)) (sym p.1)
+      (subst (λ o. Apart (placed_range (Some p.0)) (placed_range o)) (sym q.1)
       (placed_apart s t p.0 q.0 ne p.1 q.1 p.2 q.2))))
 
   -- ---- in the order of their bases
 
   abbrev all : List CodeRange
-  all = units_of l
+  all = unit_ranges l
 
   all_apart : Pairs Apart all
   all_apart = pairs_filter Apart has_bytes (map unit_part l.units) units_apart
@@ -205,15 +203,15 @@ module _ (l : LayoutParts) (sound : IsSound l) where
   in_order low [] first h = tt
   in_order low (p ∷ ps) first h = (first p (in_first p ps), in_order (p.base + p.size) ps (λ q i. h.0 q i) h.1)
 
-  pub parts_in_order : AreInOrder 0 (parts_of l)
-  unfolding parts_of
+  pub parts_in_order : AreInOrder 0 (code_ranges l)
+  unfolding code_ranges
   parts_in_order = in_order 0 (parts_below all 0x10000) (λ p i. omega arith) (below_ordered 0x10000)
 
   -- sizes of two bytes
-  pub parts_small : HaveSizes l → (p : CodeRange) → In p (parts_of l) → p.size < 65536
-  unfolding parts_of
+  pub parts_small : HaveSizes l → (p : CodeRange) → In p (code_ranges l) → p.size < 65536
+  unfolding code_ranges
   parts_small sizes p i =
       let c = in_map unit_part l.units p (in_filter has_bytes (map unit_part l.units) p (below_from 0x10000 p i).0).1 in
       let at = at_in l.units c.from c.there in
       let code = sound.is_code at.index c.from at.got in
-      subst (λ (q : CodeRange). q.size < 65536) (ap part_of (sym code.1) ∙ c.is) (sizes c.from code.0 code.1)
+      subst (λ (q : CodeRange). q.size < 65536) (ap placed_range (sym code.1) ∙ c.is) (sizes c.from code.0 code.1)

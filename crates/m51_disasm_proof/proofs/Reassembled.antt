@@ -1,28 +1,22 @@
 -- A disassembly is assembled to its parts with the bytes of the image.
-use Rattle.std.proofs.Common.{◌≡◌, ℕ, ◌+◌, ◌≤◌, List, length, get_or, map, refl, sym, ap, ◌∙◌, subst, arith}
-use Rattle.std.specs.List.{AllByRecursion}
+use Rattle.m51_disasm_proof.proofs.Common.{◌≡◌, ℕ, ◌+◌, ◌≤◌, List, length, get_or, map, refl, sym, ap, ◌∙◌, subst}
+use Rattle.m51_disasm_proof.proofs.Common.{arith, AllByRecursion, LineTree, Assignment, opening, Fits, Kept}
+use Rattle.m51_disasm_proof.proofs.Common.{object_segments, SourceLine, CodeRange, IsInside, read_from, AreBytes}
+use Rattle.m51_disasm_proof.proofs.Common.{IsSound}
 use Rattle.std.proofs.lemmas.List.{get_or_default}
 use Rattle.std.proofs.lemmas.Option.{slice_get_read}
-use Rattle.m51_text.specs.Answer.{LineTree}
 use Rattle.m51_asm.specs.Answer.{Gives, content_or_faults, answer_of_lines}
 use Rattle.m51_asm.specs.AnswerRows.{rows}
-use Rattle.m51_asm.specs.Assignment.{Assignment, opening}
 use Rattle.m51_asm.specs.FirstFault.{AreFree}
-use Rattle.m51_asm.specs.Fitting.{Fits}
 use Rattle.m51_asm.specs.Naming.{module_name}
-use Rattle.m51_asm.specs.ObjectSegments.{Kept, kept, object_segments}
+use Rattle.m51_asm.specs.ObjectSegments.{kept}
 use Rattle.m51_asm.specs.Parts.{parts as module_parts, version_of}
 use Rattle.m51_asm.specs.PlacedFaults.{segments_before, placed_fault}
 use Rattle.m51_asm.proofs.FirstFaults.{content_answer}
 use Rattle.m51_asm.specs.Repeats.{is_repeated}
-use Rattle.m51_disasm.specs.declared.line.SourceLine.{SourceLine}
 use Rattle.m51_disasm.specs.declared.line.SourceLine.TheVariants as line
-use Rattle.m51_disasm.specs.declared.part.CodeRange.{CodeRange}
 use Rattle.m51_disasm.specs.Lines.{lines_of}
-use Rattle.m51_disasm.specs.Parts.{IsInside}
-use Rattle.m51_disasm_proof.specs.Meaning.{read_from}
-use Rattle.m51_disasm_proof.specs.Module.{segment_of, module_of}
-use Rattle.m51_disasm_proof.specs.Sound.{AreBytes, IsSound}
+use Rattle.m51_disasm_proof.specs.Module.{range_segment, module_of}
 use Rattle.m51_disasm_proof.specs.Standing.{AreFaultless}
 use Rattle.m51_disasm_proof.proofs.AllLinesGive.{GiveFrom, all_give}
 use Rattle.m51_disasm_proof.proofs.KeptParts.{kept_are, length_read}
@@ -81,7 +75,7 @@ module _ (image : List ℕ) (bytes : AreBytes image) (parts : List CodeRange) (i
   whole_faultless sizes few =
       record { placed = free sizes few; content = nothing.no_content_faults lines a image 1 0 0 ls gives }
 
-  segments : object_segments lines a ≡ map segment_of parts
+  segments : object_segments lines a ≡ map range_segment parts
   segments = ap (map (λ (s : Kept). s.segment)) (kept_are image parts a f inside sound)
       ∙ nothing.segments_are image 1 parts
 

@@ -1,12 +1,7 @@
 -- There is room for what the lines of a disassembly give.
-use Rattle.std.proofs.Common.{◌≡◌, ℕ, zero, suc, ◌+◌, ◌-◌, ◌<◌, ◌≤◌, List, [], ◌∷◌, ◌++◌, length, map, ap, subst, arith}
-use Rattle.std.specs.List.{AllByRecursion}
-use Rattle.m51_disasm.specs.declared.line.SourceLine.{SourceLine}
-use Rattle.m51_disasm.specs.declared.part.CodeRange.{CodeRange}
-use Rattle.m51_disasm.specs.declared.statement.Statement.{Statement}
-use Rattle.m51_disasm.specs.Lines.{beginnings, targets, line_of}
-use Rattle.m51_disasm.specs.Parts.{IsInside}
-use Rattle.m51_disasm.specs.Statements.{length_in, statements_of}
+use Rattle.m51_disasm_proof.proofs.Common.{◌≡◌, ℕ, zero, suc, ◌+◌, ◌-◌, ◌<◌, ◌≤◌, List, [], ◌∷◌, ◌++◌, length, map, ap}
+use Rattle.m51_disasm_proof.proofs.Common.{subst, arith, AllByRecursion, SourceLine, CodeRange, Statement, beginnings}
+use Rattle.m51_disasm_proof.proofs.Common.{targets, line_of, IsInside, length_in, statements_of}
 use Rattle.m51_disasm_proof.proofs.LabelsAscend.{follows_to}
 use Rattle.m51_disasm_proof.proofs.LinesPlaced.{some, HaveRoom}
 use Rattle.m51_disasm_proof.proofs.PartLines.{rest_of, whole}
@@ -34,7 +29,7 @@ statements_room begin led (x ∷ statements) rest base given count from to follo
     let most = some_few (given + n) in
     let more : given + (to - from) ≡ given + n + (to - (from + n)) = omega (arith, below) in (
       record {
-        place = omega (arith, at, below, ends);
+        address = omega (arith, at, below, ends);
         size = omega (arith, small, more);
         few = omega (arith, few, most);
       },
@@ -46,17 +41,17 @@ statements_room begin led (x ∷ statements) rest base given count from to follo
 parts_room : (image : List ℕ) (parts : List CodeRange) (base given count : ℕ) → AllByRecursion IsInside parts
     → AllByRecursion IsSmall parts → base + given ≤ 65536 → given ≤ 65535
     → count + some given + length parts ≤ 254 → HaveRoom base given count (rest_of image parts)
-parts_room image [] base given count inside sizes place small few =
+parts_room image [] base given count inside sizes address small few =
     let same : given + 0 ≡ given = omega arith in
     let most : some (given + 0) ≡ some given = ap some same in
-    (record { place = omega (arith, place); size = omega (arith, small); few = omega (arith, few, most) }, tt)
-parts_room image (part ∷ parts) base given count inside sizes place small few =
+    (record { address = omega (arith, address); size = omega (arith, small); few = omega (arith, few, most) }, tt)
+parts_room image (part ∷ parts) base given count inside sizes address small few =
     let statements : List Statement = statements_of image part in
     let ends = inside.0.ends in
     let size = sizes.0 in
     let most = some_few (0 + (part.base + part.size - part.base)) in
     let begins : part.base + 0 ≡ part.base = omega arith in (
-      record { place = omega (arith, ends); size = omega arith; few = omega (arith, few) },
+      record { address = omega (arith, ends); size = omega arith; few = omega (arith, few) },
       statements_room (beginnings statements) (targets statements) statements (rest_of image parts) part.base 0
           (count + some given) part.base (part.base + part.size)
           (part_follows image part) begins ends (omega (arith, size)) (omega (arith, few))
@@ -68,6 +63,6 @@ parts_room image (part ∷ parts) base given count inside sizes place small few 
 pub lines_room : (image : List ℕ) (parts : List CodeRange) → AllByRecursion IsInside parts
     → AllByRecursion IsSmall parts → length parts ≤ 254 → HaveRoom 0 0 0 (whole image parts)
 lines_room image parts inside sizes few = (
-  record { place = omega arith; size = omega arith; few = omega arith },
+  record { address = omega arith; size = omega arith; few = omega arith },
   parts_room image parts 0 0 0 inside sizes (omega arith) (omega arith) (omega (arith, few)),
 )

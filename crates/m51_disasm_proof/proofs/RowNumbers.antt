@@ -1,10 +1,8 @@
 -- The numbers of a decoded row have room in its fields.
-use Rattle.std.proofs.Common.{◌≡◌, ℕ, ◌%◌, ◌<◌, [], ◌∷◌, refl, ap, arith}
-use Rattle.m51_isa.specs.declared.instr.Instr.{Instr}
+use Rattle.m51_disasm_proof.proofs.Common.{◌≡◌, ℕ, ◌%◌, ◌<◌, [], ◌∷◌, refl, ap, arith, Instr, text_of, IsRowAt, HasRoom}
 use Rattle.m51_isa.specs.declared.instr.Instr.TheVariants as row
-use Rattle.m51_isa.specs.Spelling.{text_of, data_at, direct_at, bit_at, not_bit_at, addr11_at, rel_at}
-use Rattle.m51_isa.specs.Table.{IsRowAt}
-use Rattle.m51_isa.specs.TextLaws.{HasRoom, HasNumbers}
+use Rattle.m51_isa.specs.Spelling.{data_at, direct_at, bit_at, not_bit_at, addr11_at, rel_at}
+use Rattle.m51_isa.specs.TextLaws.{HasNumbers}
 
 byte_kept : {x y : ℕ} → x < 256 → x ≡ y → y % 256 ≡ y
 byte_kept {x} {y} h e = omega (arith, h, e)

@@ -1,13 +1,8 @@
 -- The operands of a decoded row have room where they are written.
-use Rattle.std.proofs.Common.{ℕ, ◌<◌, [], ◌∷◌, arith}
-use Rattle.m51_isa.specs.declared.instr.Instr.{Instr}
+use Rattle.m51_disasm_proof.proofs.Common.{ℕ, ◌<◌, [], ◌∷◌, arith, Instr, Field, Slot, R, AtR, Imm, Plain, NotBit, Text}
+use Rattle.m51_disasm_proof.proofs.Common.{text_of, IsRowAt}
 use Rattle.m51_isa.specs.declared.instr.Instr.TheVariants as row
-use Rattle.m51_isa.specs.declared.slot.Field.{Field}
 use Rattle.m51_isa.specs.declared.slot.Field.TheVariants as field
-use Rattle.m51_isa.specs.declared.slot.Slot.{Slot}
-use Rattle.m51_isa.specs.declared.slot.Slot.TheVariants.{R, AtR, Imm, Plain, NotBit}
-use Rattle.m51_isa.specs.Spelling.{Text, text_of}
-use Rattle.m51_isa.specs.Table.{IsRowAt}
 
 -- an address of two bytes has 16 bits
 abbrev pub HasAddress : Field → ℕ → Type 0

@@ -1,10 +1,8 @@
 -- Bytes that are decoded as an instruction begin with its row.
-use Rattle.std.proofs.Common.{◌≡◌, ℕ, ◌+◌, ◌-◌, ◌*◌, ◌/◌, ◌%◌, ◌<◌, List, [], ◌∷◌, refl, subst, arith, ⊎_elim}
-use Rattle.std.proofs.str.Laws.{order}
-use Rattle.std.specs.Prelude.{IfSome}
-use Rattle.m51_isa.specs.declared.instr.Instr.{Instr}
+use Rattle.m51_disasm_proof.proofs.Common.{◌≡◌, ℕ, ◌+◌, ◌-◌, ◌*◌, ◌/◌, ◌%◌, ◌<◌, List, [], ◌∷◌, refl, subst, arith}
+use Rattle.m51_disasm_proof.proofs.Common.{⊎_elim, order, IfSome, Instr, IsRowAt, encoded}
 use Rattle.m51_isa.proofs.Distinct.{of_register}
-use Rattle.m51_isa.specs.Table.{IsRowAt, OperandsFit, BeginsWith, encoded, decoded_at}
+use Rattle.m51_isa.specs.Table.{OperandsFit, BeginsWith, decoded_at}
 
 of_digit : (P : ℕ → Type 0) → P 0 → P 1 → P 2 → P 3 → P 4 → P 5 → P 6 → P 7 → P 8 → P 9 → P 10 → P 11 → P 12 → P 13
     → P 14 → P 15 → (n : ℕ) → n < 16 → P n

@@ -1,30 +1,22 @@
 -- Each line of a disassembly can be written.
-use Rattle.std.proofs.Common.{◌≡◌, ℕ, zero, suc, ◌+◌, ◌-◌, ◌%◌, ◌<◌, ◌≤◌, Bool, true, false, cond, nat_lt, List, []}
-use Rattle.std.proofs.Common.{◌∷◌, ◌++◌, map, flat_map, append_assoc, Option, Some, None, slice_index, refl, sym, subst}
-use Rattle.std.proofs.Common.{arith}
-use Rattle.std.specs.Prelude.{IfSome}
-use Rattle.std.specs.List.{AllByRecursion}
-use Rattle.std.specs.Option.{option_or}
-use Rattle.m51_isa.specs.declared.instr.Instr.{Instr}
-use Rattle.m51_isa.specs.declared.slot.Field.{Field}
+use Rattle.m51_disasm_proof.proofs.Common.{◌≡◌, ℕ, zero, suc, ◌+◌, ◌-◌, ◌%◌, ◌<◌, ◌≤◌, Bool, true, false, cond, nat_lt}
+use Rattle.m51_disasm_proof.proofs.Common.{List, [], ◌∷◌, ◌++◌, map, flat_map, append_assoc, Option, Some, None}
+use Rattle.m51_disasm_proof.proofs.Common.{slice_index, refl, sym, subst, arith, IfSome, AllByRecursion, option_or}
+use Rattle.m51_disasm_proof.proofs.Common.{Instr, Field, Slot, R, AtR, Imm, Plain, NotBit, Text, text_of, field_in}
+use Rattle.m51_disasm_proof.proofs.Common.{IsRowAt, SourceLine, Target, CodeRange, Statement, IsInside, content_of}
+use Rattle.m51_disasm_proof.proofs.Common.{length_in, statements_of, is_among, beginnings, targets, written_target}
+use Rattle.m51_disasm_proof.proofs.Common.{line_of, AreBytes, IsSlot, AreSlots, IsContent, IsSound}
 use Rattle.m51_isa.specs.declared.slot.Field.TheVariants as field
-use Rattle.m51_isa.specs.declared.slot.Slot.{Slot}
-use Rattle.m51_isa.specs.declared.slot.Slot.TheVariants.{R, AtR, Imm, Plain, NotBit}
-use Rattle.m51_isa.specs.Spelling.{Text, text_of, field_in}
-use Rattle.m51_isa.specs.Table.{IsRowAt, decoded_at, length_of}
+use Rattle.m51_isa.specs.Table.{decoded_at, length_of}
 use Rattle.m51_isa.specs.Targets.{near}
-use Rattle.m51_disasm.specs.declared.line.SourceLine.{SourceLine}
 use Rattle.m51_disasm.specs.declared.line.SourceLine.TheVariants as line
-use Rattle.m51_disasm.specs.declared.line.Target.{Target}
 use Rattle.m51_disasm.specs.declared.line.Target.TheVariants as target
-use Rattle.m51_disasm.specs.declared.part.CodeRange.{CodeRange}
 use Rattle.m51_disasm.specs.declared.statement.Content.TheVariants as content
-use Rattle.m51_disasm.specs.declared.statement.Statement.{Statement}
-use Rattle.m51_disasm.specs.Parts.{IsInside}
-use Rattle.m51_disasm.specs.Statements.{instr_at, can_stand, content_of, statement_at, length_in, statements_from}
-use Rattle.m51_disasm.specs.Statements.{statements_of, address_by, address_in, address_of, target_by, target_of}
-use Rattle.m51_disasm.specs.Lines.{is_among, beginnings, targets, written_target, line_of, part_lines, lines_of}
-use Rattle.m51_disasm_proof.specs.Sound.{AreBytes, IsTarget, IsAddress, IsSlot, AreSlots, IsContent, IsLabel, IsSound}
+use Rattle.m51_disasm.specs.Statements.{instr_in_image, can_stand, statement_at, statements_from}
+use Rattle.m51_disasm.specs.Statements.{address_by, slot_address, address_of, target_by}
+use Rattle.m51_disasm.specs.Statements.{statement_target}
+use Rattle.m51_disasm.specs.Lines.{part_lines, lines_of}
+use Rattle.m51_disasm_proof.specs.Sound.{IsTarget, IsAddress, IsLabel}
 use Rattle.m51_disasm_proof.proofs.RowRoom.{HasAddress, HasPlain, HasRoom, AllRoom, row_room}
 use Rattle.m51_disasm_proof.proofs.RowsDecoded.{decoded_rows}
 
@@ -56,7 +48,7 @@ plain_address : (at : Field) (number : ℕ) → HasPlain at number → HasAddres
 plain_address field.Addr16 number h = h
 plain_address at number h = tt
 
-slot_leads : (next : ℕ) (s : Slot) → HasRoom s → IsAddressOr (address_in next (field_in s))
+slot_leads : (next : ℕ) (s : Slot) → HasRoom s → IsAddressOr (slot_address next (field_in s))
 slot_leads next (Imm f) h = field_leads next f.field f.number (small_address f.field f.number h)
 slot_leads next (Plain f) h = field_leads next f.field f.number (plain_address f.field f.number h)
 slot_leads next (NotBit f) h = field_leads next f.field f.number h
@@ -94,7 +86,7 @@ field_there t next field.Addr16 number led h = led h
 field_there t next field.Data number led h = absurd h
 field_there t next field.Data16 number led h = absurd h
 
-slot_there : (t : Target) (next : ℕ) (s : Slot) → (IsLed (address_in next (field_in s)) → IsTarget t) → HasRoom s
+slot_there : (t : Target) (next : ℕ) (s : Slot) → (IsLed (slot_address next (field_in s)) → IsTarget t) → HasRoom s
     → IsSlot t s
 slot_there t next (R n) led h = h
 slot_there t next (AtR n) led h = h
@@ -106,9 +98,9 @@ slot_there t next s led h = tt
 pub slots_there : (begin : List ℕ) (next : ℕ) (t : Text) → AllRoom t
     → AreSlots (written_target begin (address_of next t)) t
 slots_there begin next t room =
-    let a : Option ℕ = address_in next (field_in t.first) in
-    let b : Option ℕ = address_in next (field_in t.second) in
-    let c : Option ℕ = address_in next (field_in t.third) in
+    let a : Option ℕ = slot_address next (field_in t.first) in
+    let b : Option ℕ = slot_address next (field_in t.second) in
+    let c : Option ℕ = slot_address next (field_in t.third) in
     let there = target_there begin (address_of next t) in
     record {
       first = slot_there _ next t.first (λ led. there (first_led a (option_or b c) led)) room.first;
@@ -137,8 +129,8 @@ module _ (image : List ℕ) (bytes : AreBytes image) where
       row_room i s t (subst (λ o. IfSome o (λ i. IsRowAt (a ∷ b ∷ c ∷ []) i)) e (decoded_rows a b c f s t))
   row_there a b c f s t None e = tt
 
-  instr_room : (at : ℕ) → IfSome (instr_at image at) (λ i. AllRoom (text_of i))
-  unfolding instr_at
+  instr_room : (at : ℕ) → IfSome (instr_in_image image at) (λ i. AllRoom (text_of i))
+  unfolding instr_in_image
   instr_room at =
       row_there (slice_index image at) (slice_index image (at + 1)) (slice_index image (at + 2)) (bytes at)
       (bytes (at + 1)) (bytes (at + 2))
@@ -162,10 +154,10 @@ module _ (image : List ℕ) (bytes : AreBytes image) where
 
   statement_sound : (begin led : List ℕ) (end at : ℕ) → at < 65536
       → IsSound (line_of begin led (statement_at image end at))
-  unfolding statement_at target_of
+  unfolding statement_at statement_target
   statement_sound begin led end at h = record {
     label = label_sound (is_among led at) at h;
-    content = content_sound begin end at (slice_index image at) (instr_at image at) (bytes at) (instr_room at);
+    content = content_sound begin end at (slice_index image at) (instr_in_image image at) (bytes at) (instr_room at);
   }
 
   -- each of the statements of a row of bytes is that at one of their addresses

@@ -1,41 +1,27 @@
 -- Each statement of a disassembly gives the bytes of the image at its address.
-use Rattle.std.proofs.Common.{◌≡◌, ℕ, ◌+◌, ◌%◌, nat_le, Bool, true, false, not, ◌&&◌, cond, List, [], ◌∷◌, take, Option}
-use Rattle.std.proofs.Common.{Some, None, Ok, refl, sym, ap, ◌∙◌, subst, arith, slice_index}
-use Rattle.std.specs.Prelude.{IfSome}
-use Rattle.std.specs.List.{AllByRecursion}
-use Rattle.std.specs.Option.{option_or}
-use Rattle.std.proofs.lemmas.Bool.{and_parts}
+use Rattle.m51_disasm_proof.proofs.Common.{◌≡◌, ℕ, ◌+◌, ◌%◌, nat_le, Bool, true, false, not, ◌&&◌, cond, List, [], ◌∷◌}
+use Rattle.m51_disasm_proof.proofs.Common.{take, Option, Some, None, Ok, refl, sym, ap, ◌∙◌, subst, arith, slice_index}
+use Rattle.m51_disasm_proof.proofs.Common.{IfSome, AllByRecursion, option_or, and_parts, Instr, Jump, Field, FieldSlot}
+use Rattle.m51_disasm_proof.proofs.Common.{Slot, Imm, Plain, NotBit, Text, text_of, field_in, IsRowAt, encoded}
+use Rattle.m51_disasm_proof.proofs.Common.{Meanings, Stands, Number, Target, is_among, written_target, all_inside}
+use Rattle.m51_disasm_proof.proofs.Common.{content_of, length_in, body_of, AreBytes, StandsAt, IsNamed, bytes_at}
 use Rattle.std.proofs.lemmas.List.FromFn.{take-map-range_with_len}
-use Rattle.m51_isa.specs.declared.instr.Instr.{Instr}
-use Rattle.m51_isa.specs.declared.generics.Jump.{Jump}
-use Rattle.m51_isa.specs.declared.slot.Field.{Field}
 use Rattle.m51_isa.specs.declared.slot.Field.TheVariants as field
-use Rattle.m51_isa.specs.declared.slot.FieldSlot.{FieldSlot}
-use Rattle.m51_isa.specs.declared.slot.Slot.{Slot}
-use Rattle.m51_isa.specs.declared.slot.Slot.TheVariants.{Imm, Plain, NotBit}
-use Rattle.m51_isa.specs.Spelling.{Text, text_of, field_in}
-use Rattle.m51_isa.specs.Table.{IsRowAt, encoded, padded, length_of}
+use Rattle.m51_isa.specs.Table.{padded, length_of}
 use Rattle.m51_isa.proofs.Codes.{fronts_agree, rows_are_short}
 use Rattle.m51_expr.specs.Evaluation.{value_of}
-use Rattle.m51_expr.specs.Meanings.{Meanings}
 use Rattle.m51_expr.specs.Operand as item
 use Rattle.m51_expr.specs.Tree as tree
 use Rattle.m51_encode.specs.declared.item.Width.TheVariants.{Byte}
-use Rattle.m51_encode.specs.declared.outcome.OperandOutcome.TheVariants.{Stands}
-use Rattle.m51_encode.specs.declared.reference.FieldValue.TheVariants.{Number}
 use Rattle.m51_encode.specs.Filling.{and_then, or_out_of_range}
 use Rattle.m51_encode.specs.Items.{item_field}
 use Rattle.m51_emit.specs.Content.{coded_content, item_given, followed_by, nothing, item_outcome}
-use Rattle.m51_disasm.specs.declared.line.Target.{Target}
 use Rattle.m51_disasm.specs.declared.line.Target.TheVariants as target
 use Rattle.m51_disasm.specs.declared.statement.Content.{Content as Written}
 use Rattle.m51_disasm.specs.declared.statement.Content.TheVariants as content
-use Rattle.m51_disasm.specs.Lines.{is_among, written_target}
-use Rattle.m51_disasm.specs.Statements.{instr_at, all_inside, can_stand, content_of, statement_at, length_in}
-use Rattle.m51_disasm.specs.Statements.{address_by, address_in, address_of, target_by, target_of}
-use Rattle.m51_disasm_proof.specs.Meaning.{body_of}
-use Rattle.m51_disasm_proof.specs.Sound.{AreBytes}
-use Rattle.m51_disasm_proof.specs.Standing.{StandsAt, IsNamed, bytes_at, only_bytes, GivesBytes}
+use Rattle.m51_disasm.specs.Statements.{instr_in_image, can_stand, statement_at}
+use Rattle.m51_disasm.specs.Statements.{address_by, slot_address, address_of, target_by, statement_target}
+use Rattle.m51_disasm_proof.specs.Standing.{only_bytes, GivesBytes}
 use Rattle.m51_disasm_proof.proofs.RowNumbers.{row_numbers}
 use Rattle.m51_disasm_proof.proofs.RowRoom.{row_room}
 use Rattle.m51_disasm_proof.proofs.RowsDecoded.{decoded_rows}
@@ -70,14 +56,14 @@ unfolding address_by
 bit_leads next field.Bit number usual = refl
 bit_leads next at number usual = absurd (cc usual)
 
-leads_nowhere : (next : ℕ) (s : Slot) → is_usual s ≡ true → leads s ≡ false → address_in next (field_in s) ≡ None
+leads_nowhere : (next : ℕ) (s : Slot) → is_usual s ≡ true → leads s ≡ false → slot_address next (field_in s) ≡ None
 leads_nowhere next (Imm f) usual other = imm_leads next f.field f.number usual
 leads_nowhere next (Plain f) usual other = plain_leads next f.field f.number usual other
 leads_nowhere next (NotBit f) usual other = bit_leads next f.field f.number usual
 leads_nowhere next s usual other = refl
 
 leads_there : (next address : ℕ) (s : Slot) (b : Bool) → leads s ≡ b → is_usual s ≡ true
-    → address_in next (field_in s) ≡ Some address → leads s ≡ true
+    → slot_address next (field_in s) ≡ Some address → leads s ≡ true
 leads_there next address s true e usual to = e
 leads_there next address s false e usual to = absurd (cc (to, leads_nowhere next s usual e))
 
@@ -96,13 +82,13 @@ leads_to begin o address e =
 
 module _ (begin : List ℕ) (next : ℕ) (x : Text) (usual : are_usual x ≡ true) where
   abbrev a : Option ℕ
-  a = address_in next (field_in x.first)
+  a = slot_address next (field_in x.first)
 
   abbrev b : Option ℕ
-  b = address_in next (field_in x.second)
+  b = slot_address next (field_in x.second)
 
   abbrev c : Option ℕ
-  c = address_in next (field_in x.third)
+  c = slot_address next (field_in x.third)
 
   record Parts : Type 0 where
     first : is_usual x.first ≡ true
@@ -173,7 +159,7 @@ module _ (image : List ℕ) (bytes : AreBytes image) (begin : List ℕ) (end at 
       → GivesBytes names form (body_of (target_to c) c) (bytes_at image at (length_in c))
 
   led_in : (next : ℕ) (x : Text) (f : Option FieldSlot)
-      → ((address : ℕ) → address_in next f ≡ Some address → address_of next x ≡ Some address)
+      → ((address : ℕ) → slot_address next f ≡ Some address → address_of next x ≡ Some address)
       → IsLed names segment at s next (written_target begin (address_of next x)) f
   led_in next x None h = tt
   led_in next x (Some f) h = λ address e. leads_to begin (address_of next x) address (h address e)
@@ -227,15 +213,16 @@ module _ (image : List ℕ) (bytes : AreBytes image) (begin : List ℕ) (end at 
   by_instr None row = byte_gives
   by_instr (Some i) row = by_test i (can_stand end at i) refl row
 
-  decoded_here : IfSome (instr_at image at) IsRowHere
-  unfolding instr_at
+  decoded_here : IfSome (instr_in_image image at) IsRowHere
+  unfolding instr_in_image
   decoded_here = decoded_rows (slice_index image at) (slice_index image (at + 1)) (slice_index image (at + 2))
       (bytes at) (bytes (at + 1)) (bytes (at + 2))
 
   -- a statement gives the bytes of the image at its address
-  pub statement_gives : IsNamed names segment (written_target begin (target_of (statement_at image end at)))
+  pub statement_gives : IsNamed names segment (written_target begin (statement_target (statement_at image end at)))
       → GivesBytes names form
-      (body_of (written_target begin (target_of (statement_at image end at))) (statement_at image end at).content)
+      (body_of (written_target begin (statement_target (statement_at image end at)))
+      (statement_at image end at).content)
       (bytes_at image at (length_in (statement_at image end at).content))
-  unfolding statement_at target_of
-  statement_gives named = by_instr (instr_at image at) decoded_here named
+  unfolding statement_at statement_target
+  statement_gives named = by_instr (instr_in_image image at) decoded_here named

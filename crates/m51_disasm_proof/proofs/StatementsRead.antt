@@ -1,37 +1,29 @@
 -- Each line of a disassembly is read as the statement that is meant.
-use Rattle.std.proofs.Common.{◌≡◌, ℕ, ◌<◌, true, false, map, List, [], ◌∷◌, ◌++◌, append_assoc, append-nil, Option}
-use Rattle.std.proofs.Common.{Some, None, option_map, Ok, refl, sym, ap, ◌∙◌, subst, arith}
-use Rattle.std.specs.Prelude.{codes}
-use Rattle.std.specs.List.{list_all}
-use Rattle.m51_cells.specs.Name.{name_of}
+use Rattle.m51_disasm_proof.proofs.Common.{◌≡◌, ℕ, ◌<◌, true, false, map, List, [], ◌∷◌, ◌++◌, append_assoc, append-nil}
+use Rattle.m51_disasm_proof.proofs.Common.{Option, Some, None, option_map, Ok, refl, sym, ap, ◌∙◌, subst, arith, codes}
+use Rattle.m51_disasm_proof.proofs.Common.{list_all, name_of, Instr, text_of, BodyTree, OperandTree, Word, symbol}
+use Rattle.m51_disasm_proof.proofs.Common.{name_word, number_word, sign_word, is_character, SourceLine, Target, Content}
+use Rattle.m51_disasm_proof.proofs.Common.{byte_text, word_text, label_text, body_of, meant, IsContent, IsSound}
 use Rattle.m51_cells.specs.declared.kind.Kind.TheVariants as kind
 use Rattle.m51_cells.proofs.NameLaws.{named_is_name}
-use Rattle.m51_isa.specs.declared.instr.Instr.{Instr}
-use Rattle.m51_isa.specs.Spelling.{text_of}
 use Rattle.m51_expr.specs.declared.symbol.Symbol.TheVariants as symbols
 use Rattle.m51_expr.specs.Tree as tree
 use Rattle.m51_stmt.specs.Statement as body
-use Rattle.m51_stmt.specs.Statement.{BodyTree, StmtTree, OperandTree}
+use Rattle.m51_stmt.specs.Statement.{StmtTree}
 use Rattle.m51_stmt.specs.Control as control
 use Rattle.m51_stmt.specs.Directives.{directive_of, select_of}
 use Rattle.m51_stmt.specs.Grammar as grammar
 use Rattle.m51_stmt.specs.Lines.{statement, token_line, any_line}
-use Rattle.m51_stmt.proofs.LineCuts.{Word, symbol}
-use Rattle.m51_stmt.proofs.WordCuts.{name_word, number_word, sign_word}
 use Rattle.m51_stmt.proofs.PrintedParts.{name_symbol}
 use Rattle.m51_stmt.proofs.PrintedBodies.{IsBody, body_words, body_said}
 use Rattle.m51_stmt.proofs.Derives.{statement_reads}
 use Rattle.m51_stmt.proofs.PrintedStatements.{name_line, labelled}
-use Rattle.m51_text.specs.Said.{is_character}
-use Rattle.m51_disasm.specs.declared.line.SourceLine.{SourceLine}
 use Rattle.m51_disasm.specs.declared.line.SourceLine.TheVariants as line
-use Rattle.m51_disasm.specs.declared.line.Target.{Target}
-use Rattle.m51_disasm.specs.declared.statement.Content.{Content}
 use Rattle.m51_disasm.specs.declared.statement.Content.TheVariants as content
-use Rattle.m51_disasm.specs.Texts.{byte_text, word_text, label_text, after, spelled, content_text, label_front}
+use Rattle.m51_disasm.specs.Texts.{operand_after, spelled, content_text, label_front}
 use Rattle.m51_disasm.specs.Texts.{statement_text, line_text}
-use Rattle.m51_disasm_proof.specs.Meaning.{body_of, without_label, meant}
-use Rattle.m51_disasm_proof.specs.Sound.{IsContent, IsLabel, IsSound}
+use Rattle.m51_disasm_proof.specs.Meaning.{without_label}
+use Rattle.m51_disasm_proof.specs.Sound.{IsLabel}
 use Rattle.m51_disasm_proof.proofs.CutLines.{IsCutInto, no_words, after_blank, after_word, words_read}
 use Rattle.m51_disasm_proof.proofs.StandingWords.{name_stands, colon_stands, byte_word, byte_stands, word_stands}
 use Rattle.m51_disasm_proof.proofs.Labels.{label_is_free}
@@ -122,9 +114,9 @@ code_read t i h =
     let m = (text_of i).mnemonic in
     let r = instruction_read t i h in
     let code = instruction_is_code t i r in
-    let a = after (codes " ") t (text_of i).first in
-    let b = after (codes ",") t (text_of i).second in
-    let c = after (codes ",") t (text_of i).third in
+    let a = operand_after (codes " ") t (text_of i).first in
+    let b = operand_after (codes ",") t (text_of i).second in
+    let c = operand_after (codes ",") t (text_of i).third in
     let Q : List OperandTree → Type 0 = λ os. IsReadBody (content_text t (content.Code i)) (body.Code m os) in
     subst Q (sym r.is) (record {
       begins = record {
@@ -178,7 +170,7 @@ end_read = record {
 
 -- each line that can be written is read as the statement that is meant
 pub line_read : (l : SourceLine) → IsSound l → IsRead (line_text l) (meant l)
-unfolding line_text statement_text any_line control.by_word
+unfolding line_text statement_text any_line control.body_by_word
 line_read line.Nomod51 h = record { says = refl; characters = refl }
 line_read (line.Segment base) h =
     bare_read (codes "CSEG AT " ++ word_text base) (body.Select kind.Code (Some (tree.Number base)))

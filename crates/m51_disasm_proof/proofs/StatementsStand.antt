@@ -1,26 +1,21 @@
 -- Each statement of a disassembly is at its address.
-use Rattle.std.proofs.Common.{◌≡◌, ℕ, zero, suc, ◌+◌, ◌-◌, ◌<◌, ◌≤◌, nat_le, Bool, true, false, cond, List, [], ◌∷◌}
-use Rattle.std.proofs.Common.{◌++◌, append_assoc, length, map, flat_map, Option, Some, None, refl, ap, ◌∙◌, subst}
-use Rattle.std.proofs.Common.{arith, slice_get, slice_index}
+use Rattle.m51_disasm_proof.proofs.Common.{◌≡◌, ℕ, zero, suc, ◌+◌, ◌-◌, ◌<◌, ◌≤◌, nat_le, Bool, true, false, cond, List}
+use Rattle.m51_disasm_proof.proofs.Common.{[], ◌∷◌, ◌++◌, append_assoc, length, map, flat_map, Option, Some, None, refl}
+use Rattle.m51_disasm_proof.proofs.Common.{ap, ◌∙◌, subst, arith, slice_index, Instr, Nop, text_of, TextSegment}
+use Rattle.m51_disasm_proof.proofs.Common.{absolute, opening, SourceLine, CodeRange, Content, Statement, beginnings}
+use Rattle.m51_disasm_proof.proofs.Common.{targets, line_of, all_inside, content_of, length_in, statements_of, left}
+use Rattle.m51_disasm_proof.proofs.Common.{lines_before, segment_after, spots_from}
+use Rattle.std.proofs.Common.{slice_get}
 use Rattle.std.proofs.lemmas.Bool.{leb-true}
 use Rattle.std.proofs.lemmas.Grind.{flat_map-append}
 use Rattle.m51_cells.specs.declared.kind.Kind.TheVariants as kind
-use Rattle.m51_isa.specs.declared.instr.Instr.{Instr}
-use Rattle.m51_isa.specs.declared.instr.Instr.TheVariants.{Nop}
-use Rattle.m51_isa.specs.Spelling.{text_of}
 use Rattle.m51_isa.specs.Table.{length_of}
-use Rattle.m51_asm.specs.Assignment.{TextSegment, absolute, opening}
-use Rattle.m51_disasm.specs.declared.line.SourceLine.{SourceLine}
 use Rattle.m51_disasm.specs.declared.line.SourceLine.TheVariants as line
-use Rattle.m51_disasm.specs.declared.part.CodeRange.{CodeRange}
-use Rattle.m51_disasm.specs.declared.statement.Content.{Content}
 use Rattle.m51_disasm.specs.declared.statement.Content.TheVariants as content
-use Rattle.m51_disasm.specs.declared.statement.Statement.{Statement}
-use Rattle.m51_disasm.specs.Lines.{beginnings, targets, line_of, part_lines, lines_of}
-use Rattle.m51_disasm.specs.Statements.{instr_at, all_inside, can_stand, content_of, statement_at, length_in}
-use Rattle.m51_disasm.specs.Statements.{statements_from, statements_of}
-use Rattle.m51_stmt.proofs.WordCuts.{left}
-use Rattle.m51_disasm_proof.specs.Places.{Spot, lines_before, segment_after, place_after, spots_from}
+use Rattle.m51_disasm.specs.Lines.{part_lines, lines_of}
+use Rattle.m51_disasm.specs.Statements.{instr_in_image, can_stand, statement_at}
+use Rattle.m51_disasm.specs.Statements.{statements_from}
+use Rattle.m51_disasm_proof.specs.Places.{Spot, place_after}
 
 -- ---- each statement begins where the one before it ends
 
@@ -66,8 +61,8 @@ follow image end (suc passed) at (suc more) ends fits =
     same_follow (at + 1 + passed) (at + suc passed) end end (statements_from image end passed (at + 1) more) next refl
     (follow image end passed (at + 1) more (omega (arith, ends)) (omega (arith, fits)))
 follow image end zero at (suc more) ends fits =
-    let c : Content = content_of end at (slice_index image at) (instr_at image at) in
-    let within = content_within at end (slice_index image at) (instr_at image at) (omega (arith, ends)) in
+    let c : Content = content_of end at (slice_index image at) (instr_in_image image at) in
+    let within = content_within at end (slice_index image at) (instr_in_image image at) (omega (arith, ends)) in
     let here : at + 0 ≡ at = omega arith in
     let next : at + 1 + (length_in c - 1) ≡ at + 0 + length_in c = omega (arith, within.some) in (
       here,
@@ -92,40 +87,41 @@ statement_spots : (begin led : List ℕ) (statements : List Statement) (rest : L
     (seg : TextSegment) (from to : ℕ) → Follow from statements to
     → (j : ℕ) (s : Statement) → slice_get statements j ≡ Some s
     → slice_get (spots_from k seg from (map (line_of begin led) statements ++ rest)) j
-    ≡ Some (record { segment = seg; place = s.at })
+    ≡ Some (record { segment = seg; address = s.at })
 statement_spots begin led [] rest k seg from to f j s e = absurd (cc e)
 statement_spots begin led (x ∷ statements) rest k seg from to f zero s e =
     let same : x ≡ s = cc e in
-    ap (λ n. Some (record { segment = seg; place = n })) (f.0 ∙ ap (λ x. x.at) same)
+    ap (λ n. Some (record { segment = seg; address = n })) (f.0 ∙ ap (λ x. x.at) same)
 statement_spots begin led (x ∷ statements) rest k seg from to f (suc j) s e =
     statement_spots begin led statements rest (suc k) seg (from + length_in x.content) to f.1 j s e
 
 -- the spots of lines after other lines
 record IsAfter (ys : List SourceLine) (k : ℕ) (spots : List Spot) (count : ℕ) : Type 0 where
   segment : TextSegment
-  place : ℕ
-  are : (j : ℕ) → slice_get spots (count + j) ≡ slice_get (spots_from k segment place ys) j
+  address : ℕ
+  are : (j : ℕ) → slice_get spots (count + j) ≡ slice_get (spots_from k segment address ys) j
 
-spots_after : (xs ys : List SourceLine) (k : ℕ) (seg : TextSegment) (place : ℕ)
-    → IsAfter ys (k + length xs) (spots_from k seg place (xs ++ ys)) (length xs)
-spots_after [] ys k seg place = record {
+spots_after : (xs ys : List SourceLine) (k : ℕ) (seg : TextSegment) (address : ℕ)
+    → IsAfter ys (k + length xs) (spots_from k seg address (xs ++ ys)) (length xs)
+spots_after [] ys k seg address = record {
   segment = seg;
-  place = place;
+  address = address;
   are = λ j.
       let zero_first : 0 + j ≡ j = omega arith in
       let here : k ≡ k + 0 = omega arith in
-      ap (slice_get (spots_from k seg place ys)) zero_first ∙ ap (λ i. slice_get (spots_from i seg place ys) j) here;
+      ap (slice_get (spots_from k seg address ys)) zero_first
+      ∙ ap (λ i. slice_get (spots_from i seg address ys) j) here;
 }
-spots_after (x ∷ xs) ys k seg place =
-    let more = spots_after xs ys (suc k) (segment_after k seg x) (place_after place x) in
+spots_after (x ∷ xs) ys k seg address =
+    let more = spots_after xs ys (suc k) (segment_after k seg x) (place_after address x) in
     let next : suc k + length xs ≡ k + suc (length xs) = omega arith in
     record {
       segment = more.segment;
-      place = more.place;
+      address = more.address;
       are = λ j.
           let one : suc (length xs) + j ≡ suc (length xs + j) = omega arith in
-          ap (slice_get (spots_from k seg place (x ∷ (xs ++ ys)))) one ∙ more.are j
-          ∙ ap (λ i. slice_get (spots_from i more.segment more.place ys) j) next;
+          ap (slice_get (spots_from k seg address (x ∷ (xs ++ ys)))) one ∙ more.are j
+          ∙ ap (λ i. slice_get (spots_from i more.segment more.address ys) j) next;
     }
 
 -- the lines of a disassembly, about one of its parts
@@ -145,7 +141,7 @@ around image before part after =
 pub statement_spot : (image : List ℕ) (before : List CodeRange) (part : CodeRange) (after : List CodeRange) (j : ℕ)
     (s : Statement) → slice_get (statements_of image part) j ≡ Some s
     → slice_get (spots_from 0 opening 0 (lines_of image (before ++ part ∷ after))) (lines_before image before + suc j)
-    ≡ Some (record { segment = absolute (lines_before image before + 2) kind.Code part.base; place = s.at })
+    ≡ Some (record { segment = absolute (lines_before image before + 2) kind.Code part.base; address = s.at })
 unfolding part_lines
 statement_spot image before part after j s e =
     let front : List SourceLine = line.Nomod51 ∷ flat_map (part_lines image) before in
@@ -155,7 +151,7 @@ statement_spot image before part after j s e =
     let same : 0 + n ≡ n = omega arith in
     ap (λ l. slice_get (spots_from 0 opening 0 l) (n + suc j)) (around image before part after)
     ∙ at.are (suc j)
-    ∙ ap (λ i. slice_get (spots_from i at.segment at.place (part_lines image part ++ rest)) (suc j)) same
+    ∙ ap (λ i. slice_get (spots_from i at.segment at.address (part_lines image part ++ rest)) (suc j)) same
     ∙ statement_spots (beginnings (statements_of image part)) (targets (statements_of image part))
     (statements_of image part) rest (suc n) (absolute (n + 2) kind.Code part.base) part.base (part.base + part.size)
     (part_follows image part) j s e

@@ -1,13 +1,10 @@
 -- A target that is written as a label is a statement of the part, which has the label.
-use Rattle.std.proofs.Common.{◌≡◌, ℕ, zero, suc, ◌==◌, ◌||◌, Bool, true, false, List, [], ◌∷◌, Option, Some, None, refl}
-use Rattle.std.proofs.Common.{ap, ◌∙◌, subst, eq-eqb}
-use Rattle.std.specs.Prelude.{slice_get}
-use Rattle.std.specs.List.{AllByRecursion, cons_option}
+use Rattle.m51_disasm_proof.proofs.Common.{◌≡◌, ℕ, zero, suc, ◌==◌, ◌||◌, Bool, true, false, List, [], ◌∷◌, Option}
+use Rattle.m51_disasm_proof.proofs.Common.{Some, None, refl, ap, ◌∙◌, subst, eq-eqb, slice_get, AllByRecursion}
+use Rattle.m51_disasm_proof.proofs.Common.{cons_option, Statement, is_among, beginnings, targets}
 use Rattle.std.proofs.Math.Bool.{or-true}
 use Rattle.std.proofs.lemmas.Bool.{eqb-true}
-use Rattle.m51_disasm.specs.declared.statement.Statement.{Statement}
-use Rattle.m51_disasm.specs.Lines.{is_among, beginnings, targets}
-use Rattle.m51_disasm.specs.Statements.{target_of}
+use Rattle.m51_disasm.specs.Statements.{statement_target}
 
 -- a statement of these at this address
 pub record Begins (statements : List Statement) (address : ℕ) : Type 0 where
@@ -43,13 +40,13 @@ among_first o address more e =
 
 -- where a statement leads is among where the statements lead
 pub led_there : (statements : List Statement) (j : ℕ) (s : Statement) (address : ℕ) → slice_get statements j ≡ Some s
-    → target_of s ≡ Some address → is_among (targets statements) address ≡ true
+    → statement_target s ≡ Some address → is_among (targets statements) address ≡ true
 led_there [] j s address e to = absurd (cc e)
 led_there (x ∷ statements) zero s address e to =
     let same : x ≡ s = cc e in
-    among_first (target_of x) address (targets statements) (ap target_of same ∙ to)
+    among_first (statement_target x) address (targets statements) (ap statement_target same ∙ to)
 led_there (x ∷ statements) (suc j) s address e to =
-    among_more (target_of x) address (targets statements) (led_there statements j s address e to)
+    among_more (statement_target x) address (targets statements) (led_there statements j s address e to)
 
 -- what holds of each holds of one
 pub one_of : {A : Type 0} (P : A → Type 0) (xs : List A) (j : ℕ) (x : A) → AllByRecursion P xs → slice_get xs j ≡ Some x

@@ -1,13 +1,13 @@
 -- The text of a disassembly is read as its lines, and no line has a fault.
-use Rattle.std.proofs.Common.{◌≡◌, ℕ, zero, suc, ◌+◌, ◌-◌, ◌<◌, ◌≤◌, ◌&&◌, ◌||◌, not, nat_lt, Bool, true, false, cond}
-use Rattle.std.proofs.Common.{List, [], ◌∷◌, ◌++◌, length, length-append, take, map, get_or, Some, None, Ok, Err, refl}
-use Rattle.std.proofs.Common.{ap, ◌∙◌, append_assoc, arith}
+use Rattle.m51_disasm_proof.proofs.Common.{◌≡◌, ℕ, zero, suc, ◌+◌, ◌-◌, ◌<◌, ◌≤◌, ◌&&◌, ◌||◌, not, nat_lt, Bool, true}
+use Rattle.m51_disasm_proof.proofs.Common.{false, cond, List, [], ◌∷◌, ◌++◌, length, length-append, take, map, get_or}
+use Rattle.m51_disasm_proof.proofs.Common.{Some, None, Ok, refl, ap, ◌∙◌, append_assoc, arith, codes, AllByRecursion}
+use Rattle.m51_disasm_proof.proofs.Common.{list_all, list_any, ne_eqb, common_steps, SourceFile, left, is_character}
+use Rattle.m51_disasm_proof.proofs.Common.{Lines, SourceLine, Target, Content, body_of, meant, read_from, IsSound}
+use Rattle.std.proofs.Common.{Err}
 use Rattle.std.proofs.Math.Bool.{and-false}
-use Rattle.std.specs.Prelude.{codes}
-use Rattle.std.specs.List.{AllByRecursion, list_all, list_any, slice_split}
+use Rattle.std.specs.List.{slice_split}
 use Rattle.std.specs.Str.Lines.{lines, lines_of_parts, strip_carriage_return}
-use Rattle.std.proofs.lemmas.Bool.{ne_eqb}
-use Rattle.std.proofs.lemmas.Grind.{common_steps}
 use Rattle.std.proofs.lemmas.List.{take_all}
 use Rattle.std.proofs.lemmas.List.Elements.{All-from_recursion}
 use Rattle.std.proofs.lemmas.List.Folds.{list_any-append}
@@ -16,22 +16,17 @@ use Rattle.m51_cells.specs.declared.fault.TheConstants.{BAD_BYTE, TOO_MANY}
 use Rattle.m51_cells.specs.Lines.{is_line_feed}
 use Rattle.m51_cells.proofs.LineLaws.{ended}
 use Rattle.m51_lex.specs.declared.fault.TheConstants.{LONG_LINE}
-use Rattle.m51_module.specs.declared.source.SourceFile.{SourceFile}
 use Rattle.m51_stmt.specs.Lines.{any_line, statement_of}
-use Rattle.m51_stmt.proofs.WordCuts.{left, right}
+use Rattle.m51_stmt.proofs.WordCuts.{right}
 use Rattle.m51_stmt.proofs.ReadStatements.{at_most_255}
-use Rattle.m51_text.specs.Said.{is_character, said, is_end_body, is_end, is_text, include_name, asked}
+use Rattle.m51_text.specs.Said.{said, is_end_body, is_end, has_content, include_name, asked}
 use Rattle.m51_text.specs.Text.{TextLine, brought, lines_with, inclusion_by, include_lines, text_lines}
-use Rattle.m51_text.specs.Faults.{ends_source, fault_with, fault_of, fault_by_place, before, faults_from, faults_of}
-use Rattle.m51_text.specs.Answer.{Lines, with_statement, statements_of, faults_or_lines, text_of}
-use Rattle.m51_disasm.specs.declared.line.SourceLine.{SourceLine}
+use Rattle.m51_text.specs.Faults.{ends_source, fault_with, fault_on_line, fault_by_place, before, faults_from}
+use Rattle.m51_text.specs.Faults.{faults_of}
+use Rattle.m51_text.specs.Answer.{with_statement, statements_of, faults_or_lines, text_of}
 use Rattle.m51_disasm.specs.declared.line.SourceLine.TheVariants as line
-use Rattle.m51_disasm.specs.declared.line.Target.{Target}
-use Rattle.m51_disasm.specs.declared.statement.Content.{Content}
 use Rattle.m51_disasm.specs.declared.statement.Content.TheVariants as content
 use Rattle.m51_disasm.specs.Texts.{line_text, text_of_lines}
-use Rattle.m51_disasm_proof.specs.Meaning.{body_of, meant, read_from}
-use Rattle.m51_disasm_proof.specs.Sound.{IsSound}
 use Rattle.m51_disasm_proof.proofs.LineLengths.{line_few}
 use Rattle.m51_disasm_proof.proofs.StatementsRead.{line_read}
 
@@ -61,10 +56,10 @@ no_feed (c ∷ text) h =
       no_feed text (right (is_character c) (list_all is_character text) h),
     )
 
-at_return : (text : List ℕ) (place : ℕ) → list_all is_character text ≡ true → get_or text place 0 ≡ 13 → ⊥
-at_return [] place h e = absurd (omega (arith, e))
+at_return : (text : List ℕ) (index : ℕ) → list_all is_character text ≡ true → get_or text index 0 ≡ 13 → ⊥
+at_return [] index h e = absurd (omega (arith, e))
 at_return (c ∷ text) zero h e = no_return c (left (is_character c) (list_all is_character text) h) e
-at_return (c ∷ text) (suc place) h e = at_return text place (right (is_character c) (list_all is_character text) h) e
+at_return (c ∷ text) (suc index) h e = at_return text index (right (is_character c) (list_all is_character text) h) e
 
 kept : (text : List ℕ) → list_all is_character text ≡ true → strip_carriage_return text ≡ text
 kept text h = ap (λ (b : Bool). cond b (take (length text - 1) text) text)
@@ -154,14 +149,16 @@ has_end n (l ∷ m ∷ ls) is e = or_true (ends_source (record { file = 0; line 
 -- a line without an END above it, before line 65,536
 no_fault : (above : List TextLine) (n : ℕ) (l : SourceLine) → IsSound l → list_any ends_source above ≡ false
     → length above < 65535
-    → fault_of [] above (record { file = 0; line = n; levels = 8; bytes = line_text l }) false ≡ None
+    → fault_on_line [] above (record { file = 0; line = n; levels = 8; bytes = line_text l }) false ≡ None
 no_fault above n l is none few =
     let this : TextLine = record { file = 0; line = n; levels = 8; bytes = line_text l } in
     let s = meant l in
     ap (fault_with [] above this false) (line_said l is)
-    ∙ ap (λ o. fault_by_place (list_any ends_source above && is_text s || is_end (Ok s) && false) (inclusion_by [] 8 o)
+    ∙ ap (λ o. fault_by_place (list_any ends_source above && has_content s || is_end (Ok s) && false)
+    (inclusion_by [] 8 o)
     (length above)) (nothing_asked l)
-    ∙ ap (λ b. fault_by_place (b && is_text s || is_end (Ok s) && false) (inclusion_by [] 8 None) (length above)) none
+    ∙ ap (λ b. fault_by_place (b && has_content s || is_end (Ok s) && false) (inclusion_by [] 8 None) (length above))
+    none
     ∙ ap (λ b. fault_by_place b (inclusion_by [] 8 None) (length above)) (and-false (is_end_body s.body))
     ∙ ap (λ b. cond b (Some TOO_MANY) None) (ne_eqb (length above) 65535 (λ e. omega (arith, e, few)))
 

@@ -16,8 +16,8 @@ use Rattle.m51_disasm.specs.declared.part.CodeRange.{CodeRange}
 use Rattle.m51_disasm.specs.declared.statement.Statement.{Statement}
 use Rattle.m51_disasm.specs.Answer.{disassembled}
 use Rattle.m51_disasm.specs.Lines.{is_among, targets, written_target, lines_of}
-use Rattle.m51_disasm.specs.Parts.{parts_of}
-use Rattle.m51_disasm.specs.Statements.{statement_at, length_in, statements_of, target_of}
+use Rattle.m51_disasm.specs.Parts.{code_ranges}
+use Rattle.m51_disasm.specs.Statements.{statement_at, length_in, statements_of, statement_target}
 use Rattle.m51_disasm.specs.Texts.{label_text, line_text}
 use Rattle.m51_disasm_proof.specs.Meaning.{body_of, meant, read_from}
 use Rattle.m51_disasm_proof.specs.Module.{module_of, GivesModule}
@@ -36,7 +36,7 @@ abbrev pub TextsReadBack : Type 0
 TextsReadBack =
     (l : LayoutParts) (image text : List ℕ) (source : SourceFile)
     → IsSoundLayout l → AreBytes image → disassembled l image ≡ Ok text → source.bytes ≡ text
-    → text_of source [] ≡ Lines (read_from 1 (lines_of image (parts_of l)))
+    → text_of source [] ≡ Lines (read_from 1 (lines_of image (code_ranges l)))
 
 -- Under each assignment that fits the lines of a disassembly, each of them is in its spot: CSEG begins a segment of
 -- CODE at its base, and a statement is after the bytes of those before it.
@@ -44,8 +44,8 @@ abbrev pub LinesStand : Type 0
 LinesStand =
     (l : LayoutParts) (image text : List ℕ)
     → IsSoundLayout l → AreBytes image → disassembled l image ≡ Ok text
-    → (a : Assignment) → Fits (read_from 1 (lines_of image (parts_of l))) a
-    → (k : ℕ) (spot : Spot) → slice_get (spots_from 0 opening 0 (lines_of image (parts_of l))) k ≡ Some spot
+    → (a : Assignment) → Fits (read_from 1 (lines_of image (code_ranges l))) a
+    → (k : ℕ) (spot : Spot) → slice_get (spots_from 0 opening 0 (lines_of image (code_ranges l))) k ≡ Some spot
     → IsSpot a k spot
 
 -- Under each assignment that fits them, the statement of a part is at its address, in the segment that the CSEG of the
@@ -54,11 +54,11 @@ abbrev pub StatementsStand : Type 0
 StatementsStand =
     (l : LayoutParts) (image text : List ℕ)
     → IsSoundLayout l → AreBytes image → disassembled l image ≡ Ok text
-    → (a : Assignment) → Fits (read_from 1 (lines_of image (parts_of l))) a
-    → (before : List CodeRange) (part : CodeRange) (after : List CodeRange) → parts_of l ≡ before ++ part ∷ after
+    → (a : Assignment) → Fits (read_from 1 (lines_of image (code_ranges l))) a
+    → (before : List CodeRange) (part : CodeRange) (after : List CodeRange) → code_ranges l ≡ before ++ part ∷ after
     → (j : ℕ) (s : Statement) → slice_get (statements_of image part) j ≡ Some s
     → IsSpot a (lines_before image before + suc j)
-    (record { segment = absolute (lines_before image before + 2) kind.Code part.base; place = s.at })
+    (record { segment = absolute (lines_before image before + 2) kind.Code part.base; address = s.at })
 
 -- The statement at an address, where it is in an absolute segment of CODE and the label that it names has the value of
 -- its address there, gives the bytes of the image at that address. So what is decoded is coded to the same bytes.
@@ -67,7 +67,7 @@ StatementsCodeBack =
     (image : List ℕ) (end at : ℕ) → AreBytes image
     → (begin : List ℕ) (names : Meanings) (segment : ℕ) (form : Jump)
     → let s = statement_at image end at in
-    let target = written_target begin (target_of s) in
+    let target = written_target begin (statement_target s) in
     StandsAt names segment at → IsNamed names segment target
     → GivesBytes names form (body_of target s.content) (bytes_at image at (length_in s.content))
 
@@ -77,8 +77,8 @@ abbrev pub LabelsStand : Type 0
 LabelsStand =
     (l : LayoutParts) (image text : List ℕ)
     → IsSoundLayout l → AreBytes image → disassembled l image ≡ Ok text
-    → (a : Assignment) → Fits (read_from 1 (lines_of image (parts_of l))) a
-    → (before : List CodeRange) (part : CodeRange) (after : List CodeRange) → parts_of l ≡ before ++ part ∷ after
+    → (a : Assignment) → Fits (read_from 1 (lines_of image (code_ranges l))) a
+    → (before : List CodeRange) (part : CodeRange) (after : List CodeRange) → code_ranges l ≡ before ++ part ∷ after
     → (j : ℕ) (s : Statement) → slice_get (statements_of image part) j ≡ Some s
     → is_among (targets (statements_of image part)) s.at ≡ true
     → (k : ℕ) → a.value k (label_text s.at) ≡ Some (code_value (lines_before image before + 2) s.at)
@@ -89,10 +89,10 @@ abbrev pub StatementsGiveBytes : Type 0
 StatementsGiveBytes =
     (l : LayoutParts) (image text : List ℕ)
     → IsSoundLayout l → AreBytes image → disassembled l image ≡ Ok text
-    → (a : Assignment) → Fits (read_from 1 (lines_of image (parts_of l))) a
-    → (before : List CodeRange) (part : CodeRange) (after : List CodeRange) → parts_of l ≡ before ++ part ∷ after
+    → (a : Assignment) → Fits (read_from 1 (lines_of image (code_ranges l))) a
+    → (before : List CodeRange) (part : CodeRange) (after : List CodeRange) → code_ranges l ≡ before ++ part ∷ after
     → (j : ℕ) (s : Statement) → slice_get (statements_of image part) j ≡ Some s
-    → LineGives (read_from 1 (lines_of image (parts_of l))) a image (lines_before image before + suc j) s.at
+    → LineGives (read_from 1 (lines_of image (code_ranges l))) a image (lines_before image before + suc j) s.at
     (length_in s.content)
 
 -- Under each assignment that fits them, no line has a fault by the lines above it, nor one in its content: there are no
@@ -101,8 +101,8 @@ abbrev pub NoLineHasFault : Type 0
 NoLineHasFault =
     (l : LayoutParts) (image text : List ℕ)
     → IsSoundLayout l → HaveSizes l → AreBytes image → disassembled l image ≡ Ok text
-    → (a : Assignment) → Fits (read_from 1 (lines_of image (parts_of l))) a
-    → AreFaultless (read_from 1 (lines_of image (parts_of l))) a
+    → (a : Assignment) → Fits (read_from 1 (lines_of image (code_ranges l))) a
+    → AreFaultless (read_from 1 (lines_of image (code_ranges l))) a
 
 -- The answer for the text of each layout and image that have one, as a source without includes, is no fault but a
 -- module: for each part in order its absolute segment of CODE, with exactly the bytes of the image in its pieces, and
@@ -111,4 +111,4 @@ abbrev pub ImagesAreAssembled : Type 0
 ImagesAreAssembled =
     (l : LayoutParts) (image text : List ℕ) (source : SourceFile) (answer : AnswerTree)
     → IsSoundLayout l → HaveSizes l → AreBytes image → disassembled l image ≡ Ok text → source.bytes ≡ text
-    → IsAnswer source [] answer → GivesModule (module_of source.name image (parts_of l)) answer
+    → IsAnswer source [] answer → GivesModule (module_of source.name image (code_ranges l)) answer

@@ -12,8 +12,8 @@ use Rattle.m51_disasm.specs.declared.part.CodeRange.{CodeRange}
 use Rattle.m51_disasm_proof.specs.Standing.{bytes_at}
 
 -- the absolute segment of CODE of a part
-abbrev pub segment_of : CodeRange → Segment
-segment_of part = record {
+abbrev pub range_segment : CodeRange → Segment
+range_segment part = record {
   name = [];
   kind = kind.Code;
   reloc = reloc.Abs;
@@ -36,7 +36,7 @@ abbrev pub module_of : List ℕ → List ℕ → List CodeRange → ModuleParts
 module_of file image parts = record {
   name = module_name file;
   version = 1;
-  segments = map segment_of parts;
+  segments = map range_segment parts;
   publics = [];
   externals = [];
   pieces = pieces_from 1 image parts;

@@ -12,7 +12,7 @@ use Rattle.m51_asm.specs.Assignment.{TextSegment, Assignment, absolute}
 -- a segment, and an address in it
 pub record Spot : Type 0 where
   pub segment : TextSegment
-  pub place : ℕ
+  pub address : ℕ
 
 -- the segment after line k, which is in this one
 abbrev pub segment_after : ℕ → TextSegment → SourceLine → TextSegment
@@ -26,15 +26,15 @@ line_size other = 0
 
 -- the address after a line at this one
 abbrev pub place_after : ℕ → SourceLine → ℕ
-place_after place (line.Segment base) = base
-place_after place other = place + line_size other
+place_after address (line.Segment base) = base
+place_after address other = address + line_size other
 
--- the spots of these lines, the first of which is line k in this segment, at this place
+-- the spots of these lines, the first of which is line k in this segment, at this address
 abbrev pub spots_from : ℕ → TextSegment → ℕ → List SourceLine → List Spot
-spots_from k segment place [] = []
-spots_from k segment place (l ∷ lines) =
-    record { segment = segment; place = place }
-    ∷ spots_from (suc k) (segment_after k segment l) (place_after place l) lines
+spots_from k segment address [] = []
+spots_from k segment address (l ∷ lines) =
+    record { segment = segment; address = address }
+    ∷ spots_from (suc k) (segment_after k segment l) (place_after address l) lines
 
 -- how many lines are before the CSEG of a part, from the parts before it
 abbrev pub lines_before : List ℕ → List CodeRange → ℕ
@@ -43,4 +43,4 @@ lines_before image before = suc (length (flat_map (part_lines image) before))
 -- line k is in this spot
 pub record IsSpot (a : Assignment) (k : ℕ) (spot : Spot) : Type 0 where
   pub segment : a.segment k ≡ spot.segment
-  pub place : a.place k ≡ spot.place
+  pub address : a.place k ≡ spot.address

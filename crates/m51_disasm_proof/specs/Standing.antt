@@ -1,4 +1,5 @@
--- What a statement of a disassembly depends on: its place, the labels that it names, and the bytes of the image there.
+-- What a statement of a disassembly depends on: its address, the labels that it names, and the bytes of the image
+-- there.
 use Rattle.std.specs.Prelude.{◌≡◌, ℕ, true, List, [], length, map, Some, slice_index}
 use Rattle.std.specs.List.{AllByRecursion, range_with_len}
 use Rattle.m51_cells.specs.declared.kind.Base.TheVariants as base

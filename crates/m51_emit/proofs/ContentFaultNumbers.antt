@@ -29,10 +29,11 @@ use Rattle.m51_encode.specs.FieldValues.{field_of}
 use Rattle.m51_encode.specs.Filling.{Answer, and_then, or_out_of_range, fielded, expression, filled_by, filled}
 use Rattle.m51_encode.specs.Items.{field_of_width, item_field}
 use Rattle.m51_encode.specs.JumpForm.{address_after}
-use Rattle.m51_encode.specs.Outcomes.{linked, outcome_of}
+use Rattle.m51_encode.specs.Outcomes.{linked, operand_outcome}
 use Rattle.m51_encode.specs.OutcomeLaws.{FailsAsOperand}
 use Rattle.m51_encode.proofs.OperandFaults.{fielded_fails, filled_fails}
-use Rattle.m51_encode.specs.Coding.{Line, line_of, line_row, outcomes_by as row_outcomes, outcomes_line, outcomes}
+use Rattle.m51_encode.specs.Coding.{Line, instruction_line, line_row, outcomes_by as row_outcomes, outcomes_line}
+use Rattle.m51_encode.specs.Coding.{outcomes}
 use Rattle.m51_stmt.specs.Statement.{Code, Db, Dw}
 use Rattle.m51_emit.specs.Outcomes.{made_with, part_fault, or_next, leftmost_fault}
 use Rattle.m51_emit.specs.Content.{item_outcome}
@@ -77,9 +78,9 @@ fault_fails number (inl h) = inl h
 fault_fails number (inr h) = inr (inl h)
 
 operand_fails : (names : Meanings) (next : ℕ) (field : Option FieldSlot) (o : Option OperandTree)
-    → FailsAsPart (outcome_of (filled names next field o))
+    → FailsAsPart (operand_outcome (filled names next field o))
 operand_fails names next field o =
-    elim (filled names next field o) as (λ x. FailsAsOperand x → FailsAsPart (outcome_of x)) [
+    elim (filled names next field o) as (λ x. FailsAsOperand x → FailsAsPart (operand_outcome x)) [
       | Ok held ↦ λ h. linked_fails held.reference
       | Err e ↦ λ h. fault_fails e.number h
     ] (filled_fails names next field o)
@@ -119,7 +120,7 @@ items_fail names width (x ∷ xs) = (item_fails names width x, items_fail names 
 pub content_fails_by_six : ContentFailsBySix
 unfolding outcomes
 content_fails_by_six names jump (Code mnemonic operands) made =
-    parts_fail made _ (line_fails names (line_of mnemonic operands jump))
+    parts_fail made _ (line_fails names (instruction_line mnemonic operands jump))
 content_fails_by_six names jump (Db items) made = parts_fail made _ (items_fail names Byte items)
 content_fails_by_six names jump (Dw words) made = parts_fail made _ (items_fail names Word words)
 content_fails_by_six names jump body made = tt

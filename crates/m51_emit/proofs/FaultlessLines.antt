@@ -19,7 +19,7 @@ use Rattle.m51_encode.specs.declared.reference.FieldValue.TheVariants.{Number, L
 use Rattle.m51_encode.specs.Filling.{Answer, and_then, fielded}
 use Rattle.m51_encode.specs.Items.{field_of_width, field_bytes, item_field}
 use Rattle.m51_encode.specs.Outcomes.{first_faulty}
-use Rattle.m51_encode.specs.OutcomeLaws.{IsTold}
+use Rattle.m51_encode.specs.OutcomeLaws.{IsFaultOrCoded}
 use Rattle.m51_encode.specs.Coding.{Line, coded_line, coded, outcomes}
 use Rattle.m51_encode.specs.Meaning.{StandsFor}
 use Rattle.m51_encode.specs.Lengths.{HasRow}
@@ -48,7 +48,7 @@ faultless made (Faulty number ∷ parts) h = absurd (cc h)
 faultless made (Fixes ∷ parts) h = faultless (made_with made Fixes) parts (neither (part_fault made Fixes) _ h).next_is
 faultless made (Stands ∷ parts) h = faultless made parts h
 
-answered : (answer : Answer Coded) (fault : Option ℕ) → fault ≡ None → IsTold fault answer → IsOk answer
+answered : (answer : Answer Coded) (fault : Option ℕ) → fault ≡ None → IsFaultOrCoded fault answer → IsOk answer
 answered answer None is told = told
 answered answer (Some number) is told = absurd (cc is)
 

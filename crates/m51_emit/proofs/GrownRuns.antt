@@ -7,7 +7,7 @@ use Rattle.std.proofs.lemmas.List.{map-append, flat_map_more}
 use Rattle.m51_module.specs.declared.content.Fixup.{Fixup}
 use Rattle.m51_module.specs.declared.segment.Segment.{Segment}
 use Rattle.m51_emit.specs.Pieces.{Run, before_runs, if_bytes, fixup_of}
-use Rattle.m51_emit.specs.Gathering.{PlacedContent, run_of, runs_of, fixups_of, gathered_of, pushed_after, pushed}
+use Rattle.m51_emit.specs.Gathering.{PlacedContent, run_of, runs_of, fixups_of, gathered_of, pushed_after, run_appended}
 use Rattle.m51_emit.specs.Gathering.{with_run, with_line}
 
 pub pushed_after_last : (run : Run) (more : List Run) (last x : Run)
@@ -17,12 +17,12 @@ pushed_after_last run (next ∷ more) last x = ap (λ (runs : List Run). run ∷
 
 -- a run after runs is joined with the last of them, or follows it
 pub pushed_last : (runs : List Run) (last x : Run)
-    → pushed (runs ++ last ∷ []) x ≡ runs ++ before_runs last.0 last.1 (x ∷ [])
+    → run_appended (runs ++ last ∷ []) x ≡ runs ++ before_runs last.0 last.1 (x ∷ [])
 pushed_last [] last x = refl
 pushed_last (run ∷ more) last x = pushed_after_last run more last x
 
 pushed_cond : (b : Bool) (one two : List Run) (x : Run)
-    → pushed (cond b one two) x ≡ cond b (pushed one x) (pushed two x)
+    → run_appended (cond b one two) x ≡ cond b (run_appended one x) (run_appended two x)
 pushed_cond true one two x = refl
 pushed_cond false one two x = refl
 
@@ -48,7 +48,7 @@ same_end at bytes next x touches =
     ap (λ (n : ℕ). n == x.0) end
 
 before_pushed_after : (at : ℕ) (bytes : List ℕ) (next : Run) (more : List Run) (x : Run)
-    → before_runs at bytes (pushed_after next more x) ≡ pushed (before_runs at bytes (next ∷ more)) x
+    → before_runs at bytes (pushed_after next more x) ≡ run_appended (before_runs at bytes (next ∷ more)) x
 before_pushed_after at bytes next [] x =
     before_cond (next.0 + length next.1 == x.0) at bytes _ _
     ∙ (ap (λ (all : List ℕ). cond (next.0 + length next.1 == x.0)
@@ -62,12 +62,12 @@ before_pushed_after at bytes next (second ∷ more) x =
     ((at, bytes) ∷ next ∷ second ∷ more) x)
 
 before_pushed : (at : ℕ) (bytes : List ℕ) (runs : List Run) (x : Run)
-    → before_runs at bytes (pushed runs x) ≡ pushed (before_runs at bytes runs) x
+    → before_runs at bytes (run_appended runs x) ≡ run_appended (before_runs at bytes runs) x
 before_pushed at bytes [] x = refl
 before_pushed at bytes (next ∷ more) x = before_pushed_after at bytes next more x
 
 if_pushed : (at : ℕ) (bytes : List ℕ) (runs : List Run) (x : Run)
-    → if_bytes at bytes (pushed runs x) ≡ pushed (if_bytes at bytes runs) x
+    → if_bytes at bytes (run_appended runs x) ≡ run_appended (if_bytes at bytes runs) x
 if_pushed at [] runs x = refl
 if_pushed at (byte ∷ bytes) runs x = before_pushed at (byte ∷ bytes) runs x
 

@@ -20,7 +20,8 @@ use Rattle.m51_encode.specs.Reference.{reference_of}
 use Rattle.m51_encode.specs.FieldValues.{field_of}
 use Rattle.m51_encode.specs.Filling.{Answer, and_then, or_out_of_range, fielded}
 use Rattle.m51_encode.specs.Items.{field_of_width, number_bytes}
-use Rattle.m51_encode.specs.Coding.{Line, line_of, line_row, coded_by, coded_line, first_of, second_of, third_of, coded}
+use Rattle.m51_encode.specs.Coding.{Line, instruction_line, line_row, coded_by, coded_line, first_of, second_of}
+use Rattle.m51_encode.specs.Coding.{third_of, coded}
 use Rattle.m51_encode.specs.Meaning.{StandsFor}
 use Rattle.m51_encode.proofs.BitNumbers.{linked_is}
 use Rattle.m51_encode.proofs.Standing.{then_ok, coded_stands_for_line}
@@ -79,7 +80,7 @@ item_lies names width (item.Text characters) = record { lie = omega arith }
 
 pub references_lie : ReferencesLie
 unfolding coded
-references_lie names jump (Code mnemonic operands) = line_lies names (line_of mnemonic operands jump)
+references_lie names jump (Code mnemonic operands) = line_lies names (instruction_line mnemonic operands jump)
 references_lie names jump (Db items) = joined_lies (item_content names Byte) items (item_lies names Byte)
 references_lie names jump (Dw words) = joined_lies (item_content names Word) words (item_lies names Word)
 references_lie names jump body = nothing_lies

@@ -38,14 +38,14 @@ abbrev pub pushed_after : Run → List Run → Run → List Run
 pushed_after last [] x = before_runs last.0 last.1 (x ∷ [])
 pushed_after run (next ∷ more) x = run ∷ pushed_after next more x
 
-abbrev pub pushed : List Run → Run → List Run
-pushed [] x = x ∷ []
-pushed (run ∷ more) x = pushed_after run more x
+abbrev pub run_appended : List Run → Run → List Run
+run_appended [] x = x ∷ []
+run_appended (run ∷ more) x = pushed_after run more x
 
 -- runs with these bytes after them
 abbrev pub with_run : List Run → ℕ → List ℕ → List Run
 with_run runs at [] = runs
-with_run runs at (byte ∷ bytes) = pushed runs (at, byte ∷ bytes)
+with_run runs at (byte ∷ bytes) = run_appended runs (at, byte ∷ bytes)
 
 -- what is gathered, with one additional line
 abbrev pub with_line : List Segment → Gathered → PlacedContent → Gathered

@@ -46,13 +46,13 @@ part_count most bytes = (bytes + (most - 1)) / most
 abbrev pub pieces_of_run : ℕ → Run → List Piece
 pieces_of_run segment run = map (piece_at segment run) (range_with_len 0 (part_count MOST_PIECE_BYTES (length run.1)))
 
-abbrev pub base_of : Option Segment → ℕ
-base_of (Some s) = s.base
-base_of None = 0
+abbrev pub base_or_zero : Option Segment → ℕ
+base_or_zero (Some s) = s.base
+base_or_zero None = 0
 
 -- the address that a segment of the module begins at, 0 where the link places it
 abbrev pub target_base : List Segment → Base → ℕ
-target_base segments (base.Segment number) = base_of (numbered segments number)
+target_base segments (base.Segment number) = base_or_zero (numbered segments number)
 target_base segments target = 0
 
 -- the fixup of a reference to a target with this base, in a segment, whose line lies at that place

@@ -11,7 +11,7 @@ use Rattle.m51_isa.specs.declared.slot.Field.TheVariants as field
 use Rattle.m51_encode.specs.declared.reference.FieldValue.TheVariants.{Number, Linked}
 use Rattle.m51_encode.specs.declared.reference.Reference.{Reference}
 use Rattle.m51_encode.specs.Taking.{takes_class, takes_part, takes_number, held_of}
-use Rattle.m51_encode.specs.Reference.{form_of, bit_of, reference_of}
+use Rattle.m51_encode.specs.Reference.{form_of, bit_of_part, reference_of}
 use Rattle.m51_encode.specs.Bases.{is_current, stands_absolute, is_linked}
 use Rattle.m51_encode.specs.FieldValues.{is_taken, distance, is_near, same_block, rel_of, addr11_of, taken_of, field_of}
 use Rattle.m51_encode.specs.FieldLaws.{IsBitOf, ReferencesHaveBits}
@@ -21,7 +21,7 @@ use Rattle.m51_encode.proofs.TakenFields.{referred, no_reference}
 
 -- the form and the bit of a part in a field fit one another
 bit_fits : (at : Field) (part : Part) → takes_part at part ≡ true → IsBitOf part
-    → IsBitNumber (form_of at part) (bit_of part)
+    → IsBitNumber (form_of at part) (bit_of_part part)
 bit_fits field.Data Whole h is = refl
 bit_fits field.Data High h is = refl
 bit_fits field.Data Low h is = refl

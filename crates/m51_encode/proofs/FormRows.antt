@@ -12,7 +12,8 @@ use Rattle.m51_expr.specs.Operand.{OperandTree}
 use Rattle.m51_encode.specs.JumpForm.{address_after}
 use Rattle.m51_encode.specs.declared.coding.Coded.{Coded}
 use Rattle.m51_encode.specs.Filling.{Answer, filled}
-use Rattle.m51_encode.specs.Coding.{Line, line_of, line_row, coded_in, coded_by, coded_line, coded, outcomes_by}
+use Rattle.m51_encode.specs.Coding.{Line, instruction_line, line_row, coded_in, coded_by, coded_line, coded}
+use Rattle.m51_encode.specs.Coding.{outcomes_by}
 use Rattle.m51_encode.specs.Coding.{outcomes_line, outcomes, length_of}
 use Rattle.m51_encode.specs.Lengths.{HasRow, FormsHaveRows}
 use Rattle.m51_encode.proofs.Standing.{then_ok}
@@ -29,7 +30,8 @@ coded_length names a b c row =
     (texts_are_rows.filled row x.number y.number z.number).length)))
 
 of_row : (mnemonic : List ℕ) (operands : List OperandTree) (form : Jump) (l : Line) (o : Option Instr)
-    → line_of mnemonic operands form ≡ Some l → line_row l ≡ o → is_some o ≡ true → HasRow mnemonic operands form
+    → instruction_line mnemonic operands form ≡ Some l → line_row l ≡ o → is_some o ≡ true
+    → HasRow mnemonic operands form
 unfolding coded outcomes length_of
 of_row mnemonic operands form l None is found h = absurd (cc h)
 of_row mnemonic operands form l (Some row) is found h =
@@ -47,7 +49,7 @@ of_row mnemonic operands form l (Some row) is found h =
     }
 
 of_line : (mnemonic : List ℕ) (operands : List OperandTree) (form : Jump) (l : Line)
-    → line_of mnemonic operands form ≡ Some l → is_some (line_row l) ≡ true → HasRow mnemonic operands form
+    → instruction_line mnemonic operands form ≡ Some l → is_some (line_row l) ≡ true → HasRow mnemonic operands form
 of_line mnemonic operands form l is h = of_row mnemonic operands form l (line_row l) is refl h
 
 pub forms_have_rows : FormsHaveRows

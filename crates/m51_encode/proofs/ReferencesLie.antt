@@ -14,7 +14,7 @@ use Rattle.m51_isa.specs.declared.slot.FieldSlot.{FieldSlot}
 use Rattle.m51_isa.specs.declared.slot.Slot.{Slot}
 use Rattle.m51_isa.specs.declared.slot.Slot.TheVariants.{Imm, Plain, NotBit}
 use Rattle.m51_isa.specs.Spelling.{field_in, text_of}
-use Rattle.m51_isa.specs.TextLaws.{numbered}
+use Rattle.m51_isa.specs.TextLaws.{slot_with_number}
 use Rattle.m51_expr.specs.declared.value.Value.{Value}
 use Rattle.m51_expr.specs.Value.{Valued}
 use Rattle.m51_expr.specs.Tree.{Tree}
@@ -229,7 +229,7 @@ module _ (a b c : Held) (in_a in_b in_c : Option FieldSlot) (begins_a : Begins i
   only_fields (suc (suc (suc k))) r h = absurd (cc h)
 
 -- numbers do not move fields
-pub same_byte : (s : Slot) (n : ℕ) → byte_of (field_in s) ≡ byte_of (field_in (numbered s n))
+pub same_byte : (s : Slot) (n : ℕ) → byte_of (field_in s) ≡ byte_of (field_in (slot_with_number s n))
 same_byte (Imm f) n = refl
 same_byte (Plain f) n = refl
 same_byte (NotBit f) n = refl

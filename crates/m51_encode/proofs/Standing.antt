@@ -13,7 +13,7 @@ use Rattle.m51_isa.specs.Table.{length_of as row_length}
 use Rattle.m51_isa.specs.declared.slot.FieldSlot.{FieldSlot}
 use Rattle.m51_isa.specs.Spelling.{field_in, look_of, Text, text, text_of}
 use Rattle.m51_isa.specs.Filling.{with_numbers}
-use Rattle.m51_isa.specs.TextLaws.{numbered, refilled, IsWritten}
+use Rattle.m51_isa.specs.TextLaws.{slot_with_number, refilled, HasRowText}
 use Rattle.m51_isa.proofs.RowsFilled.{texts_are_rows}
 use Rattle.m51_expr.specs.Meanings.{Meanings}
 use Rattle.m51_expr.specs.Operand as line
@@ -58,13 +58,14 @@ shown : (a : Look) (s : Slot) → look_of s ≡ a → Shows a s
 shown a s e = subst (λ v. Shows v s) e (shows_itself s)
 
 register_fills : (names : Meanings) (next : ℕ) (rs : List (Option Reference)) (n k : ℕ) (b : Bool) → nat_lt n 8 ≡ b
-    → (s : Slot) → Shows (cond b (look.R n) look.Other) s → Fills names next rs (Some (line.R n)) (numbered s k)
+    → (s : Slot) → Shows (cond b (look.R n) look.Other) s → Fills names next rs (Some (line.R n)) (slot_with_number s k)
 register_fills names next rs n k true below (R m) h = record { same = h; there = ltb-true n 8 below }
 register_fills names next rs n k true below s h = absurd h
 register_fills names next rs n k false below s h = absurd h
 
 pointer_fills : (names : Meanings) (next : ℕ) (rs : List (Option Reference)) (n k : ℕ) (b : Bool) → nat_lt n 2 ≡ b
-    → (s : Slot) → Shows (cond b (look.AtR n) look.Other) s → Fills names next rs (Some (line.AtR n)) (numbered s k)
+    → (s : Slot) → Shows (cond b (look.AtR n) look.Other) s
+    → Fills names next rs (Some (line.AtR n)) (slot_with_number s k)
 pointer_fills names next rs n k true below (AtR m) h = record { same = h; there = ltb-true n 2 below }
 pointer_fills names next rs n k true below s h = absurd h
 pointer_fills names next rs n k false below s h = absurd h
@@ -87,7 +88,7 @@ field_fills names next rs s f t held is lies e = record {
 -- an operand that gave a number, and looks like the operand of a row, means that operand with the number
 operand_fills : (names : Meanings) (next : ℕ) (rs : List (Option Reference)) (o : Option OperandTree) (s : Slot)
     (held : Held) → Lies rs s held → filled names next (field_in s) o ≡ Ok held → Shows (look_in o) s
-    → Fills names next rs o (numbered s held.number)
+    → Fills names next rs o (slot_with_number s held.number)
 operand_fills names next rs None Nothing held lies e h = tt
 operand_fills names next rs (Some line.A) A held lies e h = tt
 operand_fills names next rs (Some line.Ab) Ab held lies e h = tt
@@ -119,8 +120,8 @@ spelled P x i e h = subst (λ v. IfSome v P) e h
 -- the fields of the row begin where those of its text with other numbers do
 renumbered : (byte m n k : ℕ) (s t u : Slot)
     → (byte_of (field_in s) ≡ Some byte) ⊎ ((byte_of (field_in t) ≡ Some byte) ⊎ (byte_of (field_in u) ≡ Some byte))
-    → (byte_of (field_in (numbered s m)) ≡ Some byte) ⊎
-    ((byte_of (field_in (numbered t n)) ≡ Some byte) ⊎ (byte_of (field_in (numbered u k)) ≡ Some byte))
+    → (byte_of (field_in (slot_with_number s m)) ≡ Some byte) ⊎
+    ((byte_of (field_in (slot_with_number t n)) ≡ Some byte) ⊎ (byte_of (field_in (slot_with_number u k)) ≡ Some byte))
 renumbered byte m n k s t u (inl h) = inl (sym (same_byte s m) ∙ h)
 renumbered byte m n k s t u (inr (inl h)) = inr (inl (sym (same_byte t n) ∙ h))
 renumbered byte m n k s t u (inr (inr h)) = inr (inr (sym (same_byte u k) ∙ h))
@@ -136,7 +137,7 @@ numbered_stands names l row a b c found in_first in_second in_third =
     let first : Slot = (text_of row).first in
     let second : Slot = (text_of row).second in
     let third : Slot = (text_of row).third in
-    let P : Instr → Type 0 = IsWritten (meant l) (look_in l.first) (look_in l.second) (look_in l.third) in
+    let P : Instr → Type 0 = HasRowText (meant l) (look_in l.first) (look_in l.second) (look_in l.third) in
     let as_line : P row =
     spelled P (line_row l) row found
     (texts_are_rows.meant l.mnemonic l.jump (look_in l.first) (look_in l.second) (look_in l.third)) in
@@ -153,8 +154,8 @@ numbered_stands names l row a b c found in_first in_second in_third =
     let lies_c : Lies rs third c =
     λ f is at. third_lies a b c (field_in first) (field_in second) (field_in third) begins_a begins_b begins_c f is
     apart.third at in
-    let t : Text = text (text_of row).mnemonic (numbered first a.number) (numbered second b.number)
-    (numbered third c.number) in
+    let t : Text = text (text_of row).mnemonic (slot_with_number first a.number) (slot_with_number second b.number)
+    (slot_with_number third c.number) in
     let whole : TextStands names next rs l t = record {
       mnemonic = sym as_line.mnemonic;
       first = operand_fills names next rs l.first first a lies_a in_first (shown (look_in l.first) first as_line.first);

@@ -7,9 +7,9 @@ use Rattle.m51_encode.specs.declared.filling.Held.{Held}
 use Rattle.m51_encode.specs.declared.outcome.OperandOutcome.{OperandOutcome}
 use Rattle.m51_encode.specs.declared.outcome.OperandOutcome.TheVariants.{Faulty}
 use Rattle.m51_encode.specs.Filling.{Answer}
-use Rattle.m51_encode.specs.Outcomes.{linked, outcome_of, first_faulty}
+use Rattle.m51_encode.specs.Outcomes.{linked, operand_outcome, first_faulty}
 use Rattle.m51_encode.specs.Coding.{coded_as, gathered, three_outcomes, first_of, second_of, third_of, coded}
-use Rattle.m51_encode.specs.OutcomeLaws.{IsTold, OutcomesTell}
+use Rattle.m51_encode.specs.OutcomeLaws.{IsFaultOrCoded, OutcomesTell}
 use Rattle.m51_encode.proofs.FormRows.{forms_have_rows}
 
 skip : (o : Option Reference) (more : List OperandOutcome) → first_faulty (linked o ∷ more) ≡ first_faulty more
@@ -17,20 +17,21 @@ skip None more = refl
 skip (Some r) more = refl
 
 -- of what three operands gave
-told : (row : Instr) (x y z : Answer Held) → IsTold (first_faulty (three_outcomes x y z)) (gathered row x y z)
+told : (row : Instr) (x y z : Answer Held) → IsFaultOrCoded (first_faulty (three_outcomes x y z)) (gathered row x y z)
 told row (Err e) y z = refl
 told row (Ok a) (Err e) z =
     let answer : Answer Coded = Err e in
-    let more : List OperandOutcome = Faulty e.number ∷ outcome_of z ∷ [] in
-    subst (λ w. IsTold w answer) (sym (skip a.reference more)) refl
+    let more : List OperandOutcome = Faulty e.number ∷ operand_outcome z ∷ [] in
+    subst (λ w. IsFaultOrCoded w answer) (sym (skip a.reference more)) refl
 told row (Ok a) (Ok b) (Err e) =
     let answer : Answer Coded = Err e in
     let more : List OperandOutcome = Faulty e.number ∷ [] in
-    subst (λ w. IsTold w answer) (sym (skip a.reference (linked b.reference ∷ more) ∙ skip b.reference more)) refl
+    subst (λ w. IsFaultOrCoded w answer)
+    (sym (skip a.reference (linked b.reference ∷ more) ∙ skip b.reference more)) refl
 told row (Ok a) (Ok b) (Ok c) =
     let answer : Answer Coded = Ok (coded_as row a b c) in
     let more : List OperandOutcome = linked c.reference ∷ [] in
-    subst (λ w. IsTold w answer)
+    subst (λ w. IsFaultOrCoded w answer)
     (sym (skip a.reference (linked b.reference ∷ more) ∙ (skip b.reference more ∙ skip c.reference []))) refl
 
 pub outcomes_tell : OutcomesTell
@@ -39,5 +40,5 @@ outcomes_tell names mnemonic operands may form =
     let x : Answer Held = first_of names has.row has.line.first in
     let y : Answer Held = second_of names has.row has.line.second in
     let z : Answer Held = third_of names has.row has.line.third in
-    subst (λ w. IsTold (first_faulty w) (coded names mnemonic operands form)) (sym (has.comes_to names))
-    (subst (IsTold (first_faulty (three_outcomes x y z))) (sym (has.code names)) (told has.row x y z))
+    subst (λ w. IsFaultOrCoded (first_faulty w) (coded names mnemonic operands form)) (sym (has.comes_to names))
+    (subst (IsFaultOrCoded (first_faulty (three_outcomes x y z))) (sym (has.code names)) (told has.row x y z))

@@ -2,7 +2,7 @@
 use Rattle.std.specs.Prelude.{◌==◌, Bool, false, not, ◌&&◌, ◌||◌}
 use Rattle.m51_cells.specs.declared.kind.Base.{Base}
 use Rattle.m51_cells.specs.declared.kind.Base.TheVariants.{Segment}
-use Rattle.m51_expr.specs.Meanings.{Meanings, is_absolute, is_unplaced}
+use Rattle.m51_expr.specs.Meanings.{Meanings, is_absolute_base, is_unplaced}
 
 -- two segments that are one
 abbrev pub same_segment : Base → Base → Bool
@@ -15,7 +15,7 @@ is_current names base = same_segment base names.here.base
 
 -- the statement is in an absolute segment
 abbrev pub stands_absolute : Meanings → Bool
-stands_absolute names = is_absolute names names.here.base
+stands_absolute names = is_absolute_base names names.here.base
 
 -- a segment that an object has; an absolute one without a byte has the number 0 here, and none there
 abbrev pub is_numbered : Base → Bool

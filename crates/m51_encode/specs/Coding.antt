@@ -20,8 +20,8 @@ use Rattle.m51_encode.specs.declared.filling.Held.{Held}
 use Rattle.m51_encode.specs.JumpForm.{address_after}
 use Rattle.m51_encode.specs.declared.outcome.OperandOutcome.{OperandOutcome}
 use Rattle.m51_encode.specs.declared.outcome.OperandOutcome.TheVariants.{Stands}
-use Rattle.m51_encode.specs.Filling.{Answer, and_then, fault, filled, references_of}
-use Rattle.m51_encode.specs.Outcomes.{outcome_of}
+use Rattle.m51_encode.specs.Filling.{Answer, and_then, coding_fault, filled, references_of}
+use Rattle.m51_encode.specs.Outcomes.{operand_outcome}
 
 -- the tree of a borrowed operand, if there is one
 abbrev pub seen : Option (Bor Operand) → Option OperandTree
@@ -45,12 +45,12 @@ line mnemonic jump first second third =
     record { mnemonic = mnemonic; jump = jump; first = first; second = second; third = third }
 
 -- no instruction has more than three operands
-abbrev pub line_of : List ℕ → List OperandTree → Jump → Option Line
-line_of mnemonic [] jump = Some (line mnemonic jump None None None)
-line_of mnemonic (a ∷ []) jump = Some (line mnemonic jump (Some a) None None)
-line_of mnemonic (a ∷ b ∷ []) jump = Some (line mnemonic jump (Some a) (Some b) None)
-line_of mnemonic (a ∷ b ∷ c ∷ []) jump = Some (line mnemonic jump (Some a) (Some b) (Some c))
-line_of mnemonic more jump = None
+abbrev pub instruction_line : List ℕ → List OperandTree → Jump → Option Line
+instruction_line mnemonic [] jump = Some (line mnemonic jump None None None)
+instruction_line mnemonic (a ∷ []) jump = Some (line mnemonic jump (Some a) None None)
+instruction_line mnemonic (a ∷ b ∷ []) jump = Some (line mnemonic jump (Some a) (Some b) None)
+instruction_line mnemonic (a ∷ b ∷ c ∷ []) jump = Some (line mnemonic jump (Some a) (Some b) (Some c))
+instruction_line mnemonic more jump = None
 
 -- the row of a line, with 0 in each field
 abbrev pub line_row : Line → Option Instr
@@ -86,21 +86,21 @@ coded_in names a b c row = gathered row (first_of names row a) (second_of names 
 -- the answer for the row of a line, if it has one
 abbrev pub coded_by : Meanings → Line → Option Instr → Answer Coded
 coded_by names l (Some row) = coded_in names l.first l.second l.third row
-coded_by names l None = fault NO_INSTRUCTION
+coded_by names l None = coding_fault NO_INSTRUCTION
 
 -- the answer for a line, if it has no more than three operands
 abbrev pub coded_line : Meanings → Option Line → Answer Coded
 coded_line names (Some l) = coded_by names l (line_row l)
-coded_line names None = fault NO_INSTRUCTION
+coded_line names None = coding_fault NO_INSTRUCTION
 
 -- The answer for an instruction of a source: E11 where the table has no such row, else the fault of the leftmost
 -- operand that has one, E7 to E10 or E14, else its bytes and references.
 unfoldable pub coded : Meanings → List ℕ → List OperandTree → Jump → Answer Coded
-coded names mnemonic operands jump = coded_line names (line_of mnemonic operands jump)
+coded names mnemonic operands jump = coded_line names (instruction_line mnemonic operands jump)
 
 -- the outcomes of three operands
 abbrev pub three_outcomes : Answer Held → Answer Held → Answer Held → List OperandOutcome
-three_outcomes a b c = outcome_of a ∷ outcome_of b ∷ outcome_of c ∷ []
+three_outcomes a b c = operand_outcome a ∷ operand_outcome b ∷ operand_outcome c ∷ []
 
 -- the outcomes of the operands in the fields of the row
 abbrev pub outcomes_in : Meanings → Option OperandTree → Option OperandTree → Option OperandTree → Instr
@@ -119,8 +119,9 @@ outcomes_line names None = Stands ∷ Stands ∷ Stands ∷ []
 
 -- The outcomes of the operands of an instruction of a source, from left to right; `Stands` for one that is missing.
 unfoldable pub outcomes : Meanings → List ℕ → List OperandTree → Jump → List OperandOutcome
-outcomes names mnemonic operands jump = outcomes_line names (line_of mnemonic operands jump)
+outcomes names mnemonic operands jump = outcomes_line names (instruction_line mnemonic operands jump)
 
 -- the length of an instruction of a source, whatever the values of its operands
 unfoldable pub length_of : List ℕ → List OperandTree → Jump → Option ℕ
-length_of mnemonic operands jump = option_map row_length (option_and_then line_row (line_of mnemonic operands jump))
+length_of mnemonic operands jump =
+    option_map row_length (option_and_then line_row (instruction_line mnemonic operands jump))

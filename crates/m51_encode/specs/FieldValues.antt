@@ -43,15 +43,15 @@ block_of names next v =
     else None
 
 -- how many numbers a field can hold
-abbrev pub size_of : Field → ℕ
-size_of Data16 = 65536
-size_of Addr16 = 65536
-size_of Addr11 = 2048
-size_of at = 256
+abbrev pub field_capacity : Field → ℕ
+field_capacity Data16 = 65536
+field_capacity Addr16 = 65536
+field_capacity Addr11 = 2048
+field_capacity at = 256
 
 -- a number that the field can hold
 abbrev pub FitsField : Field → FieldValue → Type 0
-FitsField at (Number n) = n < size_of at
+FitsField at (Number n) = n < field_capacity at
 FitsField at (Linked reference) = Unit {0}
 
 -- a reference where the linker adds the base, else the number

@@ -23,8 +23,8 @@ abbrev pub Answer : Type 0 → Type 0
 Answer A = Result A CodingError
 
 -- the fault of this number
-abbrev pub fault : {A : Type 0} → ℕ → Answer A
-fault k = Err (record { number = k })
+abbrev pub coding_fault : {A : Type 0} → ℕ → Answer A
+coding_fault k = Err (record { number = k })
 
 -- an operand without a field
 abbrev pub nothing : Held
@@ -33,12 +33,12 @@ nothing = record { number = 0; byte = 0; reference = None }
 -- a value that has no field is out of its range or class
 abbrev pub or_out_of_range : Option FieldValue → Answer FieldValue
 or_out_of_range (Some held) = Ok held
-or_out_of_range None = fault OUT_OF_RANGE
+or_out_of_range None = coding_fault OUT_OF_RANGE
 
 -- what a value gives in a field, with the address after the statement
 abbrev pub fielded : Meanings → ℕ → Field → Valued Value → Answer FieldValue
 fielded names next at (Ok v) = or_out_of_range (field_of names at next v)
-fielded names next at (Err e) = fault e.number
+fielded names next at (Err e) = coding_fault e.number
 
 -- a field that begins at a byte: its number, and 0 where the linker fills it in
 abbrev pub held_at : ℕ → FieldValue → Held

@@ -6,13 +6,13 @@ use Rattle.m51_isa.specs.Table.{length_of as row_length}
 use Rattle.m51_expr.specs.Meanings.{Meanings}
 use Rattle.m51_expr.specs.Operand.{OperandTree}
 use Rattle.m51_expr.specs.Looks.{has_form}
-use Rattle.m51_encode.specs.Coding.{Line, line_of, coded_in, coded, outcomes_in, outcomes, length_of}
+use Rattle.m51_encode.specs.Coding.{Line, instruction_line, coded_in, coded, outcomes_in, outcomes, length_of}
 
 -- An instruction has the length of a row. Its code and the outcomes of its operands are those of the row, so it is not
 -- E11 for lack of one, and it has as many bytes.
 pub record HasRow (mnemonic : List ℕ) (operands : List OperandTree) (form : Jump) : Type 0 where
   pub line : Line
-  pub is : line_of mnemonic operands form ≡ Some line
+  pub is : instruction_line mnemonic operands form ≡ Some line
   pub row : Instr
   pub length : length_of mnemonic operands form ≡ Some (row_length row)
   pub code : (names : Meanings) →

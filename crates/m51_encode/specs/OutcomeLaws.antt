@@ -7,20 +7,21 @@ use Rattle.m51_expr.specs.Looks.{has_form}
 use Rattle.m51_expr.specs.FaultLaws.{IsFaultOfValue}
 use Rattle.m51_cells.specs.declared.fault.TheConstants.{OUT_OF_RANGE}
 use Rattle.m51_encode.specs.declared.coding.Coded.{Coded}
-use Rattle.m51_encode.specs.Filling.{Answer, fault}
+use Rattle.m51_encode.specs.Filling.{Answer, coding_fault}
 use Rattle.m51_encode.specs.Outcomes.{first_faulty}
 use Rattle.m51_encode.specs.Coding.{coded, outcomes}
 
 -- the answer is this fault, or where there is none it has bytes
-abbrev pub IsTold : Option ℕ → Answer Coded → Type 0
-IsTold (Some number) answer = answer ≡ fault number
-IsTold None answer = IsOk answer
+abbrev pub IsFaultOrCoded : Option ℕ → Answer Coded → Type 0
+IsFaultOrCoded (Some number) answer = answer ≡ coding_fault number
+IsFaultOrCoded None answer = IsOk answer
 
 -- A mnemonic with operands that it may have has a fault exactly if one of them has, and that of the leftmost.
 abbrev pub OutcomesTell : Type 0
 OutcomesTell =
     (names : Meanings) (mnemonic : List ℕ) (operands : List OperandTree) → IsTrue (has_form mnemonic operands)
-    → (form : Jump) → IsTold (first_faulty (outcomes names mnemonic operands form)) (coded names mnemonic operands form)
+    → (form : Jump)
+    → IsFaultOrCoded (first_faulty (outcomes names mnemonic operands form)) (coded names mnemonic operands form)
 
 -- the fault, if there is one, is E7 to E10 or E14
 abbrev pub FailsAsOperand : {A : Type 0} → Answer A → Type 0

@@ -12,9 +12,9 @@ linked (Some reference) = Fixes
 linked None = Stands
 
 -- the outcome of an operand
-abbrev pub outcome_of : Answer Held → OperandOutcome
-outcome_of (Ok held) = linked held.reference
-outcome_of (Err error) = Faulty error.number
+abbrev pub operand_outcome : Answer Held → OperandOutcome
+operand_outcome (Ok held) = linked held.reference
+operand_outcome (Err error) = Faulty error.number
 
 -- the fault of the leftmost that has one
 abbrev pub first_faulty : List OperandOutcome → Option ℕ

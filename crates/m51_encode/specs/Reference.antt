@@ -22,10 +22,10 @@ form_of field.Bit Whole = form.Bit
 form_of at Whole = form.Byte
 
 -- the number of the bit, 0 where the dot names none
-abbrev pub bit_of : Part → ℕ
-bit_of (Bit b) = b
-bit_of part = 0
+abbrev pub bit_of_part : Part → ℕ
+bit_of_part (Bit b) = b
+bit_of_part part = 0
 
 -- what a value in the field leaves to the linker
 abbrev pub reference_of : Field → Value → Reference
-reference_of at v = record { form = form_of at v.part; bit = bit_of v.part; base = v.base; number = v.number }
+reference_of at v = record { form = form_of at v.part; bit = bit_of_part v.part; base = v.base; number = v.number }

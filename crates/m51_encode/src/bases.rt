@@ -3,7 +3,7 @@ ghost use Rattle.std.specs.Prelude.{◌≡◌};
 ghost use Rattle.m51_encode.specs.Bases.{same_segment, is_current, stands_absolute, is_numbered, is_linked};
 
 use m51_cells::Base;
-use m51_expr::{Lookup, is_absolute, is_unplaced};
+use m51_expr::{Lookup, is_absolute_base, is_unplaced};
 
 // Whether two bases are one segment.
 fn same_segment(a: Base, b: Base) -> bool
@@ -26,7 +26,7 @@ pub(crate) fn is_current<L: Lookup>(names: &L, base: Base) -> bool
 pub(crate) fn stands_absolute<L: Lookup>(names: &L) -> bool
     ensures { result ≡ stands_absolute (L.meanings names.now) }
 {
-    is_absolute(names, names.here().base)
+    is_absolute_base(names, names.here().base)
 }
 
 // Whether the base is a segment that has a number; an absolute one without a byte has none.

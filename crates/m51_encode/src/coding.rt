@@ -1,20 +1,17 @@
 //! Codes the instructions of a source.
 ghost use Rattle.std.specs.Prelude.{◌≡◌, map, option_map, Some};
 ghost use Rattle.m51_isa.specs.Table.{length_of as row_length};
-ghost use Rattle.m51_isa.specs.Spelling.{field_in, text_of};
 ghost use Rattle.m51_expr.specs.Operand.{operand_tree};
 ghost use Rattle.m51_encode.specs.Coding.{seen, look_in, line, line_row, coded_as, gathered, coded_in, coded_line};
 ghost use Rattle.m51_encode.specs.Coding.{coded, outcomes_in, outcomes_line, outcomes, length_of};
 
 use crate::choosing::address_after;
 use crate::filling::{CodingError, Held, filled, references_of};
-use crate::outcome::{OperandOutcome, outcome_of};
+use crate::outcome::{OperandOutcome, operand_outcome};
 use crate::reference::Reference;
 use m51_cells::{NO_INSTRUCTION, Name};
 use m51_expr::{Lookup, Operand, look_of};
-use m51_isa::{
-    Code, FieldSlot, Instr, Jump, Look, encode, length, row_for, spelling_of, with_numbers,
-};
+use m51_isa::{Code, Instr, Jump, Look, encode, length, row_for, spelling_of, with_numbers};
 
 /// The bytes of an instruction of a source, and what the linker fills in.
 ///
@@ -73,25 +70,6 @@ fn line_row(
     row_for(word, jump, &look_in(a), &look_in(b), &look_in(c))
 }
 
-// The fields of the operands of a row.
-fn first_field(row: &Instr) -> Option<FieldSlot>
-    ensures { result ≡ field_in (text_of row.now).first }
-{
-    spelling_of(row).first.field()
-}
-
-fn second_field(row: &Instr) -> Option<FieldSlot>
-    ensures { result ≡ field_in (text_of row.now).second }
-{
-    spelling_of(row).second.field()
-}
-
-fn third_field(row: &Instr) -> Option<FieldSlot>
-    ensures { result ≡ field_in (text_of row.now).third }
-{
-    spelling_of(row).third.field()
-}
-
 // The bytes of a row with the numbers that the operands gave, and the references in its fields.
 fn coded_as(row: &Instr, a: Held, b: Held, c: Held) -> Coded
     ensures { result ≡ coded_as row.now a b c }
@@ -131,11 +109,16 @@ fn coding_in<L: Lookup>(
         result.outcomes ≡ outcomes_in names (seen a.entry) (seen b.entry) (seen c.entry) row.now }
 {
     let next = address_after(names, u16::from(length(row)));
-    let first = filled(names, next, first_field(row), a);
-    let second = filled(names, next, second_field(row), b);
-    let third = filled(names, next, third_field(row), c);
+    let text = spelling_of(row);
+    let first = filled(names, next, text.first.field(), a);
+    let second = filled(names, next, text.second.field(), b);
+    let third = filled(names, next, text.third.field(), c);
     Coding {
-        outcomes: [outcome_of(&first), outcome_of(&second), outcome_of(&third)],
+        outcomes: [
+            operand_outcome(&first),
+            operand_outcome(&second),
+            operand_outcome(&third),
+        ],
         coded: gathered(row, first, second, third),
     }
 }

@@ -1,6 +1,6 @@
 //! The outcomes of the operands and items of a statement.
 ghost use Rattle.std.specs.Prelude.{◌≡◌};
-ghost use Rattle.m51_encode.specs.Outcomes.{linked, outcome_of};
+ghost use Rattle.m51_encode.specs.Outcomes.{linked, operand_outcome};
 
 use crate::filling::{CodingError, Held};
 use crate::reference::Reference;
@@ -29,8 +29,8 @@ fn linked(reference: Option<Reference>) -> OperandOutcome
 }
 
 /// The outcome of an operand.
-pub(crate) fn outcome_of(filled: &Result<Held, CodingError>) -> OperandOutcome
-    ensures { result ≡ outcome_of filled.now }
+pub(crate) fn operand_outcome(filled: &Result<Held, CodingError>) -> OperandOutcome
+    ensures { result ≡ operand_outcome filled.now }
 {
     match filled {
         Ok(held) => linked(held.reference),

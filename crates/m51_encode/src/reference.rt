@@ -1,6 +1,6 @@
 //! Fields, and what the linker has to fill in.
 ghost use Rattle.std.specs.Prelude.{◌≡◌};
-ghost use Rattle.m51_encode.specs.Reference.{form_of, bit_of, reference_of};
+ghost use Rattle.m51_encode.specs.Reference.{form_of, bit_of_part, reference_of};
 
 use m51_cells::Base;
 use m51_expr::{Part, Value};
@@ -50,8 +50,8 @@ fn form_of(field: Field, part: Part) -> Form
 }
 
 // The number of the bit that the dot names.
-fn bit_of(part: Part) -> u8
-    ensures { result ≡ bit_of part }
+fn bit_of_part(part: Part) -> u8
+    ensures { result ≡ bit_of_part part }
 {
     match part {
         Part::Bit(bit) => bit,
@@ -65,7 +65,7 @@ pub(crate) fn reference_of(field: Field, value: Value) -> Reference
 {
     Reference {
         form: form_of(field, value.part),
-        bit: bit_of(value.part),
+        bit: bit_of_part(value.part),
         base: value.base,
         number: value.number,
     }

@@ -6,7 +6,8 @@ use Rattle.std.proofs.lemmas.Option.{slice_get_within}
 use Rattle.m51_expr.specs.declared.symbol.Symbol.{Symbol}
 use Rattle.m51_expr.specs.Tree.{Tree, One, Two}
 use Rattle.m51_expr.specs.Ranks.{prefix_of, is_open, is_close, leaf_of}
-use Rattle.m51_expr.specs.Reading.{Line, line_of, Reads, and_on, closed, leaf_at, read, more, enough, expression_in}
+use Rattle.m51_expr.specs.Reading.{Line, line_of_symbols, ParsedTree, and_on, closed, leaf_at, read, more, enough}
+use Rattle.m51_expr.specs.Reading.{expression_in}
 use Rattle.m51_expr.specs.Reading.{expression_from}
 use Rattle.m51_expr.specs.Grammar.{Writes, Leaf, Parens, Before, Between, Tighter, Ends, IsExpression}
 use Rattle.m51_expr.proofs.Ranking.{of_prefix, infix_below, leaf_no_prefix, leaf_not_open, open_no_prefix}
@@ -38,7 +39,7 @@ rank_le {line} {r} (Between {mid = mid} {op = op} left is right) = omega (arith,
 rank_le (Tighter high inner) = omega (arith, high)
 
 -- a tree that is read at a rank, as far as it has come
-abbrev reach : ℕ → Line → ℕ → Tree → ℕ → Reads
+abbrev reach : ℕ → Line → ℕ → Tree → ℕ → ParsedTree
 reach m line rank e to = cond (rank == 8) (it e to) (more m line rank e to)
 
 record Reached (n : ℕ) (line : Line) (rank at : ℕ) (e : Tree) (to : ℕ) : Type 0 where
@@ -169,7 +170,8 @@ close_within symbols at None is h = absurd (cc h)
 close_within symbols at (Some s) is h = slice_get_within symbols at s is
 
 -- what symbols write ends within them
-pub ends_within : (symbols : List Symbol) {rank from : ℕ} {e : Tree} {to : ℕ} → Writes (line_of symbols) rank from e to
+pub ends_within : (symbols : List Symbol) {rank from : ℕ} {e : Tree} {to : ℕ}
+    → Writes (line_of_symbols symbols) rank from e to
     → to ≤ length symbols
 ends_within symbols {rank} {from} {e} {to} (Leaf is leaf end) =
     omega (arith, end, leaf_within symbols from (slice_get symbols from) refl e leaf)
@@ -180,13 +182,13 @@ ends_within symbols (Between lefts is rights) = ends_within symbols rights
 ends_within symbols (Tighter low inner) = ends_within symbols inner
 
 pub expression_from_is : (symbols : List Symbol) (from : ℕ) (e : Tree) (to : ℕ)
-    → IsExpression (line_of symbols) 0 from e to → expression_from from symbols ≡ Some (e, to)
+    → IsExpression (line_of_symbols symbols) 0 from e to → expression_from from symbols ≡ Some (e, to)
 expression_from_is symbols from e to found =
-    complete_at (enough (length symbols - from) 0) (line_of symbols) from e to found
+    complete_at (enough (length symbols - from) 0) (line_of_symbols symbols) from e to found
     (omega (arith, ends_within symbols found.writes))
 
-pub expression_is : (symbols : List Symbol) (e : Tree) (to : ℕ) → IsExpression (line_of symbols) 0 0 e to
+pub expression_is : (symbols : List Symbol) (e : Tree) (to : ℕ) → IsExpression (line_of_symbols symbols) 0 0 e to
     → expression_in symbols ≡ Some (e, to)
 expression_is symbols e to found =
-    complete_at (enough (length symbols) 0) (line_of symbols) 0 e to found
+    complete_at (enough (length symbols) 0) (line_of_symbols symbols) 0 e to found
     (omega (arith, ends_within symbols found.writes))

@@ -3,17 +3,17 @@ use Rattle.std.proofs.Common.{◌≡◌, ℕ, zero, suc, ◌+◌, ◌-◌, ◌<�
 use Rattle.std.proofs.Common.{arith}
 use Rattle.m51_expr.specs.Tree.{Tree}
 use Rattle.m51_expr.specs.Ranks.{of_rank, prefix_operator, prefix_rank, infix_operator, infix_rank}
-use Rattle.m51_expr.specs.Reading.{Line, Reads, and_on, operand, read, more, looser}
+use Rattle.m51_expr.specs.Reading.{Line, ParsedTree, and_on, operand, read, more, looser}
 use Rattle.m51_expr.proofs.Steps.{read_operand, read_plain, more_ends}
 
 none_of : {A : Type 0} (o : Option A) → is_some o ≡ false → o ≡ None
 none_of None h = refl
 none_of (Some a) h = absurd (cc h)
 
-abbrev pub looser_from : ℕ → ℕ → Line → ℕ → Tree → ℕ → Reads
+abbrev pub looser_from : ℕ → ℕ → Line → ℕ → Tree → ℕ → ParsedTree
 looser_from k n line rank left at = looser k n line rank left at
 
-abbrev pub more_from : ℕ → Line → ℕ → Tree → ℕ → Reads
+abbrev pub more_from : ℕ → Line → ℕ → Tree → ℕ → ParsedTree
 more_from n line rank inner next = more n line rank inner next
 
 pub looser_step : (k n : ℕ) (line : Line) (rank : ℕ) (left : Tree) (at : ℕ)
@@ -45,11 +45,13 @@ looser_ends (suc k) n line rank left at none lt =
     ∙ more_ends (n - 1) (n - 1 - 1) line rank left at (omega (arith, lt))
     (ap (of_rank infix_rank rank) (none_of (infix_operator (line at)) none))
 
-all_on : (r : Reads) (go : Tree → ℕ → Reads) → ((e : Tree) (to : ℕ) → go e to ≡ Some (e, to)) → r ≡ and_on r go
+all_on : (r : ParsedTree) (go : Tree → ℕ → ParsedTree) → ((e : Tree) (to : ℕ) → go e to ≡ Some (e, to)) → r
+    ≡ and_on r go
 all_on None go h = refl
 all_on (Some (e, to)) go h = sym (h e to)
 
-on_on : (r : Reads) (first both next : Tree → ℕ → Reads) → ((e : Tree) (to : ℕ) → both e to ≡ and_on (first e to) next)
+on_on : (r : ParsedTree) (first both next : Tree → ℕ → ParsedTree)
+    → ((e : Tree) (to : ℕ) → both e to ≡ and_on (first e to) next)
     → and_on (and_on r first) next ≡ and_on r both
 on_on None first both next h = refl
 on_on (Some (e, to)) first both next h = sym (h e to)

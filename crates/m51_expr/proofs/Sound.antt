@@ -8,30 +8,30 @@ use Rattle.m51_expr.specs.declared.tree.Expr.{Expr}
 use Rattle.m51_expr.specs.declared.fault.ReadError.{ReadError}
 use Rattle.m51_expr.specs.Tree.{Tree, Here as HereTree, One, Two, tree_of}
 use Rattle.m51_expr.specs.Ranks.{prefix_of, infix_of, is_open, is_close, leaf_of}
-use Rattle.m51_expr.specs.Reading.{Line, Reads, and_on, closed, leaf_at, read, more, GivesTree}
+use Rattle.m51_expr.specs.Reading.{Line, ParsedTree, and_on, closed, leaf_at, read, more, GivesTree}
 use Rattle.m51_expr.specs.Grammar.{Writes, Leaf, Parens, Before, Between, Tighter, Ends, IsExpression}
 use Rattle.m51_expr.proofs.Ranking.{none_at_8, ends_at}
 use Rattle.m51_expr.proofs.Steps.{read_operand, read_prefix, read_plain, more_ends, more_goes, gives_ok}
 
 -- the two parts of what is read on
-record Parts (r : Reads) (go : Tree → ℕ → Reads) (e : Tree) (to : ℕ) : Type 0 where
+record Parts (r : ParsedTree) (go : Tree → ℕ → ParsedTree) (e : Tree) (to : ℕ) : Type 0 where
   first : Tree
   next : ℕ
   read_first : r ≡ Some (first, next)
   then_read : go first next ≡ Some (e, to)
 
-parts : (r : Reads) (go : Tree → ℕ → Reads) (e : Tree) (to : ℕ) → and_on r go ≡ Some (e, to) → Parts r go e to
+parts : (r : ParsedTree) (go : Tree → ℕ → ParsedTree) (e : Tree) (to : ℕ) → and_on r go ≡ Some (e, to) → Parts r go e to
 parts None go e to h = absurd (cc h)
 parts (Some (f, next)) go e to h = record { first = f; next = next; read_first = refl; then_read = h }
 
-abbrev pub it : Tree → ℕ → Reads
+abbrev pub it : Tree → ℕ → ParsedTree
 it e at = Some (e, at)
 
-abbrev tree_in : Reads → Tree
+abbrev tree_in : ParsedTree → Tree
 tree_in None = HereTree
 tree_in (Some r) = r.0
 
-abbrev place_in : Reads → ℕ
+abbrev place_in : ParsedTree → ℕ
 place_in None = 0
 place_in (Some r) = r.1
 
@@ -50,7 +50,7 @@ abbrev MoreSound : ℕ → Line → Type 0
 MoreSound n line = (rank at : ℕ) (left : Tree) (mid : ℕ) (e : Tree) (to : ℕ) → rank < 8 → Writes line rank at left mid
     → Ends line (rank + 1) mid → more n line rank left mid ≡ Some (e, to) → IsExpression line rank at e to
 
--- the tree and the place may be called by other names
+-- the tree and the index may be called by other names
 renamed : (line : Line) (rank at : ℕ) (e f : Tree) (i j : ℕ) → it e i ≡ it f j → IsExpression line rank at e i
     → IsExpression line rank at f j
 renamed line rank at e f i j h found =

@@ -9,11 +9,11 @@ use Rattle.m51_expr.specs.declared.fault.ReadError.{ReadError}
 use Rattle.m51_expr.specs.declared.fault.ReadError.TheVariants.{Fault, Memory}
 use Rattle.m51_expr.specs.Tree.{Tree, One, Two, tree_of}
 use Rattle.m51_expr.specs.Ranks.{prefix_of, infix_of}
-use Rattle.m51_expr.specs.Reading.{Line, Reads, and_on, operand, prefixed, followed, read, more, GivesTree}
+use Rattle.m51_expr.specs.Reading.{Line, ParsedTree, and_on, operand, prefixed, followed, read, more, GivesTree}
 use Rattle.m51_expr.specs.Reading.{or_no_expression}
 
 -- what an answer has read
-abbrev read_in : Result (Tree × ℕ) ℕ → Reads
+abbrev read_in : Result (Tree × ℕ) ℕ → ParsedTree
 read_in (Ok r) = Some r
 read_in (Err k) = None
 
@@ -70,21 +70,22 @@ more_goes n m line rank left at op e is = ap (λ k. more k line rank left at) e 
     (λ op. and_on (read m line (rank + 1) (at + 1)) (λ right next. more m line rank (Two op left right) next))) is
 
 -- an error of a part is that of the whole
-pub err_step : (e : ReadError) (part whole : Reads) (go : Tree → ℕ → Reads) → GivesTree (Err e) part
+pub err_step : (e : ReadError) (part whole : ParsedTree) (go : Tree → ℕ → ParsedTree) → GivesTree (Err e) part
     → whole ≡ and_on part go → GivesTree (Err e) whole
 err_step (Fault k) None whole go h is = ap or_no_expression is ∙ h
 err_step (Fault k) (Some r) whole go h is = absurd (cc h)
 err_step Memory part whole go h is = tt
 
 -- a result that gives what `part` reads gives what `whole` reads, if the two are equal
-pub gives_same : (r : Result (Expr × ℕ) ReadError) (part whole : Reads) → GivesTree r part → whole ≡ part
+pub gives_same : (r : Result (Expr × ℕ) ReadError) (part whole : ParsedTree) → GivesTree r part → whole ≡ part
     → GivesTree r whole
 gives_same r part whole h is = subst (GivesTree r) (sym is) h
 
 -- a tree that a function returned is read
-pub gives_ok : (x : Expr × ℕ) (reads : Reads) → GivesTree (Ok x) reads → reads ≡ Some (tree_of x.0, x.1)
+pub gives_ok : (x : Expr × ℕ) (reads : ParsedTree) → GivesTree (Ok x) reads → reads ≡ Some (tree_of x.0, x.1)
 gives_ok x None h = absurd (cc h)
 gives_ok x (Some r) h = ap read_in h
 
-pub gives_read : (e : Expr) (next : ℕ) (reads : Reads) → GivesTree (Ok (e, next)) reads → reads ≡ Some (tree_of e, next)
+pub gives_read : (e : Expr) (next : ℕ) (reads : ParsedTree) → GivesTree (Ok (e, next)) reads → reads
+    ≡ Some (tree_of e, next)
 gives_read e next reads h = gives_ok (e, next) reads h

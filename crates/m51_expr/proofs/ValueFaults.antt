@@ -14,7 +14,7 @@ use Rattle.m51_expr.specs.Value.{Valued, fault, bit_address, counted}
 use Rattle.m51_expr.specs.Meanings.{Meanings, is_unplaced, as_number}
 use Rattle.m51_expr.specs.Operators.{kept_under, or_number, unary, settled, beside, arithmetic, class_of, base_of}
 use Rattle.m51_expr.specs.Operators.{on_base, of_numbers, of_wholes, of_settled, binary}
-use Rattle.m51_expr.specs.Bits.{has_bits, with_bit, placed_bit, bit_of, dot}
+use Rattle.m51_expr.specs.Bits.{has_bits, with_bit, placed_bit, dotted_bit, dot}
 use Rattle.m51_expr.specs.Evaluation.{is_dot, applied, or_unknown, value_of}
 use Rattle.m51_expr.specs.FaultLaws.{IsFaultOfValue, FailsAsValue, ValuesFailByFour}
 
@@ -84,7 +84,7 @@ placed_fails : (x : Value) (bit : ℕ) (o : Option ℕ) → FailsAsValue (placed
 placed_fails x bit None = bit_fails
 placed_fails x bit (Some address) = tt
 
-bit_of_fails : (names : Meanings) (x : Value) (bit : ℕ) → FailsAsValue (bit_of names x bit)
+bit_of_fails : (names : Meanings) (x : Value) (bit : ℕ) → FailsAsValue (dotted_bit names x bit)
 bit_of_fails names x bit =
     let linked : Valued Value = cond (has_bits names x.base x.class) (Ok (with_bit x bit)) (fault 10) in
     let placed : Valued Value = placed_bit x bit (bit_address (counted x) bit) in
@@ -95,8 +95,8 @@ bit_of_fails names x bit =
 
 dot_fails : (names : Meanings) (x n : Value) → FailsAsValue (dot names x n)
 dot_fails names x n =
-    either_fails _ (fault 8) (and_then (as_number names n) (bit_of names x)) base_fails
-    (then_fails (as_number names n) (bit_of names x) (number_fails names n) (bit_of_fails names x))
+    either_fails _ (fault 8) (and_then (as_number names n) (dotted_bit names x)) base_fails
+    (then_fails (as_number names n) (dotted_bit names x) (number_fails names n) (bit_of_fails names x))
 
 applied_fails : (names : Meanings) (op : Binary) (x y : Value) → FailsAsValue (applied names op x y)
 applied_fails names op x y =

@@ -32,8 +32,8 @@ placed_bit x bit None = fault NO_BIT
 placed_bit x bit (Some address) = Ok (if keeps_base x then with_bit x bit else plain address kind.Bits)
 
 -- a bit of a byte
-abbrev pub bit_of : Meanings → Value → ℕ → Valued Value
-bit_of names x bit =
+abbrev pub dotted_bit : Meanings → Value → ℕ → Valued Value
+dotted_bit names x bit =
     if nat_lt 7 bit then fault NO_BIT
     else if is_unplaced names x.base then (if has_bits names x.base x.class then Ok (with_bit x bit) else fault NO_BIT)
     else placed_bit x bit (bit_address (counted x) bit)
@@ -42,4 +42,4 @@ bit_of names x bit =
 abbrev pub dot : Meanings → Value → Value → Valued Value
 dot names x n =
     if is_unplaced names x.base && not (is_whole x.part) then fault BASE_NOT_ALLOWED
-    else and_then (as_number names n) (bit_of names x)
+    else and_then (as_number names n) (dotted_bit names x)

@@ -6,8 +6,8 @@ use Rattle.m51_expr.specs.Tree.{Tree, One, Two}
 use Rattle.m51_expr.specs.Ranks.{prefix_of, infix_of, is_open, is_close, leaf_of}
 use Rattle.m51_expr.specs.Reading.{Line}
 
--- Writes line rank from e to: from one place up to another the line writes a tree, as an expression of the rank.
---   operand      = number | name | $ | ( expression )
+-- Writes line rank from e to: from one index up to another the line writes a tree, as an expression of the rank.
+--   operand      = number | text of one or two characters | name | $ | ( expression )
 --   of a rank    = prefix of the rank, expression of the rank
 --                | expression of the rank, infix of the rank, expression of the next rank
 --                | expression of the next rank
@@ -26,11 +26,11 @@ pub data Writes (line : Line) : ℕ → ℕ → Tree → ℕ → Type 0 where
   Tighter : {rank from to : ℕ} {e : Tree}
       → rank < 8 → Writes line (rank + 1) from e to → Writes line rank from e to
 
--- no operator of this rank or a tighter one is at a place
+-- no operator of this rank or a tighter one is at an index
 abbrev pub Ends : Line → ℕ → ℕ → Type 0
 Ends line rank at = (r : ℕ) → rank ≤ r → infix_of (line at) r ≡ None
 
--- the whole expression of a rank that begins at a place: the line writes it, and it does not continue after its end
+-- the whole expression of a rank that begins at an index: the line writes it, and it does not continue after its end
 pub record IsExpression (line : Line) (rank from : ℕ) (e : Tree) (to : ℕ) : Type 0 where
   pub writes : Writes line rank from e to
   pub ends : Ends line rank to

@@ -14,9 +14,9 @@ pub record Meanings : Type 0 where
   pub bitaddressable : ℕ → Bool
 
 -- an absolute segment
-abbrev pub is_absolute : Meanings → Base → Bool
-is_absolute names (base.Segment s) = names.fixed s
-is_absolute names _ = false
+abbrev pub is_absolute_base : Meanings → Base → Bool
+is_absolute_base names (base.Segment s) = names.fixed s
+is_absolute_base names _ = false
 
 -- relocatable or external: the link places it
 abbrev pub is_unplaced : Meanings → Base → Bool

@@ -15,7 +15,7 @@ use Rattle.m51_expr.specs.declared.tree.Binary.TheVariants as op2
 use Rattle.m51_cells.specs.declared.fault.TheConstants.{BASE_NOT_ALLOWED, DIVISION_BY_ZERO}
 use Rattle.m51_cells.specs.Outcome.{and_then}
 use Rattle.m51_expr.specs.Value.{Valued, fault, plain, is_whole, counted}
-use Rattle.m51_expr.specs.Meanings.{Meanings, is_absolute, is_unplaced, as_number}
+use Rattle.m51_expr.specs.Meanings.{Meanings, is_absolute_base, is_unplaced, as_number}
 
 -- a value of this base and part under HIGH or LOW, where it keeps its base
 abbrev pub under : Part → Value → Base → Part → Option Value
@@ -46,7 +46,7 @@ settled names v = if is_unplaced names v.base || is_whole v.part then v else pla
 
 -- an absolute base beside a relocatable or external one counts as its number
 abbrev pub beside : Meanings → Base → Value → Value
-beside names other v = if is_unplaced names other && is_absolute names v.base then plain v.number v.class else v
+beside names other v = if is_unplaced names other && is_absolute_base names v.base then plain v.number v.class else v
 
 -- the bases are one
 abbrev pub same_base : Base → Base → Bool

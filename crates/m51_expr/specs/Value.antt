@@ -33,12 +33,12 @@ is_whole part = false
 
 -- A number under HIGH, LOW or the dot. A byte without a bit address does not occur: a value under the dot that has no
 -- base, or an absolute one, was made of a byte with bits.
-abbrev pub part_of : ℕ → Part → ℕ
-part_of n Whole = n
-part_of n High = n / 256
-part_of n Low = n % 256
-part_of n (Bit b) = unwrap_or (bit_address n b) 0
+abbrev pub part_value : ℕ → Part → ℕ
+part_value n Whole = n
+part_value n High = n / 256
+part_value n Low = n % 256
+part_value n (Bit b) = unwrap_or (bit_address n b) 0
 
 -- what a value with no base or an absolute one counts as in an operator
 abbrev pub counted : Value → ℕ
-counted v = part_of v.number v.part
+counted v = part_value v.number v.part

@@ -37,14 +37,15 @@ operators =
     codes "NE" ∷ codes "LT" ∷ codes "LE" ∷ codes "GT" ∷ codes "GE" ∷ codes "AND" ∷ codes "OR" ∷ codes "XOR" ∷ []
 
 -- one of these words
-abbrev pub is_among : List ℕ → List (List ℕ) → Bool
-is_among word words = list_any (λ w. bytes_eq w word) words
+abbrev pub is_word_among : List ℕ → List (List ℕ) → Bool
+is_word_among word words = list_any (λ w. bytes_eq w word) words
 
 -- a mnemonic, a directive, a kind, a type or a register: no expression begins with it
 unfoldable pub is_language_word : List ℕ → Bool
 is_language_word word =
-    ((is_among word mnemonics || is_among word directives) || is_among word kinds_and_types) || is_among word registers
+    ((is_word_among word mnemonics || is_word_among word directives) || is_word_among word kinds_and_types)
+    || is_word_among word registers
 
 -- what nothing can define
 unfoldable pub is_reserved : List ℕ → Bool
-is_reserved word = (is_language_word word || is_among word bank_registers) || is_among word operators
+is_reserved word = (is_language_word word || is_word_among word bank_registers) || is_word_among word operators

@@ -1,6 +1,6 @@
 //! The dot: bits of bytes.
 ghost use Rattle.std.specs.Prelude.{◌≡◌};
-ghost use Rattle.m51_expr.specs.Bits.{has_bits, keeps_base, bit_of, dot};
+ghost use Rattle.m51_expr.specs.Bits.{has_bits, keeps_base, dotted_bit, dot};
 
 use crate::fault::ExprError;
 use crate::lookup::{Lookup, as_number, is_unplaced};
@@ -28,8 +28,8 @@ fn keeps_base(x: Value) -> bool
 }
 
 // A bit of a byte.
-fn bit_of<L: Lookup>(names: &L, x: Value, bit: u16) -> Result<Value, ExprError>
-    ensures { result ≡ bit_of (L.meanings names.now) x bit }
+fn dotted_bit<L: Lookup>(names: &L, x: Value, bit: u16) -> Result<Value, ExprError>
+    ensures { result ≡ dotted_bit (L.meanings names.now) x bit }
 {
     if bit > 7 {
         return Err(ExprError { number: NO_BIT });
@@ -63,5 +63,5 @@ pub(crate) fn dot<L: Lookup>(names: &L, x: Value, n: Value) -> Result<Value, Exp
         });
     }
     let bit = as_number(names, n)?;
-    bit_of(names, x, bit)
+    dotted_bit(names, x, bit)
 }

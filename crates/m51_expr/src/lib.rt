@@ -20,7 +20,7 @@ pub use evaluating::value_of;
 pub use fault::{ExprError, ReadError};
 pub use laws::values_fail_by_four;
 pub use looks::{has_form, look_of};
-pub use lookup::{Lookup, is_absolute, is_unplaced};
+pub use lookup::{Lookup, is_absolute_base, is_unplaced};
 pub use m51_cells::Base;
 pub use operand::{Item, Items, Operand, Operands};
 pub use ranks::{is_close, is_open};

@@ -1,6 +1,6 @@
 //! What names mean.
 ghost use Rattle.std.specs.Prelude.{◌≡◌};
-ghost use Rattle.m51_expr.specs.Meanings.{Meanings, is_absolute, is_unplaced, as_number};
+ghost use Rattle.m51_expr.specs.Meanings.{Meanings, is_absolute_base, is_unplaced, as_number};
 
 use crate::fault::ExprError;
 use crate::value::{Value, counted};
@@ -32,8 +32,8 @@ pub trait Lookup {
 /// Whether the base is an absolute segment.
 ///
 /// Source: own choice ("Values with a base").
-pub fn is_absolute<L: Lookup>(names: &L, base: Base) -> bool
-    ensures { result ≡ is_absolute (L.meanings names.now) base }
+pub fn is_absolute_base<L: Lookup>(names: &L, base: Base) -> bool
+    ensures { result ≡ is_absolute_base (L.meanings names.now) base }
 {
     match base {
         Base::Segment(segment) => names.fixed(segment),

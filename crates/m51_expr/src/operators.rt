@@ -4,7 +4,7 @@ ghost use Rattle.m51_expr.specs.Operators.{kept_under, unary, settled, beside, s
 ghost use Rattle.m51_expr.specs.Operators.{base_of, of_wholes, binary};
 
 use crate::fault::ExprError;
-use crate::lookup::{Lookup, as_number, is_absolute, is_unplaced};
+use crate::lookup::{Lookup, as_number, is_absolute_base, is_unplaced};
 use crate::tree::{Binary, Unary};
 use crate::value::{Part, Value, counted, is_whole, plain};
 use m51_cells::{BASE_NOT_ALLOWED, Base, DIVISION_BY_ZERO, Kind};
@@ -66,7 +66,7 @@ fn settled<L: Lookup>(names: &L, value: Value) -> Value
 fn beside<L: Lookup>(names: &L, other: Base, value: Value) -> Value
     ensures { result ≡ beside (L.meanings names.now) other value }
 {
-    if is_unplaced(names, other) && is_absolute(names, value.base) {
+    if is_unplaced(names, other) && is_absolute_base(names, value.base) {
         return plain(value.number, value.class);
     }
     value

@@ -100,7 +100,7 @@ pub(crate) fn infix_of(symbol: Option<&Symbol>, rank: u8) -> Option<Binary>
     }
 }
 
-// The number that a text of one or two characters is.
+// The number that a text of one or two characters is, the first one in the high byte; none for any other text.
 fn text_value(characters: &[u8]) -> Option<u16>
     ensures { result ≡ text_value characters.now }
 {

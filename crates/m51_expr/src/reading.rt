@@ -6,7 +6,8 @@ ghost use Rattle.m51_expr.specs.Symbol.{symbol_of};
 ghost use Rattle.m51_expr.specs.Ranks.{prefix_operator};
 ghost use Rattle.m51_expr.specs.Tree.{Tree, tree_of};
 ghost use Rattle.m51_expr.specs.Grammar.{IsExpression};
-ghost use Rattle.m51_expr.specs.Reading.{GivesTree, line_of, read, more, looser, operand, enough, expression_in};
+ghost use Rattle.m51_expr.specs.Reading.{GivesTree, line_of_symbols, read, more, looser, operand, enough};
+ghost use Rattle.m51_expr.specs.Reading.{expression_in};
 ghost use Rattle.m51_expr.specs.Reading.{expression_from};
 
 use crate::fault::ReadError;
@@ -22,9 +23,9 @@ const FAULT: ReadError = ReadError::Fault {
     number: NO_EXPRESSION,
 };
 
-// The symbol at a place, if there is one.
+// The symbol at an index, if there is one.
 fn symbol_at(symbols: &[Symbol], at: usize) -> Option<&Symbol>
-    ensures symbol { option_copied result ≡ line_of symbols.now at }
+    ensures symbol { option_copied result ≡ line_of_symbols symbols.now at }
     ensures within { IsSome result → at < length symbols.now }
 {
     if at >= symbols.len() {
@@ -34,12 +35,12 @@ fn symbol_at(symbols: &[Symbol], at: usize) -> Option<&Symbol>
     }
 }
 
-// The expression of this rank that begins at a place, and the place after it.
+// The expression of this rank that begins at an index, and the index after it.
 #[cycle(reader)]
 fn read(alloc: Global, symbols: &[Symbol], rank: u8, at: usize) -> Result<(Expr, usize), ReadError>
     requires rank { rank ≤ 8 }
     ensures gives { (n : ℕ) → enough (length symbols.now - at) rank ≤ n
-        → GivesTree result (read n (line_of symbols.now) rank at) }
+        → GivesTree result (read n (line_of_symbols symbols.now) rank at) }
     ensures within { IfOk result (λ r. (at < r.1) × (r.1 ≤ length symbols.now)) }
 {
     let symbol = symbol_at(symbols, at);
@@ -61,13 +62,13 @@ fn read(alloc: Global, symbols: &[Symbol], rank: u8, at: usize) -> Result<(Expr,
     }
 }
 
-// The expression of this rank that begins with an operand, and the place after it.
+// The expression of this rank that begins with an operand, and the index after it.
 #[cycle(reader)]
 fn plain(alloc: Global, symbols: &[Symbol], rank: u8, at: usize) -> Result<(Expr, usize), ReadError>
     requires rank { rank ≤ 8 }
-    requires plain { is_some (prefix_operator (line_of symbols.now at)) ≡ false }
+    requires plain { is_some (prefix_operator (line_of_symbols symbols.now at)) ≡ false }
     ensures gives { (n : ℕ) → enough (length symbols.now - at) rank ≤ n
-        → GivesTree result (read n (line_of symbols.now) rank at) }
+        → GivesTree result (read n (line_of_symbols symbols.now) rank at) }
     ensures within { IfOk result (λ r. (at < r.1) × (r.1 ≤ length symbols.now)) }
 {
     let (left, next) = operand(alloc, symbols, at)?;
@@ -86,7 +87,7 @@ fn looser(
     requires rank { rank ≤ 8 }
     requires within { at ≤ length symbols.now }
     ensures gives { (n : ℕ) → enough (length symbols.now - at) rank ≤ n
-        → GivesTree result (looser (8 - rank) n (line_of symbols.now) rank (tree_of left) at) }
+        → GivesTree result (looser (8 - rank) n (line_of_symbols symbols.now) rank (tree_of left) at) }
     ensures within { IfOk result (λ r. (at ≤ r.1) × (r.1 ≤ length symbols.now)) }
 {
     if rank == OPERAND {
@@ -111,7 +112,7 @@ fn more(
     requires rank { rank < 8 }
     requires within { at ≤ length symbols.now }
     ensures gives { (n : ℕ) → enough (length symbols.now - at) 8 ≤ n
-        → GivesTree result (more n (line_of symbols.now) rank (tree_of left) at) }
+        → GivesTree result (more n (line_of_symbols symbols.now) rank (tree_of left) at) }
     ensures within { IfOk result (λ r. (at ≤ r.1) × (r.1 ≤ length symbols.now)) }
 {
     let Some(op) = infix_of(symbol_at(symbols, at), rank) else {
@@ -127,7 +128,7 @@ fn more(
 fn operand(alloc: Global, symbols: &[Symbol], at: usize) -> Result<(Expr, usize), ReadError>
     ensures gives { (n : ℕ) → enough (length symbols.now - at) 9 ≤ n
         → GivesTree result
-        (operand (line_of symbols.now) at (read n (line_of symbols.now) 0 (at + 1))) }
+        (operand (line_of_symbols symbols.now) at (read n (line_of_symbols symbols.now) 0 (at + 1))) }
     ensures within { IfOk result (λ r. (at < r.1) × (r.1 ≤ length symbols.now)) }
 {
     let symbol = symbol_at(symbols, at);
@@ -146,40 +147,42 @@ fn operand(alloc: Global, symbols: &[Symbol], at: usize) -> Result<(Expr, usize)
     }
 }
 
-/// The longest expression that the symbols begin with, and how many of them it has: for a caller who has the symbols of
-/// a line once and reads parts of them.
+/// The expression that the symbols begin with and that no infix operator follows, and how many of them it has: for a
+/// caller who has the symbols of a line once and reads parts of them.
 ///
-/// Errors: E6 where no expression begins them; or out of memory.
+/// Errors: E6 where there is none, as for `1+`; or out of memory.
 ///
 /// Source: own choice ("Ranks of operators").
 pub fn read_symbols(alloc: Global, symbols: &[Symbol]) -> Result<(Expr, usize), ReadError>
     // The tree that reading by ranks gives, or E6.
     ensures gives { GivesTree result (expression_in symbols.now) }
     // It is an expression of the grammar.
-    ensures sound { IfOk result (λ r. IsExpression (line_of symbols.now) 0 0 (tree_of r.0) r.1) }
-    // An expression of the grammar is this one: so there is one at most, and E6 comes only where there is none.
-    ensures complete { (e : Tree) (to : ℕ) → IsExpression (line_of symbols.now) 0 0 e to
+    ensures sound { IfOk result (λ r. IsExpression (line_of_symbols symbols.now) 0 0 (tree_of r.0) r.1) }
+    // An expression of the grammar that no infix operator follows is this one: so there is one at most, and E6 comes
+    // only where there is none.
+    ensures complete { (e : Tree) (to : ℕ) → IsExpression (line_of_symbols symbols.now) 0 0 e to
         → GivesTree result (Some (e, to)) }
     ensures within { IfOk result (λ r. (0 < r.1) × (r.1 ≤ length symbols.now)) }
 {
     read(alloc, symbols, 0, 0)
 }
 
-// The expression that begins at a place among the symbols, and the place after it.
+// The expression that begins at an index among the symbols, and the index after it.
 fn read_from(alloc: Global, symbols: &[Symbol], from: usize) -> Result<(Expr, usize), ReadError>
     ensures gives { GivesTree result (expression_from from symbols.now) }
-    ensures sound { IfOk result (λ r. IsExpression (line_of symbols.now) 0 from (tree_of r.0) r.1) }
-    ensures complete { (e : Tree) (to : ℕ) → IsExpression (line_of symbols.now) 0 from e to
+    ensures sound { IfOk result (λ r. IsExpression (line_of_symbols symbols.now) 0 from (tree_of r.0) r.1) }
+    ensures complete { (e : Tree) (to : ℕ) → IsExpression (line_of_symbols symbols.now) 0 from e to
         → GivesTree result (Some (e, to)) }
     ensures within { IfOk result (λ r. (from < r.1) × (r.1 ≤ length symbols.now)) }
 {
     read(alloc, symbols, 0, from)
 }
 
-/// The longest expression that begins at a token of the line, and the index of the token after it. Both indices count
-/// from the first token of the line, which is 0. The tokens lie in the line, and the index is at most their number.
+/// The expression that begins at a token of the line and that no infix operator follows, and the index of the token
+/// after it. Both indices count from the first token of the line, which is 0. The tokens lie in the line, and the index
+/// is at most their number.
 ///
-/// Errors: E6 where no expression begins there; or out of memory.
+/// Errors: E6 where there is none, as for `1+`; or out of memory.
 ///
 /// Source: own choice ("Ranks of operators").
 pub fn read_expr(
@@ -194,10 +197,11 @@ pub fn read_expr(
     ensures gives { GivesTree result (expression_from from (map (symbol_of line.now) tokens.now)) }
     // It is an expression of the grammar.
     ensures sound { IfOk result (λ r.
-        IsExpression (line_of (map (symbol_of line.now) tokens.now)) 0 from (tree_of r.0) r.1) }
-    // An expression of the grammar is this one: so there is one at most, and E6 comes only where there is none.
+        IsExpression (line_of_symbols (map (symbol_of line.now) tokens.now)) 0 from (tree_of r.0) r.1) }
+    // An expression of the grammar that no infix operator follows is this one: so there is one at most, and E6 comes
+    // only where there is none.
     ensures complete { (e : Tree) (to : ℕ) →
-        IsExpression (line_of (map (symbol_of line.now) tokens.now)) 0 from e to
+        IsExpression (line_of_symbols (map (symbol_of line.now) tokens.now)) 0 from e to
         → GivesTree result (Some (e, to)) }
     ensures within { IfOk result (λ r. (from < r.1) × (r.1 ≤ length tokens.now)) }
 {

@@ -43,7 +43,7 @@ const OPERATORS: [&[u8]; 15] = [
 ];
 
 // Whether the word is one of these.
-fn is_among(word: &[u8], words: &[&[u8]]) -> bool
+fn is_word_among(word: &[u8], words: &[&[u8]]) -> bool
     ensures { result ≡ list_any (λ w. bytes_eq w.now word.now) words.now }
 {
     words.iter().any(|one| *one == word)
@@ -56,9 +56,9 @@ pub(crate) fn is_language_word(word: &[u8]) -> bool
     ensures { result ≡ is_language_word word.now }
 {
     is_mnemonic(word)
-        || is_among(word, &DIRECTIVES)
-        || is_among(word, &KINDS_AND_TYPES)
-        || is_among(word, &REGISTERS)
+        || is_word_among(word, &DIRECTIVES)
+        || is_word_among(word, &KINDS_AND_TYPES)
+        || is_word_among(word, &REGISTERS)
 }
 
 /// Whether nothing can define the word, which is in upper case: a word of the language, `AR0` to `AR7`, or the word
@@ -69,5 +69,7 @@ pub(crate) fn is_language_word(word: &[u8]) -> bool
 pub fn is_reserved(word: &[u8]) -> bool
     ensures { result ≡ is_reserved word.now }
 {
-    is_language_word(word) || is_among(word, &BANK_REGISTERS) || is_among(word, &OPERATORS)
+    is_language_word(word)
+        || is_word_among(word, &BANK_REGISTERS)
+        || is_word_among(word, &OPERATORS)
 }

@@ -48,10 +48,10 @@ fn byte_field(target: u16) -> Option<FieldBytes>
 }
 
 // RELATIVE.
-fn relative_field(target: u16, place: u16) -> Option<FieldBytes>
-    ensures { result ≡ relative_field target place }
+fn relative_field(target: u16, address: u16) -> Option<FieldBytes>
+    ensures { result ≡ relative_field target address }
 {
-    let far = distance(place.wrapping_add(1), target);
+    let far = distance(address.wrapping_add(1), target);
     one_if(is_near(far), low_of(far))
 }
 
@@ -63,10 +63,10 @@ fn block_field(target: u16, first: u8) -> FieldBytes
 }
 
 // INBLOCK.
-fn inblock_field(target: u16, place: u16, first: u8) -> Option<FieldBytes>
-    ensures { result ≡ inblock_field target place first }
+fn inblock_field(target: u16, address: u16, first: u8) -> Option<FieldBytes>
+    ensures { result ≡ inblock_field target address first }
 {
-    if in_one_block(target, place.wrapping_add(2)) {
+    if in_one_block(target, address.wrapping_add(2)) {
         Some(block_field(target, first))
     } else {
         None
@@ -92,17 +92,17 @@ fn conv_field(target: u16, bit: u8) -> Option<FieldBytes>
 /// `None` if the rule of the form fails. The bit is at most 7.
 ///
 /// Source: RL51 guide; OMF-51.
-pub fn field_of(form: Form, bit: u8, target: u16, place: u16, first: u8) -> Option<FieldBytes>
+pub fn field_of(form: Form, bit: u8, target: u16, address: u16, first: u8) -> Option<FieldBytes>
     requires { bit ≤ 7 }
-    ensures { result ≡ field_of form bit target place first }
+    ensures { result ≡ field_of form bit target address first }
 {
     match form {
         Form::Low => Some(FieldBytes::One(low_of(target))),
         Form::High => Some(FieldBytes::One(high_of(target))),
         Form::Byte => byte_field(target),
         Form::Word => Some(FieldBytes::Two(high_of(target), low_of(target))),
-        Form::Relative => relative_field(target, place),
-        Form::Inblock => inblock_field(target, place, first),
+        Form::Relative => relative_field(target, address),
+        Form::Inblock => inblock_field(target, address, first),
         Form::Bit => bit_field(target),
         Form::Conv => conv_field(target, bit),
     }

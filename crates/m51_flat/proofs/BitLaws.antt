@@ -1,12 +1,9 @@
 -- Flags and rotations bit by bit.
-use Rattle.std.proofs.Common.{◌≡◌, ◌≢◌, ℕ, zero, suc, ◌+◌, ◌-◌, ◌*◌, ◌/◌, ◌%◌, ◌<◌, Bool, true, false, refl, ap, ◌∙◌}
-use Rattle.std.proofs.Common.{arith, lit<, ⊎_elim, nat_eq}
-use Rattle.std.specs.Prelude.{◌==◌}
-use Rattle.std.specs.Int.{bit_at}
-use Rattle.std.proofs.lemmas.Bool.Decides.{eqb_tells}
+use Rattle.m51_flat.proofs.Common.{◌≡◌, ◌≢◌, ℕ, zero, suc, ◌+◌, ◌-◌, ◌*◌, ◌/◌, ◌%◌, ◌<◌, Bool, true, false, refl, ap}
+use Rattle.m51_flat.proofs.Common.{◌∙◌, arith, lit<, ⊎_elim, ◌==◌, bit_at, eqb_tells, bit_of}
+use Rattle.std.proofs.Common.{nat_eq}
 use Rattle.m51_isa.proofs.Distinct.{of_register}
 use Rattle.m51_alu.specs.declared.sum.Sum.{Sum}
-use Rattle.m51_alu.specs.Arithmetic.{bit_of}
 use Rattle.m51_flat.specs.Sfr.{with_bit}
 use Rattle.m51_flat.specs.Parts.{with_flags}
 use Rattle.m51_flat.specs.BitLaws.{OneBitIsReplaced, HasFlags, FlagsAreWritten, BitsAreTurned}

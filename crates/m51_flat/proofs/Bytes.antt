@@ -1,21 +1,20 @@
 -- Bytes and their bits.
-use Rattle.std.proofs.Common.{◌≡◌, ◌≢◌, ℕ, zero, suc, ◌+◌, ◌-◌, ◌*◌, ◌/◌, ◌%◌, ◌^◌, ◌<◌, Bool, true, false, cond, List}
-use Rattle.std.proofs.Common.{Some, None, refl, sym, ap, subst, ◌∙◌, arith, length, get_or-set_same, get_or-set_other}
-use Rattle.std.proofs.Common.{⊎_elim, pow_pos}
-use Rattle.std.specs.Prelude.{slice_index, slice_set, bit_and, bit_or, if◌then◌else◌, nat_eq, nat_lt}
-use Rattle.std.specs.Int.{bit_at, w8}
+use Rattle.m51_flat.proofs.Common.{◌≡◌, ◌≢◌, ℕ, zero, suc, ◌+◌, ◌-◌, ◌*◌, ◌/◌, ◌%◌, ◌<◌, Bool, true, false, cond, List}
+use Rattle.m51_flat.proofs.Common.{Some, None, refl, sym, ap, subst, ◌∙◌, arith, length, get_or-set_same}
+use Rattle.m51_flat.proofs.Common.{get_or-set_other, ⊎_elim, slice_index, slice_set, bit_at, eqb_tells, bit_of, Bit}
+use Rattle.m51_flat.proofs.Common.{Value, CellState, States, Holds, Absent, on_value, answered, ram_cell, bits_seen}
+use Rattle.m51_flat.proofs.Common.{FlatBytes, flat_cells}
+use Rattle.std.proofs.Common.{◌^◌}
+use Rattle.std.proofs.Common.{pow_pos}
+use Rattle.std.specs.Prelude.{bit_and, bit_or, if◌then◌else◌, nat_eq, nat_lt}
+use Rattle.std.specs.Int.{w8}
 use Rattle.std.proofs.Math.Arith.{mod-mul}
 use Rattle.std.proofs.lemmas.Bool.{lt-ltb}
 use Rattle.std.proofs.lemmas.Nat.Bits.{bit_at-suc, bit_at_set_same, bit_at_set_other, bit_at_clear_same}
 use Rattle.std.proofs.lemmas.Nat.Bits.{bit_at_clear_other}
-use Rattle.std.proofs.lemmas.Bool.Decides.{eqb_tells}
 use Rattle.m51_isa.proofs.Distinct.{of_register}
-use Rattle.m51_alu.specs.Arithmetic.{bit_of}
-use Rattle.m51_flat.specs.declared.state.Put.TheVariants.{Bit}
-use Rattle.m51_flat.specs.declared.state.Seen.TheVariants.{Value}
-use Rattle.m51_flat.specs.States.{CellState, States, Holds, Absent, on_value, answered, ram_cell, bits_seen, byte_seen}
+use Rattle.m51_flat.specs.States.{byte_seen}
 use Rattle.m51_flat.specs.States.{state_over, states_after}
-use Rattle.m51_flat.specs.Flat.{FlatBytes, flat_cells}
 use Rattle.m51_flat.specs.Sfr.{with_bit}
 use Rattle.m51_flat.proofs.Flat.{same_states}
 

@@ -1,16 +1,12 @@
 -- Reads without a value and puts that are shut name cells that exist.
-use Rattle.std.proofs.Common.{◌≡◌, ℕ, zero, suc, ◌+◌, ◌*◌, ◌<◌, ◌≤◌, Bool, true, false, cond, Option, Some, None}
-use Rattle.std.proofs.Common.{Result, refl, sym, subst, arith}
+use Rattle.m51_flat.proofs.Common.{◌≡◌, ℕ, zero, suc, ◌+◌, ◌*◌, ◌<◌, ◌≤◌, Bool, true, false, cond, Option, Some, None}
+use Rattle.m51_flat.proofs.Common.{Result, refl, sym, subst, arith, Cell, Missing, Put, Nothing, Byte, Bit, Xbyte, Seen}
+use Rattle.m51_flat.proofs.Common.{Value, States, CellState, Holds, Absent, Fresh, answered, bits_seen, on_value}
+use Rattle.m51_flat.proofs.Common.{ram_cell, xram_cell, value_or_missing}
 use Rattle.std.specs.Prelude.{IfErr, IfSome}
-use Rattle.m51_cells.specs.declared.cell.Cell.{Cell}
-use Rattle.m51_flat.specs.declared.state.Missing.{Missing}
-use Rattle.m51_flat.specs.declared.state.Put.{Put}
-use Rattle.m51_flat.specs.declared.state.Put.TheVariants.{Nothing, Byte, Bit, Xbyte}
-use Rattle.m51_flat.specs.declared.state.Seen.{Seen}
-use Rattle.m51_flat.specs.declared.state.Seen.TheVariants.{Value, Outside, Unset}
-use Rattle.m51_flat.specs.States.{States, CellState, Holds, Absent, Fresh, answered, bit_seen, bits_seen, byte_seen}
-use Rattle.m51_flat.specs.States.{first_barred, on_value, ram_cell, shut_of, xbyte_seen, xram_cell}
-use Rattle.m51_flat.specs.Reads.{value_or_missing}
+use Rattle.m51_flat.specs.declared.state.Seen.TheVariants.{Outside, Unset}
+use Rattle.m51_flat.specs.States.{bit_seen, byte_seen}
+use Rattle.m51_flat.specs.States.{first_barred, shut_of, xbyte_seen}
 use Rattle.m51_flat.specs.Causes.{IsMissing, IsBarred}
 
 -- a read that has no value names a cell that exists and holds none

@@ -1,15 +1,12 @@
 -- What a device that stores a register keeps, and what is on the stack after a call.
-use Rattle.std.proofs.Common.{◌≡◌, ◌≢◌, ◌+◌, ◌-◌, ◌%◌, ◌≤◌, ℕ, Bool, true, false, cond, length, slice_set, length-set}
-use Rattle.std.proofs.Common.{ap, sym, ◌∙◌, refl, lit≤}
-use Rattle.m51_flat.specs.declared.state.Cpu.{Cpu}
-use Rattle.m51_flat.specs.declared.state.Effect.{Effect}
-use Rattle.m51_alu.specs.Arithmetic.{bit_of, parity_of}
-use Rattle.std.specs.Int.{bit_at}
+use Rattle.m51_flat.proofs.Common.{◌≡◌, ◌≢◌, ◌+◌, ◌-◌, ◌%◌, ◌≤◌, ℕ, Bool, true, false, cond, length, ap, sym, ◌∙◌, refl}
+use Rattle.m51_flat.proofs.Common.{Cpu, Effect, bit_of, parity_of, bit_at, acc, psw, sp, HasParity}
+use Rattle.std.proofs.Common.{slice_set, length-set}
+use Rattle.std.proofs.Common.{lit≤}
 use Rattle.std.specs.Prelude.{◌||◌}
-use Rattle.m51_flat.specs.Sfr.{acc, has_register, latch, psw, sp, with_bit, with_flag, with_latch, with_parity}
+use Rattle.m51_flat.specs.Sfr.{has_register, latch, with_bit, with_flag, with_latch, with_parity}
 use Rattle.m51_flat.specs.Sfr.{with_sfr}
 use Rattle.m51_flat.specs.Transfers.{called, stacked}
-use Rattle.m51_flat.specs.Laws.{HasParity}
 use Rattle.m51_flat.specs.DeviceLaws.{CallsAreMade, FlagsKeepTheRest, KeepsTheRest, PcIsStacked, SameControl}
 use Rattle.m51_flat.specs.DeviceLaws.{StoresKeepTheRest}
 use Rattle.m51_flat.proofs.Flows.{called_calls, sp_written}

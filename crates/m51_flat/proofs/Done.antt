@@ -1,21 +1,16 @@
 -- Where the outcome of an instruction is an effect, its puts are open, and over each map that agrees with the store the
 -- effect is the same.
-use Rattle.std.proofs.Common.{◌≡◌, ℕ, Bool, true, false, List, [], ◌∷◌, Option, Some, None, refl, sym, ap, ◌∙◌}
+use Rattle.m51_flat.proofs.Common.{◌≡◌, ℕ, Bool, true, false, List, ◌∷◌, Option, Some, None, refl, sym, ap, ◌∙◌, Cell}
+use Rattle.m51_flat.proofs.Common.{and_then, Instr, Cpu, Pins, Effect, Seen, Value, CellState, Holds, Absent, Fresh}
+use Rattle.m51_flat.proofs.Common.{States, Access, Agrees, CellMap, access_seen, accesses_over, first_missing}
+use Rattle.m51_flat.proofs.Common.{result_over, value_or_missing, concluded, plan_of, unless_shut}
+use Rattle.std.proofs.Common.{[]}
 use Rattle.std.specs.Prelude.{if◌then◌else◌}
-use Rattle.m51_cells.specs.declared.cell.Cell.{Cell}
-use Rattle.m51_cells.specs.Outcome.{and_then}
-use Rattle.m51_isa.specs.declared.instr.Instr.{Instr}
-use Rattle.m51_flat.specs.declared.state.Cpu.{Cpu}
-use Rattle.m51_flat.specs.declared.state.Pins.{Pins}
-use Rattle.m51_flat.specs.declared.state.Effect.{Effect}
-use Rattle.m51_flat.specs.declared.state.Seen.{Seen}
-use Rattle.m51_flat.specs.declared.state.Seen.TheVariants.{Value, Outside as SeenOutside, Unset as SeenUnset}
+use Rattle.m51_flat.specs.declared.state.Seen.TheVariants.{Outside as SeenOutside, Unset as SeenUnset}
 use Rattle.m51_flat.specs.Outcome.{Outcome, Done, PowerDown}
-use Rattle.m51_flat.specs.States.{CellState, Holds, Absent, Fresh, States, shut_of}
-use Rattle.m51_flat.specs.Reads.{Access, Agrees, CellMap, access_seen, accesses_over, first_missing, result_over}
-use Rattle.m51_flat.specs.Reads.{value_or_missing}
+use Rattle.m51_flat.specs.States.{shut_of}
 use Rattle.m51_flat.specs.Sfr.{flag, pcon}
-use Rattle.m51_flat.specs.Meaning.{concluded, outcome_of, plan_of, unless_shut}
+use Rattle.m51_flat.specs.Meaning.{instruction_outcome}
 use Rattle.m51_flat.specs.OutcomeLaws.{EffectsAreDone, PowerGoesDown}
 use Rattle.m51_flat.proofs.Readings.{readings}
 
@@ -91,9 +86,9 @@ map_agrees s = record { ram = λ n v e. ap value_of e; xram = λ n v e. ap value
 
 open_over : (cpu : Cpu) (cells : States) (barred : Cell → Bool) (instr : Instr) (image : List ℕ) (ext : Pins)
     (m : CellMap) (e : Effect)
-    → outcome_of cpu cells barred instr image ext ≡ Done e → Agrees cells m
+    → instruction_outcome cpu cells barred instr image ext ≡ Done e → Agrees cells m
     → IsOpen barred (result_over m (plan_of cpu instr image ext)) e
-unfolding outcome_of
+unfolding instruction_outcome
 open_over cpu cells barred instr image ext m e h g =
     let p = plan_of cpu instr image ext in
     open_is barred cells (accesses_over m p) (result_over m p) e
@@ -110,7 +105,7 @@ effects_are_done cpu cells barred instr image ext e h =
     }
 
 pub power_goes_down : PowerGoesDown
-unfolding outcome_of
+unfolding instruction_outcome
 power_goes_down cpu cells barred instr image ext m h g =
     let p = plan_of cpu instr image ext in
     down_is barred cells (accesses_over m p) (result_over m p) (ap (concluded barred) (sym (readings p cells m g)) ∙ h)

@@ -1,37 +1,31 @@
 -- One induction over the actions: what each write of a register or of memory keeps, and each jump, every action keeps
 -- that is no call and no return.
-use Rattle.std.proofs.Common.{◌≡◌, ℕ, ◌+◌, ◌%◌, ◌<◌, Bool, true, false, cond, List, Option, Some, None, refl, subst}
-use Rattle.std.proofs.Common.{sym, ap, ◌∙◌, arith}
+use Rattle.m51_flat.proofs.Common.{◌≡◌, ℕ, ◌+◌, ◌%◌, ◌<◌, Bool, true, false, cond, List, Option, Some, None, refl}
+use Rattle.m51_flat.proofs.Common.{subst, sym, ap, ◌∙◌, arith, ◌==◌, ◌&&◌, Instr, Cpu, Pins, Effect, Put, Xbyte, Action}
+use Rattle.m51_flat.proofs.Common.{JumpIndirect, CallTo, CallNear, Return, Reads, Ends, Read, acc, psw, sp, action_of}
+use Rattle.m51_flat.proofs.Common.{plan, Always}
 use Rattle.std.proofs.lemmas.Bool.{cond_both, ltb-true}
-use Rattle.std.specs.Prelude.{◌==◌, ◌&&◌, nat_lt, IfSome}
+use Rattle.std.specs.Prelude.{nat_lt, IfSome}
 use Rattle.m51_alu.specs.declared.sum.Sum.{Sum}
-use Rattle.m51_isa.specs.declared.instr.Instr.{Instr}
 use Rattle.m51_isa.specs.declared.instr.Instr.TheVariants.{Nop}
 use Rattle.m51_isa.specs.declared.instr.Written.{Written}
 use Rattle.m51_isa.specs.declared.instr.Written.TheVariants.{Nothing, Direct as DirectByte, Bit, BitIfSet}
 use Rattle.m51_isa.specs.Changes.{written_of}
 use Rattle.m51_isa.specs.Targets.{near, relative}
-use Rattle.m51_flat.specs.declared.state.Cpu.{Cpu}
-use Rattle.m51_flat.specs.declared.state.Pins.{Pins}
-use Rattle.m51_flat.specs.declared.state.Effect.{Effect}
-use Rattle.m51_flat.specs.declared.state.Put.{Put}
-use Rattle.m51_flat.specs.declared.state.Put.TheVariants.{Xbyte}
 use Rattle.m51_flat.specs.declared.state.Transfer.TheVariants.{Jump}
 use Rattle.m51_flat.specs.declared.actions.Addressing.{Addressing}
 use Rattle.m51_flat.specs.declared.actions.Addressing.TheVariants.{Accumulator, Direct, Indirect, Bank}
 use Rattle.m51_flat.specs.declared.actions.ByteOperand.TheVariants.{At}
 use Rattle.m51_flat.specs.declared.actions.Location.{Location}
 use Rattle.m51_flat.specs.declared.actions.Location.TheVariants.{Ram, Sfr}
-use Rattle.m51_flat.specs.declared.actions.Action.{Action}
 use Rattle.m51_flat.specs.declared.actions.Action.TheVariants.{Skip, Assign, Accumulate, Combine, Change, Turn}
 use Rattle.m51_flat.specs.declared.actions.Action.TheVariants.{Multiply, Divide, Exchange, ExchangeDigit, LoadDptr}
 use Rattle.m51_flat.specs.declared.actions.Action.TheVariants.{AdvanceDptr, LoadExternal, StoreExternal, LoadCode, Push}
 use Rattle.m51_flat.specs.declared.actions.Action.TheVariants.{Pop, ChangeCarry, CarryWith, StoreBit, FlipBit, JumpTo}
-use Rattle.m51_flat.specs.declared.actions.Action.TheVariants.{JumpNear, JumpBy, JumpIndirect, BranchOn, BranchOnBit}
-use Rattle.m51_flat.specs.declared.actions.Action.TheVariants.{TestAndClear, Compare, CountDown, CallTo, CallNear}
-use Rattle.m51_flat.specs.declared.actions.Action.TheVariants.{Return}
-use Rattle.m51_flat.specs.Reads.{Reads, Ends, Read, then_read}
-use Rattle.m51_flat.specs.Sfr.{acc, breg, dph, dpl, flag, latch, psw, sp, with_sfr}
+use Rattle.m51_flat.specs.declared.actions.Action.TheVariants.{JumpNear, JumpBy, BranchOn, BranchOnBit}
+use Rattle.m51_flat.specs.declared.actions.Action.TheVariants.{TestAndClear, Compare, CountDown}
+use Rattle.m51_flat.specs.Reads.{then_read}
+use Rattle.m51_flat.specs.Sfr.{breg, dph, dpl, flag, latch, with_sfr}
 use Rattle.m51_flat.specs.Operands.{bank, bit_found_at, bit_latch_at, byte_of_bit, found_at, latch_at, location_of}
 use Rattle.m51_flat.specs.Operands.{operand_value, with_bit_at, with_location}
 use Rattle.m51_flat.specs.Parts.{branched, jumped, with_carry, with_dptr, with_pair, with_sum}
@@ -39,9 +33,6 @@ use Rattle.m51_flat.specs.Arithmetic.{assigned, changed, combined, digits_exchan
 use Rattle.m51_flat.specs.Moves.{code_loaded, external_address, external_loaded, external_stored, popped, pushed}
 use Rattle.m51_flat.specs.Bits.{bit_flipped, branched_on_bit, carry_merged, tested_and_cleared}
 use Rattle.m51_flat.specs.Transfers.{compared, counted_down}
-use Rattle.m51_flat.specs.Actions.{action_of}
-use Rattle.m51_flat.specs.Meaning.{plan}
-use Rattle.m51_flat.specs.Laws.{Always}
 use Rattle.m51_flat.specs.LevelLaws.{is_written}
 
 -- what an action writes at an address of its operand
@@ -50,13 +41,13 @@ place_written (Direct a) = DirectByte a
 place_written _ = Nothing
 
 abbrev pub written_by : Action → Written
-written_by (Assign place from) = place_written place
-written_by (Combine op place from) = place_written place
-written_by (Change count place) = place_written place
-written_by (Exchange place) = place_written place
-written_by (ExchangeDigit place) = place_written place
-written_by (Pop place) = place_written place
-written_by (CountDown place rel) = place_written place
+written_by (Assign addressing from) = place_written addressing
+written_by (Combine op addressing from) = place_written addressing
+written_by (Change count addressing) = place_written addressing
+written_by (Exchange addressing) = place_written addressing
+written_by (ExchangeDigit addressing) = place_written addressing
+written_by (Pop addressing) = place_written addressing
+written_by (CountDown addressing rel) = place_written addressing
 written_by (StoreBit from bit) = Bit bit
 written_by (FlipBit bit) = Bit bit
 written_by (TestAndClear bit rel) = BitIfSet bit
@@ -71,7 +62,7 @@ target_by (BranchOn condition rel) next = Some (relative next rel)
 target_by (BranchOnBit test bit rel) next = Some (relative next rel)
 target_by (TestAndClear bit rel) next = Some (relative next rel)
 target_by (Compare first second rel) next = Some (relative next rel)
-target_by (CountDown place rel) next = Some (relative next rel)
+target_by (CountDown addressing rel) next = Some (relative next rel)
 target_by _ next = None
 
 -- what it writes is the column of the instruction
@@ -98,8 +89,8 @@ beside_false false c e = refl
 
 -- An action that is no call, return or computed jump may go where it goes; PUSH and POP write SP beside their operand.
 abbrev pub MayGo : (ℕ → Bool) → ℕ → (ℕ → Type 0) → Action → Type 0
-MayGo watched next G (Push place) = IsQuiet (watched sp)
-MayGo watched next G (Pop place) = IsQuiet (watched sp)
+MayGo watched next G (Push addressing) = IsQuiet (watched sp)
+MayGo watched next G (Pop addressing) = IsQuiet (watched sp)
 MayGo watched next G JumpIndirect = ⊥
 MayGo watched next G (CallTo target) = ⊥
 MayGo watched next G (CallNear address) = ⊥
@@ -179,11 +170,12 @@ module _ (watched : ℕ → Bool) (P Q : Bool → Effect → Type 0) (n : ℕ) (
     direct_watched a false p = refl
 
     abbrev place_watched : Cpu → Addressing → Bool
-    place_watched cpu place = is_written watched cpu (place_written place)
+    place_watched cpu addressing = is_written watched cpu (place_written addressing)
 
-    located : (cpu : Cpu) (place : Addressing) (go : Location → Reads Effect)
-        → ((at : Location) → location_watched at ≡ place_watched cpu place → Gives (place_watched cpu place) (go at))
-        → Gives (place_watched cpu place) (then_read (location_of cpu place) go)
+    located : (cpu : Cpu) (addressing : Addressing) (go : Location → Reads Effect)
+        → ((at : Location) → location_watched at ≡ place_watched cpu addressing
+        → Gives (place_watched cpu addressing) (go at))
+        → Gives (place_watched cpu addressing) (then_read (location_of cpu addressing) go)
     unfolding location_of
     located cpu Accumulator go h = h (Sfr acc) k.apart.0
     located cpu (Direct a) go h = h (cond (nat_lt a 0x80) (Ram a) (Sfr a)) (direct_watched a (nat_lt a 0x80) refl)
@@ -206,44 +198,44 @@ module _ (watched : ℕ → Bool) (P Q : Bool → Effect → Type 0) (n : ℕ) (
     branched_kept w true rel e j h = k.branch w rel e j h
     branched_kept w false rel e j h = k.ends w e h
 
-    assigned_kept : (ext : Pins) (e : Effect) (place : Addressing) (from : _) → P false e
-        → Gives (place_watched e.cpu place) (assigned ext e place from)
+    assigned_kept : (ext : Pins) (e : Effect) (addressing : Addressing) (from : _) → P false e
+        → Gives (place_watched e.cpu addressing) (assigned ext e addressing from)
     unfolding assigned
-    assigned_kept ext e place from h =
-        located e.cpu place _
+    assigned_kept ext e addressing from h =
+        located e.cpu addressing _
         (λ at m. gives_then _ (operand_value e.cpu ext from) _ (λ v. k.ends _ _ (placed _ at v e m h)))
 
     summed_kept : (ext : Pins) (e : Effect) (op : _) (from : _) → P false e → Gives false (summed ext e op from)
     unfolding summed
     summed_kept ext e op from h = gives_then _ (operand_value e.cpu ext from) _ (λ v. k.ends _ _ (sum_kept _ e h))
 
-    combined_kept : (ext : Pins) (e : Effect) (op : _) (place : Addressing) (from : _) → P false e
-        → Gives (place_watched e.cpu place) (combined ext e op place from)
+    combined_kept : (ext : Pins) (e : Effect) (op : _) (addressing : Addressing) (from : _) → P false e
+        → Gives (place_watched e.cpu addressing) (combined ext e op addressing from)
     unfolding combined
-    combined_kept ext e op place from h =
-        located e.cpu place _
+    combined_kept ext e op addressing from h =
+        located e.cpu addressing _
         (λ at m. gives_then _ (latch_at e.cpu at) _
         (λ v. gives_then _ (operand_value e.cpu ext from) _ (λ w. k.ends _ _ (placed _ at _ e m h))))
 
-    changed_kept : (e : Effect) (count : _) (place : Addressing) → P false e
-        → Gives (place_watched e.cpu place) (changed e count place)
+    changed_kept : (e : Effect) (count : _) (addressing : Addressing) → P false e
+        → Gives (place_watched e.cpu addressing) (changed e count addressing)
     unfolding changed
-    changed_kept e count place h =
-        located e.cpu place _ (λ at m. gives_then _ (latch_at e.cpu at) _ (λ v. k.ends _ _ (placed _ at _ e m h)))
+    changed_kept e count addressing h =
+        located e.cpu addressing _ (λ at m. gives_then _ (latch_at e.cpu at) _ (λ v. k.ends _ _ (placed _ at _ e m h)))
 
-    exchanged_kept : (ext : Pins) (e : Effect) (place : Addressing) → P false e
-        → Gives (place_watched e.cpu place) (exchanged ext e place)
+    exchanged_kept : (ext : Pins) (e : Effect) (addressing : Addressing) → P false e
+        → Gives (place_watched e.cpu addressing) (exchanged ext e addressing)
     unfolding exchanged
-    exchanged_kept ext e place h =
-        located e.cpu place _
+    exchanged_kept ext e addressing h =
+        located e.cpu addressing _
         (λ at m. gives_then _ (found_at e.cpu ext at) _
         (λ v. k.ends _ _ (placed _ at _ _ m (plain acc v e k.apart.0 h))))
 
-    digits_exchanged_kept : (ext : Pins) (e : Effect) (place : Addressing) → P false e
-        → Gives (place_watched e.cpu place) (digits_exchanged ext e place)
+    digits_exchanged_kept : (ext : Pins) (e : Effect) (addressing : Addressing) → P false e
+        → Gives (place_watched e.cpu addressing) (digits_exchanged ext e addressing)
     unfolding digits_exchanged
-    digits_exchanged_kept ext e place h =
-        located e.cpu place _
+    digits_exchanged_kept ext e addressing h =
+        located e.cpu addressing _
         (λ at m. gives_then _ (found_at e.cpu ext at) _
         (λ v. k.ends _ _ (placed _ at _ _ m (plain acc _ e k.apart.0 h))))
 
@@ -258,19 +250,20 @@ module _ (watched : ℕ → Bool) (P Q : Bool → Effect → Type 0) (n : ℕ) (
         gives_then _ (external_address e.cpu to) (λ a. Ends (record e { first = Xbyte a (latch e.cpu acc) }))
         (λ a. k.ends _ _ (k.memory _ e h))
 
-    pushed_kept : (ext : Pins) (e : Effect) (place : Addressing) → watched sp ≡ false → P false e
-        → Gives false (pushed ext e place)
+    pushed_kept : (ext : Pins) (e : Effect) (addressing : Addressing) → watched sp ≡ false → P false e
+        → Gives false (pushed ext e addressing)
     unfolding pushed
-    pushed_kept ext e place p h =
+    pushed_kept ext e addressing p h =
         let top = (latch e.cpu sp + 1) % 256 in
         let raised = with_sfr sp top e in
-        gives_then _ (operand_value raised.cpu ext (At place)) (λ v. Ends (with_location (Ram top) v raised))
+        gives_then _ (operand_value raised.cpu ext (At addressing)) (λ v. Ends (with_location (Ram top) v raised))
         (λ v. k.ends _ _ (placed _ (Ram top) v raised refl (plain sp top e p h)))
 
-    popped_kept : (e : Effect) (place : Addressing) → watched sp ≡ false → P false e
-        → Gives (place_watched e.cpu place) (popped e place)
+    popped_kept : (e : Effect) (addressing : Addressing) → watched sp ≡ false → P false e
+        → Gives (place_watched e.cpu addressing) (popped e addressing)
     unfolding popped
-    popped_kept e place p h = located e.cpu place _ (λ at m v. k.ends _ _ (placed _ at v _ m (plain sp _ e p h)))
+    popped_kept e addressing p h =
+        located e.cpu addressing _ (λ at m v. k.ends _ _ (placed _ at v _ m (plain sp _ e p h)))
 
     carry_merged_kept : (ext : Pins) (e : Effect) (by : _) (bit : ℕ) → P false e
         → Gives false (carry_merged ext e by bit)
@@ -294,11 +287,11 @@ module _ (watched : ℕ → Bool) (P Q : Bool → Effect → Type 0) (n : ℕ) (
         gives_then _ (operand_value e.cpu ext first) _
         (λ a. gives_then _ (operand_value e.cpu ext second) _ (λ b. branched_kept _ _ rel _ j (carry_kept _ e h)))
 
-    counted_down_kept : (e : Effect) (place : Addressing) (rel : ℕ) → G (relative n rel) → P false e
-        → Gives (place_watched e.cpu place) (counted_down e place rel)
+    counted_down_kept : (e : Effect) (addressing : Addressing) (rel : ℕ) → G (relative n rel) → P false e
+        → Gives (place_watched e.cpu addressing) (counted_down e addressing rel)
     unfolding counted_down
-    counted_down_kept e place rel j h =
-        located e.cpu place _
+    counted_down_kept e addressing rel j h =
+        located e.cpu addressing _
         (λ at m. gives_then _ (latch_at e.cpu at) _ (λ v. branched_kept _ _ rel _ j (placed _ at _ e m h)))
 
     -- a bit of internal RAM is none of the registers; of a register it is written where it is 1
@@ -325,22 +318,22 @@ module _ (watched : ℕ → Bool) (P Q : Bool → Effect → Type 0) (n : ℕ) (
         → P false e
         → Gives (is_written watched e.cpu (written_by action)) (plan image ext e action)
     walk image ext e Skip here m h = k.ends _ _ h
-    walk image ext e (Assign place from) here m h = assigned_kept ext e place from h
+    walk image ext e (Assign addressing from) here m h = assigned_kept ext e addressing from h
     walk image ext e (Accumulate op from) here m h = summed_kept ext e op from h
-    walk image ext e (Combine op place from) here m h = combined_kept ext e op place from h
-    walk image ext e (Change count place) here m h = changed_kept e count place h
+    walk image ext e (Combine op addressing from) here m h = combined_kept ext e op addressing from h
+    walk image ext e (Change count addressing) here m h = changed_kept e count addressing h
     walk image ext e (Turn by) here m h = k.ends _ _ (turn_kept by e h)
     walk image ext e Multiply here m h = k.ends _ _ (pair_kept _ e h)
     walk image ext e Divide here m h = k.ends _ _ (pair_kept _ e h)
-    walk image ext e (Exchange place) here m h = exchanged_kept ext e place h
-    walk image ext e (ExchangeDigit place) here m h = digits_exchanged_kept ext e place h
+    walk image ext e (Exchange addressing) here m h = exchanged_kept ext e addressing h
+    walk image ext e (ExchangeDigit addressing) here m h = digits_exchanged_kept ext e addressing h
     walk image ext e (LoadDptr word) here m h = k.ends _ _ (dptr_kept _ e h)
     walk image ext e AdvanceDptr here m h = k.ends _ _ (dptr_kept _ e h)
     walk image ext e (LoadExternal from) here m h = external_loaded_kept e from h
     walk image ext e (StoreExternal to) here m h = external_stored_kept e to h
     walk image ext e (LoadCode base) here m h = k.ends _ _ (code_kept image e base h)
-    walk image ext e (Push place) here m h = pushed_kept ext e place (quiet (watched sp) m) h
-    walk image ext e (Pop place) here m h = popped_kept e place (quiet (watched sp) m) h
+    walk image ext e (Push addressing) here m h = pushed_kept ext e addressing (quiet (watched sp) m) h
+    walk image ext e (Pop addressing) here m h = popped_kept e addressing (quiet (watched sp) m) h
     walk image ext e (ChangeCarry by) here m h = k.ends _ _ (carry_kept _ e h)
     walk image ext e (CarryWith by bit) here m h = carry_merged_kept ext e by bit h
     walk image ext e (StoreBit from bit) here m h = k.ends _ _ (bit_kept _ bit _ e refl h)
@@ -353,7 +346,7 @@ module _ (watched : ℕ → Bool) (P Q : Bool → Effect → Type 0) (n : ℕ) (
     walk image ext e (BranchOnBit test bit rel) here m h = branched_on_bit_kept ext e test bit rel m h
     walk image ext e (TestAndClear bit rel) here m h = tested_kept e bit rel m h
     walk image ext e (Compare first second rel) here m h = compared_kept ext e first second rel m h
-    walk image ext e (CountDown place rel) here m h = counted_down_kept e place rel m h
+    walk image ext e (CountDown addressing rel) here m h = counted_down_kept e addressing rel m h
     walk image ext e (CallTo target) here m h = absurd m
     walk image ext e (CallNear address) here m h = absurd m
     walk image ext e (Return from) here m h = absurd m

@@ -1,12 +1,12 @@
 -- The cells of memory that holds a value in each of them.
-use Rattle.std.proofs.Common.{◌≡◌, sym, ℕ, ◌/◌, ◌%◌, ◌<◌, Bool, true, false, cond, refl, ap, arith, nat_lt}
-use Rattle.std.specs.Prelude.{slice_index, None}
-use Rattle.std.specs.Int.{bit_at}
+use Rattle.m51_flat.proofs.Common.{◌≡◌, sym, ℕ, ◌/◌, ◌%◌, ◌<◌, Bool, true, false, cond, refl, ap, arith, slice_index}
+use Rattle.m51_flat.proofs.Common.{bit_at, Put, Nothing, Byte, Bit, Xbyte, CellState, Holds, Absent, States, FlatBytes}
+use Rattle.m51_flat.proofs.Common.{flat_cells}
+use Rattle.std.proofs.Common.{nat_lt}
+use Rattle.std.specs.Prelude.{None}
 use Rattle.std.proofs.lemmas.Bool.{ltb-true}
-use Rattle.m51_flat.specs.declared.state.Put.{Put}
-use Rattle.m51_flat.specs.declared.state.Put.TheVariants.{Nothing, Byte, Bit, Xbyte}
-use Rattle.m51_flat.specs.States.{CellState, Holds, Absent, States, shut_of}
-use Rattle.m51_flat.specs.Flat.{FlatBytes, filled_cells, flat_cells}
+use Rattle.m51_flat.specs.States.{shut_of}
+use Rattle.m51_flat.specs.Flat.{filled_cells}
 
 -- cells that hold the same are the same
 pub same_states : (s t : States) → ((n : ℕ) → s.ram n ≡ t.ram n) → ((n : ℕ) → s.xram n ≡ t.xram n) → s ≡ t

@@ -1,42 +1,34 @@
 -- Each action ends as its flow says.
-use Rattle.std.proofs.Common.{◌≡◌, ◌≢◌, ◌+◌, ◌*◌, ◌%◌, ◌<◌, ◌∙◌, arith, lit<, length, get_or-set_same, get_or-set_other}
-use Rattle.std.proofs.Common.{ℕ, Bool, true, false, cond, List, refl, subst, ◌⊎◌, inl, inr}
-use Rattle.std.specs.Prelude.{◌==◌, ◌&&◌, slice_index, slice_set}
+use Rattle.m51_flat.proofs.Common.{◌≡◌, ◌≢◌, ◌+◌, ◌*◌, ◌%◌, ◌<◌, ◌∙◌, arith, lit<, length, get_or-set_same}
+use Rattle.m51_flat.proofs.Common.{get_or-set_other, ℕ, Bool, true, false, cond, List, refl, subst, ◌==◌, ◌&&◌}
+use Rattle.m51_flat.proofs.Common.{slice_index, slice_set, Instr, parity_of, Cpu, Pins, Effect, ReturnFrom, Subroutine}
+use Rattle.m51_flat.proofs.Common.{Interrupt, Action, JumpIndirect, CallTo, CallNear, Return, sbuf, sp, action_of, plan}
+use Rattle.m51_flat.proofs.Common.{plan_of, started, Always}
+use Rattle.std.proofs.Common.{◌⊎◌, inl, inr}
 use Rattle.m51_isa.specs.declared.instr.Flow.{Flow}
 use Rattle.m51_isa.specs.declared.instr.Flow.TheVariants.{Next as FlowNext, Branch, Call as FlowCall, Ret as FlowRet}
 use Rattle.m51_isa.specs.declared.instr.Flow.TheVariants.{Reti as FlowReti}
-use Rattle.m51_isa.specs.declared.instr.Instr.{Instr}
 use Rattle.m51_isa.specs.declared.instr.Instr.TheVariants.{Nop}
 use Rattle.m51_isa.specs.Table.{flow_of}
-use Rattle.m51_alu.specs.Arithmetic.{parity_of}
-use Rattle.m51_flat.specs.declared.state.Cpu.{Cpu}
-use Rattle.m51_flat.specs.declared.state.Pins.{Pins}
-use Rattle.m51_flat.specs.declared.state.Effect.{Effect}
 use Rattle.m51_flat.specs.declared.state.Transfer.TheVariants.{Next, Jump}
-use Rattle.m51_flat.specs.declared.actions.ReturnFrom.{ReturnFrom}
-use Rattle.m51_flat.specs.declared.actions.ReturnFrom.TheVariants.{Subroutine, Interrupt}
-use Rattle.m51_flat.specs.declared.actions.Action.{Action}
-use Rattle.m51_flat.specs.declared.actions.Action.TheVariants.{JumpTo, JumpNear, JumpBy, JumpIndirect, BranchOn}
-use Rattle.m51_flat.specs.declared.actions.Action.TheVariants.{BranchOnBit, TestAndClear, Compare, CountDown, CallTo}
-use Rattle.m51_flat.specs.declared.actions.Action.TheVariants.{CallNear, Return}
-use Rattle.m51_flat.specs.Sfr.{has_register, latch, sbuf, sp, with_bit, with_parity, with_sfr}
+use Rattle.m51_flat.specs.declared.actions.Action.TheVariants.{JumpTo, JumpNear, JumpBy, BranchOn}
+use Rattle.m51_flat.specs.declared.actions.Action.TheVariants.{BranchOnBit, TestAndClear, Compare, CountDown}
+use Rattle.m51_flat.specs.Sfr.{has_register, latch, with_bit, with_parity, with_sfr}
 use Rattle.m51_flat.specs.Parts.{jumped}
 use Rattle.m51_flat.specs.Transfers.{called, returned, stacked}
-use Rattle.m51_flat.specs.Actions.{action_of}
-use Rattle.m51_flat.specs.Meaning.{plan, plan_of, started}
-use Rattle.m51_flat.specs.Laws.{Always, FlowIsKept, Follows, GoesOn, IsCall, next_address}
+use Rattle.m51_flat.specs.Laws.{FlowIsKept, Follows, FallsThrough, IsCall, next_address}
 use Rattle.m51_flat.proofs.EveryAction.{IsKept, walk}
 
 -- control continues with the next instruction, or jumps by a branch
 abbrev Goes : Flow → ℕ → Effect → Type 0
-Goes Branch next e = GoesOn next e ⊎ (e.transfer ≡ Jump)
-Goes _ next e = GoesOn next e
+Goes Branch next e = FallsThrough next e ⊎ (e.transfer ≡ Jump)
+Goes _ next e = FallsThrough next e
 
 abbrev MayJump : Flow → Type 0
 MayJump Branch = Unit {0}
 MayJump _ = ⊥
 
-goes_on : (flow : Flow) (n : ℕ) (e : Effect) → GoesOn n e → Goes flow n e
+goes_on : (flow : Flow) (n : ℕ) (e : Effect) → FallsThrough n e → Goes flow n e
 goes_on Branch n e h = inl h
 goes_on FlowNext n e h = h
 goes_on _ n e h = h
@@ -46,16 +38,18 @@ goes_jumped Branch n to e j = inr refl
 goes_jumped FlowNext n to e j = absurd j
 goes_jumped _ n to e j = absurd j
 
-pick : (n : ℕ) (b c : Bool) (x y z : Effect) → GoesOn n x → GoesOn n y → GoesOn n z → GoesOn n (cond b x (cond c y z))
+pick : (n : ℕ) (b c : Bool) (x y z : Effect) → FallsThrough n x → FallsThrough n y → FallsThrough n z
+    → FallsThrough n (cond b x (cond c y z))
 pick n true c x y z hx hy hz = hx
 pick n false true x y z hx hy hz = hy
 pick n false false x y z hx hy hz = hz
 
-sfr_next : (n : ℕ) (a v : ℕ) (e : Effect) → GoesOn n e → GoesOn n (with_sfr a v e)
+sfr_next : (n : ℕ) (a v : ℕ) (e : Effect) → FallsThrough n e → FallsThrough n (with_sfr a v e)
 unfolding with_sfr
 sfr_next n a v e h = pick n (a == sbuf) (has_register a) _ _ e h h h
 
-goes_kept : (flow : Flow) (n : ℕ) → IsKept (λ _. false) (λ _ e. GoesOn n e) (λ _ e. Goes flow n e) n (λ _. MayJump flow)
+goes_kept : (flow : Flow) (n : ℕ)
+    → IsKept (λ _. false) (λ _ e. FallsThrough n e) (λ _ e. Goes flow n e) n (λ _. MayJump flow)
 goes_kept flow n = record {
   apart = (refl, refl, refl, refl, refl);
   low = λ a h. refl;
@@ -132,7 +126,7 @@ action_flow (BranchOn condition rel) = Branch
 action_flow (BranchOnBit test bit rel) = Branch
 action_flow (TestAndClear bit rel) = Branch
 action_flow (Compare first second rel) = Branch
-action_flow (CountDown place rel) = Branch
+action_flow (CountDown addressing rel) = Branch
 action_flow (CallTo target) = FlowCall
 action_flow (CallNear address) = FlowCall
 action_flow (Return from) = returns_by from
@@ -145,7 +139,7 @@ plan_flow image ext e (CallTo target) len h = called_calls e _ len
 plan_flow image ext e (CallNear address) len h = called_calls e _ len
 plan_flow image ext e (Return from) len h = returned_returns e.cpu.pc e from len
 plan_flow image ext e action len h =
-    walk (λ _. false) (λ _ end. GoesOn e.cpu.pc end) (λ _ end. Goes (action_flow action) e.cpu.pc end) e.cpu.pc
+    walk (λ _. false) (λ _ end. FallsThrough e.cpu.pc end) (λ _ end. Goes (action_flow action) e.cpu.pc end) e.cpu.pc
     (λ _. MayJump (action_flow action))
     (goes_kept (action_flow action) e.cpu.pc) image ext e action refl tt (h, refl)
 

@@ -1,23 +1,14 @@
 -- Every action but the return from an interrupt keeps both levels in progress, and holds interrupts off where it writes
 -- IE or IP.
-use Rattle.std.proofs.Common.{◌≡◌, ℕ, Bool, true, false, cond, List, refl, subst, sym, ap, ◌∙◌, ◌<◌, arith}
+use Rattle.m51_flat.proofs.Common.{◌≡◌, ℕ, Bool, true, false, cond, List, refl, subst, sym, ap, ◌∙◌, ◌<◌, arith, ◌==◌}
+use Rattle.m51_flat.proofs.Common.{◌&&◌, Cpu, Pins, Effect, ReturnFrom, Subroutine, Interrupt, Action, JumpIndirect}
+use Rattle.m51_flat.proofs.Common.{CallTo, CallNear, Return, Reads, sbuf, sp, action_of, plan, plan_of, started, Always}
 use Rattle.std.proofs.lemmas.Bool.{eqb-true, ne_eqb}
-use Rattle.std.specs.Prelude.{◌+◌, ◌%◌, ◌==◌, ◌&&◌, ◌||◌}
+use Rattle.std.specs.Prelude.{◌+◌, ◌%◌, ◌||◌}
 use Rattle.m51_isa.specs.declared.instr.Written.{Written}
 use Rattle.m51_isa.specs.Changes.{written_of}
-use Rattle.m51_flat.specs.declared.state.Cpu.{Cpu}
-use Rattle.m51_flat.specs.declared.state.Pins.{Pins}
-use Rattle.m51_flat.specs.declared.state.Effect.{Effect}
-use Rattle.m51_flat.specs.declared.actions.ReturnFrom.{ReturnFrom}
-use Rattle.m51_flat.specs.declared.actions.ReturnFrom.TheVariants.{Subroutine, Interrupt}
-use Rattle.m51_flat.specs.declared.actions.Action.{Action}
-use Rattle.m51_flat.specs.declared.actions.Action.TheVariants.{JumpIndirect, CallTo, CallNear, Return}
-use Rattle.m51_flat.specs.Reads.{Reads}
-use Rattle.m51_flat.specs.Sfr.{flag, has_register, ie, ip, latch, sbuf, sp, with_sfr}
+use Rattle.m51_flat.specs.Sfr.{flag, has_register, ie, ip, latch, with_sfr}
 use Rattle.m51_flat.specs.Transfers.{called, returned, stacked}
-use Rattle.m51_flat.specs.Actions.{action_of}
-use Rattle.m51_flat.specs.Meaning.{plan, plan_of, started}
-use Rattle.m51_flat.specs.Laws.{Always}
 use Rattle.m51_flat.specs.LevelLaws.{KeepsLevels, LevelsAreKept, LevelsFollow, holds_off, is_written, writes_ie_or_ip}
 use Rattle.m51_flat.proofs.EveryAction.{IsKept, same_written, walk, written_by}
 use Rattle.m51_flat.proofs.Flows.{action_flow, returns_by, same_flow}

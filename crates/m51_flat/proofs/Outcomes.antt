@@ -1,21 +1,15 @@
 -- From what holds of every plan to what holds of every outcome.
-use Rattle.std.proofs.Common.{◌≡◌, ℕ, Bool, true, false, cond, List, length, Option, Some, None, Result, Ok, Err, refl}
-use Rattle.std.proofs.Common.{ap, ◌∙◌, sym, subst}
-use Rattle.m51_cells.specs.declared.cell.Cell.{Cell}
-use Rattle.m51_cells.specs.Outcome.{and_then}
-use Rattle.m51_isa.specs.declared.instr.Instr.{Instr}
-use Rattle.m51_flat.specs.declared.state.Cpu.{Cpu}
-use Rattle.m51_flat.specs.declared.state.Pins.{Pins}
-use Rattle.m51_flat.specs.declared.state.Effect.{Effect}
-use Rattle.m51_flat.specs.declared.state.Missing.{Missing}
+use Rattle.m51_flat.proofs.Common.{◌≡◌, ℕ, Bool, true, false, cond, List, length, Option, Some, None, Result, Ok, Err}
+use Rattle.m51_flat.proofs.Common.{refl, ap, ◌∙◌, sym, subst, Cell, and_then, Instr, Cpu, Pins, Effect, Missing, States}
+use Rattle.m51_flat.proofs.Common.{Reads, Ends, Read, CellMap, Agrees, access_seen, value_or_missing, sp, action_of}
+use Rattle.m51_flat.proofs.Common.{concluded, plan_of, started, unless_shut, Always, HasParity}
 use Rattle.m51_flat.specs.declared.state.Missing.TheVariants.{Outside as MissingOutside, Unset as MissingUnset}
 use Rattle.m51_flat.specs.Outcome.{Outcome, Done, Outside, Unset, PowerDown}
-use Rattle.m51_flat.specs.States.{States, shut_of}
-use Rattle.m51_flat.specs.Reads.{Reads, Ends, Read, CellMap, Agrees, answer, access_seen, value_or_missing}
-use Rattle.m51_flat.specs.Sfr.{flag, has_register, latch, pcon, sp}
-use Rattle.m51_flat.specs.Actions.{action_of}
-use Rattle.m51_flat.specs.Meaning.{concluded, outcome_of, outcome_over, plan_of, started, unless_shut}
-use Rattle.m51_flat.specs.Laws.{Always, Follows, HasParity, IfDone, next_address}
+use Rattle.m51_flat.specs.States.{shut_of}
+use Rattle.m51_flat.specs.Reads.{answer}
+use Rattle.m51_flat.specs.Sfr.{flag, has_register, latch, pcon}
+use Rattle.m51_flat.specs.Meaning.{instruction_outcome, outcome_over}
+use Rattle.m51_flat.specs.Laws.{Follows, IfDone, next_address}
 use Rattle.m51_flat.specs.Reset.{reset_cpu}
 use Rattle.m51_flat.proofs.Readings.{readings}
 use Rattle.m51_flat.proofs.Parity.{IsRight, plan_right}
@@ -26,8 +20,9 @@ use Rattle.m51_isa.specs.Table.{flow_of}
 
 -- the outcome of an instruction over a store is its outcome over every map that agrees with the store
 pub outcomes_agree : (m : CellMap) (cpu : Cpu) (s : States) (barred : Cell → Bool) (instr : Instr) (image : List ℕ)
-    (ext : Pins) → Agrees s m → outcome_of cpu s barred instr image ext ≡ outcome_over m cpu s barred instr image ext
-unfolding outcome_of outcome_over
+    (ext : Pins) → Agrees s m → instruction_outcome cpu s barred instr image ext
+    ≡ outcome_over m cpu s barred instr image ext
+unfolding instruction_outcome outcome_over
 outcomes_agree m cpu s barred instr image ext g = ap (concluded barred) (readings (plan_of cpu instr image ext) s m g)
 
 unless_done : (P : Effect → Type 0) (one two : Option Cell) (down : Bool) (e : Effect) → P e
@@ -69,8 +64,9 @@ done_weaker P Q PowerDown f h = tt
 
 -- an instruction keeps the parity
 pub outcome_parity : (cpu : Cpu) (s : States) (barred : Cell → Bool) (instr : Instr) (image : List ℕ) (ext : Pins)
-    → length cpu.regs ≡ 128 → HasParity cpu → IfDone (outcome_of cpu s barred instr image ext) (λ e. HasParity e.cpu)
-unfolding outcome_of
+    → length cpu.regs ≡ 128 → HasParity cpu
+    → IfDone (instruction_outcome cpu s barred instr image ext) (λ e. HasParity e.cpu)
+unfolding instruction_outcome
 outcome_parity cpu s barred instr image ext len h =
     let before = right_of cpu len h in
     let start : IsRight (started cpu instr).cpu = record { len = before.len; parity = before.parity } in
@@ -82,9 +78,9 @@ outcome_parity cpu s barred instr image ext len h =
 -- control continues by the flow of the instruction
 pub outcome_control : (cpu : Cpu) (s : States) (barred : Cell → Bool) (instr : Instr) (image : List ℕ) (ext : Pins)
     → length cpu.regs ≡ 128
-    → IfDone (outcome_of cpu s barred instr image ext)
+    → IfDone (instruction_outcome cpu s barred instr image ext)
     (λ e. Follows (flow_of instr) (next_address cpu instr) (latch cpu sp) e)
-unfolding outcome_of
+unfolding instruction_outcome
 outcome_control cpu s barred instr image ext len =
     always_done (λ e. Follows (flow_of instr) (next_address cpu instr) (latch cpu sp) e) barred s
     (plan_of cpu instr image ext)
@@ -96,18 +92,18 @@ reset_parity = refl
 
 -- the same of what a call answers, where it answers the outcome
 pub over_map : (r : Outcome) (m : CellMap) (cpu : Cpu) (s : States) (barred : Cell → Bool) (instr : Instr)
-    (image : List ℕ) (ext : Pins) → r ≡ outcome_of cpu s barred instr image ext → Agrees s m
+    (image : List ℕ) (ext : Pins) → r ≡ instruction_outcome cpu s barred instr image ext → Agrees s m
     → r ≡ outcome_over m cpu s barred instr image ext
 over_map r m cpu s barred instr image ext e g = e ∙ outcomes_agree m cpu s barred instr image ext g
 
 pub keeps_parity : (r : Outcome) (cpu : Cpu) (s : States) (barred : Cell → Bool) (instr : Instr) (image : List ℕ)
-    (ext : Pins) → r ≡ outcome_of cpu s barred instr image ext → length cpu.regs ≡ 128 → HasParity cpu
+    (ext : Pins) → r ≡ instruction_outcome cpu s barred instr image ext → length cpu.regs ≡ 128 → HasParity cpu
     → IfDone r (λ e. HasParity e.cpu)
 keeps_parity r cpu s barred instr image ext e len h =
     subst (λ r. IfDone r (λ e. HasParity e.cpu)) (sym e) (outcome_parity cpu s barred instr image ext len h)
 
 pub keeps_control : (r : Outcome) (cpu : Cpu) (s : States) (barred : Cell → Bool) (instr : Instr) (image : List ℕ)
-    (ext : Pins) → r ≡ outcome_of cpu s barred instr image ext → length cpu.regs ≡ 128
+    (ext : Pins) → r ≡ instruction_outcome cpu s barred instr image ext → length cpu.regs ≡ 128
     → IfDone r (λ e. Follows (flow_of instr) (next_address cpu instr) (latch cpu sp) e)
 keeps_control r cpu s barred instr image ext e len =
     subst (λ r. IfDone r (λ e. Follows (flow_of instr) (next_address cpu instr) (latch cpu sp) e)) (sym e)
@@ -115,9 +111,9 @@ keeps_control r cpu s barred instr image ext e len =
 
 -- so are the levels in progress
 pub keeps_levels : (r : Outcome) (cpu : Cpu) (s : States) (barred : Cell → Bool) (instr : Instr) (image : List ℕ)
-    (ext : Pins) → r ≡ outcome_of cpu s barred instr image ext
+    (ext : Pins) → r ≡ instruction_outcome cpu s barred instr image ext
     → IfDone r (λ e. LevelsFollow (flow_of instr) (writes_ie_or_ip cpu instr) cpu e)
-unfolding outcome_of
+unfolding instruction_outcome
 keeps_levels r cpu s barred instr image ext e =
     subst (λ r. IfDone r (λ e. LevelsFollow (flow_of instr) (writes_ie_or_ip cpu instr) cpu e)) (sym e)
     (always_done (λ e. LevelsFollow (flow_of instr) (writes_ie_or_ip cpu instr) cpu e) barred s

@@ -1,21 +1,12 @@
 -- Every write of a register leaves bit 0 of PSW the parity of ACC, and so does every action.
-use Rattle.std.proofs.Common.{◌≡◌, ◌≢◌, ℕ, ◌+◌, ◌-◌, ◌%◌, ◌<◌, Bool, true, false, cond, List, length, refl, sym, ap}
-use Rattle.std.proofs.Common.{◌∙◌, arith, lit<, get_or-set_same, get_or-set_other, length-set}
-use Rattle.std.specs.Prelude.{slice_index, slice_set, ◌==◌}
-use Rattle.std.specs.Int.{bit_at}
-use Rattle.m51_alu.specs.Arithmetic.{bit_of, parity_of}
-use Rattle.m51_flat.specs.declared.state.Cpu.{Cpu}
-use Rattle.m51_flat.specs.declared.state.Pins.{Pins}
-use Rattle.m51_flat.specs.declared.state.Effect.{Effect}
-use Rattle.m51_flat.specs.declared.actions.ReturnFrom.{ReturnFrom}
-use Rattle.m51_flat.specs.declared.actions.ReturnFrom.TheVariants.{Subroutine, Interrupt}
-use Rattle.m51_flat.specs.declared.actions.Action.{Action}
-use Rattle.m51_flat.specs.declared.actions.Action.TheVariants.{JumpIndirect, CallTo, CallNear, Return}
-use Rattle.m51_flat.specs.Reads.{Reads}
-use Rattle.m51_flat.specs.Sfr.{acc, has_register, latch, psw, sbuf, sp, with_bit, with_parity, with_sfr}
+use Rattle.m51_flat.proofs.Common.{◌≡◌, ◌≢◌, ℕ, ◌+◌, ◌-◌, ◌%◌, ◌<◌, Bool, true, false, cond, List, length, refl, sym}
+use Rattle.m51_flat.proofs.Common.{ap, ◌∙◌, arith, lit<, get_or-set_same, get_or-set_other, slice_index, slice_set}
+use Rattle.m51_flat.proofs.Common.{◌==◌, bit_at, bit_of, parity_of, Cpu, Pins, Effect, ReturnFrom, Subroutine}
+use Rattle.m51_flat.proofs.Common.{Interrupt, Action, JumpIndirect, CallTo, CallNear, Return, Reads, acc, psw, sbuf, sp}
+use Rattle.m51_flat.proofs.Common.{plan, Always}
+use Rattle.std.proofs.Common.{length-set}
+use Rattle.m51_flat.specs.Sfr.{has_register, latch, with_bit, with_parity, with_sfr}
 use Rattle.m51_flat.specs.Transfers.{called, returned, stacked}
-use Rattle.m51_flat.specs.Meaning.{plan}
-use Rattle.m51_flat.specs.Laws.{Always}
 use Rattle.m51_flat.proofs.Bytes.{bit_same}
 use Rattle.m51_flat.proofs.EveryAction.{IsKept, walk}
 

@@ -1,15 +1,14 @@
 -- The two readings of a plan, and plans one after another.
-use Rattle.std.proofs.Common.{◌≡◌, ℕ, zero, suc, ◌+◌, ◌*◌, List, ◌∷◌, Result, Ok, Err, refl, sym, ap, ◌∙◌}
-use Rattle.m51_flat.specs.declared.state.Seen.{Seen}
-use Rattle.m51_flat.specs.declared.state.Seen.TheVariants.{Value, Outside, Unset}
-use Rattle.m51_cells.specs.declared.cell.Cell.{Cell}
-use Rattle.m51_cells.specs.Outcome.{and_then}
-use Rattle.m51_flat.specs.declared.state.Missing.{Missing}
-use Rattle.m51_flat.specs.States.{States, CellState, Holds, Absent, Fresh, answered, on_value, bits_seen, byte_seen}
-use Rattle.m51_flat.specs.States.{ram_cell, xram_cell}
-use Rattle.m51_flat.specs.Reads.{Access, ByteAt, BitAt, XbyteAt, Reads, Ends, Read, then_read, value_or_missing}
-use Rattle.m51_flat.specs.Reads.{access_seen, answer, CellMap, bits_in, value_in, result_over, accesses_over}
-use Rattle.m51_flat.specs.Reads.{first_missing, goes_on, up_to_missing, Agrees}
+use Rattle.m51_flat.proofs.Common.{◌≡◌, ℕ, zero, suc, ◌+◌, ◌*◌, List, ◌∷◌, Result, Ok, Err, refl, sym, ap, ◌∙◌, Seen}
+use Rattle.m51_flat.proofs.Common.{Value, Cell, and_then, Missing, States, CellState, Holds, Absent, Fresh, answered}
+use Rattle.m51_flat.proofs.Common.{on_value, bits_seen, ram_cell, xram_cell, Access, Reads, Ends, Read}
+use Rattle.m51_flat.proofs.Common.{value_or_missing, access_seen, CellMap, result_over, accesses_over, first_missing}
+use Rattle.m51_flat.proofs.Common.{Agrees}
+use Rattle.m51_flat.specs.declared.state.Seen.TheVariants.{Outside, Unset}
+use Rattle.m51_flat.specs.States.{byte_seen}
+use Rattle.m51_flat.specs.Reads.{ByteAt, BitAt, XbyteAt, then_read}
+use Rattle.m51_flat.specs.Reads.{answer, bits_in, access_value}
+use Rattle.m51_flat.specs.Reads.{goes_on, up_to_missing}
 
 bind_step : {A B : Type 0} (r : Result ℕ Missing) (f : ℕ → Result A Missing) (g h : A → Result B Missing)
     (k : ℕ → Result B Missing) → ((v : ℕ) → k v ≡ and_then (f v) g) → and_then r k ≡ and_then (and_then r f) g
@@ -58,8 +57,8 @@ one_cell Fresh x cell here v e = cc e
 
 -- where the store answers a read, the map has its value
 value_agrees : (s : States) (m : CellMap) → Agrees s m → (x : Access) (v : ℕ) → access_seen s x ≡ Value v
-    → value_in m x ≡ v
-unfolding value_in byte_seen
+    → access_value m x ≡ v
+unfolding access_value byte_seen
 value_agrees s m g (ByteAt a) v e = bits_agree s m g 8 (8 * a) v e
 value_agrees s m g (BitAt n) v e = one_cell (s.ram (256 + n)) (m.ram (256 + n)) (ram_cell (256 + n)) (g.ram (256 + n)) v
     e
@@ -70,9 +69,9 @@ pub readings : {A : Type 0} (p : Reads A) (s : States) (m : CellMap) → Agrees 
     → answer s p ≡ first_missing s (accesses_over m p) (result_over m p)
 readings (Ends a) s m g = refl
 readings (Read x go) s m g =
-    one_read (access_seen s x) (value_in m x) (λ v. answer s (go v))
-    (first_missing s (accesses_over m (go (value_in m x))) (result_over m (go (value_in m x))))
-    (value_agrees s m g x) (readings (go (value_in m x)) s m g)
+    one_read (access_seen s x) (access_value m x) (λ v. answer s (go v))
+    (first_missing s (accesses_over m (go (access_value m x))) (result_over m (go (access_value m x))))
+    (value_agrees s m g x) (readings (go (access_value m x)) s m g)
 
 goes_same : (r : Seen) (x : Access) (k k' : ℕ) (f f' : ℕ → List Access) → ((v : ℕ) → r ≡ Value v → k ≡ v)
     → ((v : ℕ) → r ≡ Value v → k' ≡ v) → ((v : ℕ) → f v ≡ f' v) → goes_on r x (f k) ≡ goes_on r x (f' k')
@@ -85,6 +84,6 @@ pub same_accesses : {A : Type 0} (p : Reads A) (s : States) (m m' : CellMap) →
     → up_to_missing s (accesses_over m p) ≡ up_to_missing s (accesses_over m' p)
 same_accesses (Ends a) s m m' g g' = refl
 same_accesses (Read x go) s m m' g g' =
-    goes_same (access_seen s x) x (value_in m x) (value_in m' x)
+    goes_same (access_seen s x) x (access_value m x) (access_value m' x)
     (λ v. up_to_missing s (accesses_over m (go v))) (λ v. up_to_missing s (accesses_over m' (go v)))
     (value_agrees s m g x) (value_agrees s m' g' x) (λ v. same_accesses (go v) s m m' g g')

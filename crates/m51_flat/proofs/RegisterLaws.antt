@@ -1,9 +1,9 @@
 -- Registers that devices store to.
-use Rattle.std.proofs.Common.{◌≡◌, ◌≢◌, ℕ, ◌-◌, ◌≤◌, ◌<◌, true, false, cond, length, slice_set, slice_index, ap, ◌∙◌}
-use Rattle.std.proofs.Common.{arith, ⊎_elim, nat_eq}
-use Rattle.std.proofs.lemmas.Bool.Decides.{eqb_tells}
+use Rattle.m51_flat.proofs.Common.{◌≡◌, ◌≢◌, ℕ, ◌-◌, ◌≤◌, ◌<◌, true, false, cond, length, ap, ◌∙◌, arith, ⊎_elim}
+use Rattle.m51_flat.proofs.Common.{eqb_tells, Cpu}
+use Rattle.std.proofs.Common.{slice_set, slice_index}
+use Rattle.std.proofs.Common.{nat_eq}
 use Rattle.std.proofs.lemmas.List.{get_or-set_other, get_or-set_same}
-use Rattle.m51_flat.specs.declared.state.Cpu.{Cpu}
 use Rattle.m51_flat.specs.DeviceLaws.{RegistersAreWritten}
 use Rattle.m51_flat.specs.Sfr.{has_register, latch, with_latch}
 

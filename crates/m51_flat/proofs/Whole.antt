@@ -1,27 +1,20 @@
 -- An instruction over a store that holds a value in each cell, and of which no cell is barred.
-use Rattle.std.proofs.Common.{◌≡◌, ◌⊎◌, inl, inr, ℕ, zero, suc, ◌+◌, ◌*◌, ◌<◌, ◌≤◌, Bool, true, false, cond, List, []}
-use Rattle.std.proofs.Common.{◌∷◌, Some, None, Result, Ok, Err, refl, ap, subst, ◌∙◌, arith, ⊎_elim}
+use Rattle.m51_flat.proofs.Common.{◌≡◌, ℕ, zero, suc, ◌+◌, ◌*◌, ◌<◌, ◌≤◌, Bool, true, false, cond, List, ◌∷◌, Some}
+use Rattle.m51_flat.proofs.Common.{None, Result, Ok, Err, refl, ap, subst, ◌∙◌, arith, ⊎_elim, Cell, and_then, Instr}
+use Rattle.m51_flat.proofs.Common.{Cpu, Pins, Effect, Put, Nothing, Byte, Bit, Xbyte, Missing, CellState, Holds, Absent}
+use Rattle.m51_flat.proofs.Common.{Fresh, States, ram_cell, xram_cell, Access, Agrees, CellMap, access_seen}
+use Rattle.m51_flat.proofs.Common.{accesses_over, first_missing, result_over, value_or_missing, concluded, plan_of}
+use Rattle.m51_flat.proofs.Common.{unless_shut}
+use Rattle.std.proofs.Common.{◌⊎◌, inl, inr, []}
 use Rattle.std.specs.Prelude.{nat_le}
 use Rattle.std.proofs.lemmas.Bool.Decides.{leb_tells}
-use Rattle.m51_cells.specs.declared.cell.Cell.{Cell}
 use Rattle.m51_cells.specs.declared.cell.Space.{Space}
 use Rattle.m51_cells.specs.declared.cell.Space.TheVariants.{Ram, Xram, Code}
 use Rattle.m51_cells.specs.Cells.{IsDataCell}
-use Rattle.m51_cells.specs.Outcome.{and_then}
-use Rattle.m51_isa.specs.declared.instr.Instr.{Instr}
-use Rattle.m51_flat.specs.declared.state.Cpu.{Cpu}
-use Rattle.m51_flat.specs.declared.state.Pins.{Pins}
-use Rattle.m51_flat.specs.declared.state.Effect.{Effect}
-use Rattle.m51_flat.specs.declared.state.Put.{Put}
-use Rattle.m51_flat.specs.declared.state.Put.TheVariants.{Nothing, Byte, Bit, Xbyte}
-use Rattle.m51_flat.specs.declared.state.Missing.{Missing}
 use Rattle.m51_flat.specs.declared.state.Missing.TheVariants.{Outside as MissingOutside, Unset as MissingUnset}
 use Rattle.m51_flat.specs.Outcome.{Outside, Unset}
-use Rattle.m51_flat.specs.States.{AreCells, CellState, Holds, Absent, Fresh, States, first_barred, ram_cell, shut_of}
-use Rattle.m51_flat.specs.States.{xram_cell}
-use Rattle.m51_flat.specs.Reads.{Access, Agrees, CellMap, access_seen, accesses_over, first_missing, result_over}
-use Rattle.m51_flat.specs.Reads.{value_or_missing}
-use Rattle.m51_flat.specs.Meaning.{allowed, concluded, outcome_of, outcome_over, plan_of, unless_shut}
+use Rattle.m51_flat.specs.States.{AreCells, first_barred, shut_of}
+use Rattle.m51_flat.specs.Meaning.{allowed, instruction_outcome, outcome_over}
 use Rattle.m51_flat.specs.Causes.{IsCause, IsWhole, state_at, unless_down}
 use Rattle.m51_flat.proofs.Outcomes.{outcomes_agree}
 
@@ -119,8 +112,8 @@ concluded_whole s barred m w q e h (inr (f, is)) =
 -- the outcome of an instruction over such a store
 pub whole_outcome : (m : CellMap) (cpu : Cpu) (s : States) (barred : Cell → Bool) (instr : Instr) (image : List ℕ)
     (ext : Pins) → AreCells s → IsWhole s barred m
-    → IsCause s barred (outcome_of cpu s barred instr image ext)
-    → outcome_of cpu s barred instr image ext ≡ unless_down (result_over m (plan_of cpu instr image ext))
+    → IsCause s barred (instruction_outcome cpu s barred instr image ext)
+    → instruction_outcome cpu s barred instr image ext ≡ unless_down (result_over m (plan_of cpu instr image ext))
 unfolding outcome_over
 whole_outcome m cpu s barred instr image ext cells w h =
     let over = outcomes_agree m cpu s barred instr image ext (whole_agrees s barred m cells w) in

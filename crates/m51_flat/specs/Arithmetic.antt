@@ -22,8 +22,8 @@ use Rattle.m51_flat.specs.Parts.{auxiliary_carry, carry, with_carry, with_sum}
 
 -- a value is read and written
 unfoldable pub assigned : Pins → Effect → Addressing → ByteOperand → Reads Effect
-assigned ext e place from =
-    then_read (location_of e.cpu place) (λ at.
+assigned ext e addressing from =
+    then_read (location_of e.cpu addressing) (λ at.
     then_read (operand_value e.cpu ext from) (λ v. Ends (with_location at v e)))
 
 -- the sum or difference of A and an operand
@@ -45,8 +45,8 @@ logic_of Xor v w = bit_xor v w
 
 -- an operand, of a port its latch, is combined with another
 unfoldable pub combined : Pins → Effect → Logic → Addressing → ByteOperand → Reads Effect
-combined ext e op place from =
-    then_read (location_of e.cpu place) (λ at.
+combined ext e op addressing from =
+    then_read (location_of e.cpu addressing) (λ at.
     then_read (latch_at e.cpu at) (λ v.
     then_read (operand_value e.cpu ext from) (λ w. Ends (with_location at (logic_of op v w) e))))
 
@@ -57,8 +57,8 @@ stepped Decrement v = (v + 255) % 256
 
 -- an operand, of a port its latch, is counted up or down
 unfoldable pub changed : Effect → Count → Addressing → Reads Effect
-changed e count place =
-    then_read (location_of e.cpu place) (λ at.
+changed e count addressing =
+    then_read (location_of e.cpu addressing) (λ at.
     then_read (latch_at e.cpu at) (λ v. Ends (with_location at (stepped count v) e)))
 
 -- A and CY after a rotation by one bit, with or without CY; after an exchange of digits, a complement or DA
@@ -81,14 +81,14 @@ with_turn by e = with_turned (turned by (latch e.cpu acc) (carry e.cpu) (auxilia
 
 -- A is exchanged with an operand
 unfoldable pub exchanged : Pins → Effect → Addressing → Reads Effect
-exchanged ext e place =
-    then_read (location_of e.cpu place) (λ at.
+exchanged ext e addressing =
+    then_read (location_of e.cpu addressing) (λ at.
     then_read (found_at e.cpu ext at) (λ v. Ends (with_location at (latch e.cpu acc) (with_sfr acc v e))))
 
 -- the low digits of A and an operand are exchanged
 unfoldable pub digits_exchanged : Pins → Effect → Addressing → Reads Effect
-digits_exchanged ext e place =
-    then_read (location_of e.cpu place) (λ at.
+digits_exchanged ext e addressing =
+    then_read (location_of e.cpu addressing) (λ at.
     then_read (found_at e.cpu ext at) (λ v.
     let a = latch e.cpu acc in
     Ends (with_location at (v / 16 * 16 + a % 16) (with_sfr acc (a / 16 * 16 + v % 16) e))))

@@ -13,13 +13,13 @@ held (Holds v) = v
 held _ = 0
 
 -- the cell holds a value
-abbrev IsHeld : CellState → Type 0
-IsHeld (Holds v) = Unit {0}
-IsHeld _ = ⊥
+abbrev HoldsValue : CellState → Type 0
+HoldsValue (Holds v) = Unit {0}
+HoldsValue _ = ⊥
 
 bit_inside : (inside : Bool) (b v : ℕ) → b < 2 → (if inside then Holds b else Absent) ≡ Holds v → v < 2
 bit_inside true b v h e = subst (λ n. n < 2) (ap held e) h
-bit_inside false b v h e = absurd (subst IsHeld (sym e) tt)
+bit_inside false b v h e = absurd (subst HoldsValue (sym e) tt)
 
 past_end : (c : CellState) (inside : Bool) → inside ≡ false → (if inside then c else Absent) ≡ Absent
 past_end c inside e = ap (λ inside. if inside then c else Absent) e

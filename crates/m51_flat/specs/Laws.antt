@@ -35,8 +35,8 @@ Always P (Ends e) = P e
 Always P (Read x go) = (v : ℕ) → Always P (go v)
 
 -- control continues with the next instruction
-abbrev pub GoesOn : ℕ → Effect → Type 0
-GoesOn next e = (e.transfer ≡ Next) × (e.cpu.pc ≡ next)
+abbrev pub FallsThrough : ℕ → Effect → Type 0
+FallsThrough next e = (e.transfer ≡ Next) × (e.cpu.pc ≡ next)
 
 -- a call stores the address of the next instruction above the stack, low byte first, and raises SP by two
 pub record IsCall (next top : ℕ) (e : Effect) : Type 0 where
@@ -52,8 +52,8 @@ pub record IsReturn (by : Transfer) (top : ℕ) (e : Effect) : Type 0 where
 
 -- how control continues after an instruction of each flow, with the address of the next instruction and SP before
 abbrev pub Follows : Flow → ℕ → ℕ → Effect → Type 0
-Follows FlowNext next top e = GoesOn next e
-Follows Branch next top e = GoesOn next e ⊎ (e.transfer ≡ Jump)
+Follows FlowNext next top e = FallsThrough next e
+Follows Branch next top e = FallsThrough next e ⊎ (e.transfer ≡ Jump)
 Follows FlowCall next top e = IsCall next top e
 Follows FlowRet next top e = IsReturn Ret top e
 Follows FlowReti next top e = IsReturn Reti top e

@@ -35,22 +35,22 @@ use Rattle.m51_flat.specs.Transfers.{called, compared, counted_down, is_met, ret
 -- what an action does, from the effect of an instruction that only continues with the next
 abbrev pub plan : List ℕ → Pins → Effect → Action → Reads Effect
 plan image ext e Skip = Ends e
-plan image ext e (Assign place from) = assigned ext e place from
+plan image ext e (Assign addressing from) = assigned ext e addressing from
 plan image ext e (Accumulate op from) = summed ext e op from
-plan image ext e (Combine op place from) = combined ext e op place from
-plan image ext e (Change count place) = changed e count place
+plan image ext e (Combine op addressing from) = combined ext e op addressing from
+plan image ext e (Change count addressing) = changed e count addressing
 plan image ext e (Turn by) = Ends (with_turn by e)
 plan image ext e Multiply = Ends (with_pair (product_of (latch e.cpu acc) (latch e.cpu breg)) e)
 plan image ext e Divide = Ends (with_pair (quotient_of (latch e.cpu acc) (latch e.cpu breg)) e)
-plan image ext e (Exchange place) = exchanged ext e place
-plan image ext e (ExchangeDigit place) = digits_exchanged ext e place
+plan image ext e (Exchange addressing) = exchanged ext e addressing
+plan image ext e (ExchangeDigit addressing) = digits_exchanged ext e addressing
 plan image ext e (LoadDptr word) = Ends (with_dptr word e)
 plan image ext e AdvanceDptr = Ends (with_dptr ((dptr_of e.cpu + 1) % 65536) e)
 plan image ext e (LoadExternal from) = external_loaded e from
 plan image ext e (StoreExternal to) = external_stored e to
 plan image ext e (LoadCode base) = Ends (code_loaded image e base)
-plan image ext e (Push place) = pushed ext e place
-plan image ext e (Pop place) = popped e place
+plan image ext e (Push addressing) = pushed ext e addressing
+plan image ext e (Pop addressing) = popped e addressing
 plan image ext e (ChangeCarry by) = Ends (with_carry (changed_carry by (carry e.cpu)) e)
 plan image ext e (CarryWith by bit) = carry_merged ext e by bit
 plan image ext e (StoreBit from bit) = Ends (with_bit_at bit (bit_from from e.cpu) e)
@@ -63,7 +63,7 @@ plan image ext e (BranchOn condition rel) = Ends (branched (is_met condition e.c
 plan image ext e (BranchOnBit test bit rel) = branched_on_bit ext e test bit rel
 plan image ext e (TestAndClear bit rel) = tested_and_cleared e bit rel
 plan image ext e (Compare first second rel) = compared ext e first second rel
-plan image ext e (CountDown place rel) = counted_down e place rel
+plan image ext e (CountDown addressing rel) = counted_down e addressing rel
 plan image ext e (CallTo target) = Ends (called e target)
 plan image ext e (CallNear address) = Ends (called e (near e.cpu.pc address))
 plan image ext e (Return from) = returned e from
@@ -116,8 +116,8 @@ concluded barred (Err (MissingOutside c)) = Outside c
 concluded barred (Err (MissingUnset c)) = Unset c
 
 -- over a store with these cells, of which some are barred
-unfoldable pub outcome_of : Cpu → States → (Cell → Bool) → Instr → List ℕ → Pins → Outcome
-outcome_of cpu cells barred instr image ext = concluded barred (answer cells (plan_of cpu instr image ext))
+unfoldable pub instruction_outcome : Cpu → States → (Cell → Bool) → Instr → List ℕ → Pins → Outcome
+instruction_outcome cpu cells barred instr image ext = concluded barred (answer cells (plan_of cpu instr image ext))
 
 -- over a map: the first of its reads that the store does not answer, or else its effect where it is allowed
 unfoldable pub outcome_over : CellMap → Cpu → States → (Cell → Bool) → Instr → List ℕ → Pins → Outcome

@@ -42,14 +42,14 @@ code_loaded image e base =
 
 -- SP is raised before the operand is read
 unfoldable pub pushed : Pins → Effect → Addressing → Reads Effect
-pushed ext e place =
+pushed ext e addressing =
     let top = (latch e.cpu sp + 1) % 256 in
     let raised = with_sfr sp top e in
-    then_read (operand_value raised.cpu ext (At place)) (λ v. Ends (with_location (Ram top) v raised))
+    then_read (operand_value raised.cpu ext (At addressing)) (λ v. Ends (with_location (Ram top) v raised))
 
 -- SP is lowered before the operand is written
 unfoldable pub popped : Effect → Addressing → Reads Effect
-popped e place =
+popped e addressing =
     let top = latch e.cpu sp in
-    then_read (location_of e.cpu place) (λ at.
+    then_read (location_of e.cpu addressing) (λ at.
     Read (ByteAt top) (λ v. Ends (with_location at v (with_sfr sp ((top + 255) % 256) e))))

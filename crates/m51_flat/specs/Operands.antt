@@ -18,7 +18,7 @@ use Rattle.m51_flat.specs.Sfr.{acc, psw, latch, found, with_bit, with_sfr}
 unfoldable pub bank : Cpu → ℕ
 bank cpu = 8 * (latch cpu psw / 8 % 4)
 
--- where a place is: for an indirect one its register is read
+-- the location of an addressed byte: for an indirect one its register is read
 unfoldable pub location_of : Cpu → Addressing → Reads Location
 location_of cpu Accumulator = Ends (Sfr acc)
 location_of cpu (Direct a) = Ends (if nat_lt a 0x80 then Ram a else Sfr a)
@@ -38,7 +38,7 @@ found_at cpu ext (Sfr a) = Ends (found cpu ext a)
 -- the value of an operand that is only read
 unfoldable pub operand_value : Cpu → Pins → ByteOperand → Reads ℕ
 operand_value cpu ext (Immediate n) = Ends n
-operand_value cpu ext (At place) = then_read (location_of cpu place) (λ at. found_at cpu ext at)
+operand_value cpu ext (At addressing) = then_read (location_of cpu addressing) (λ at. found_at cpu ext at)
 
 -- a write to a location
 unfoldable pub with_location : Location → ℕ → Effect → Effect

@@ -9,7 +9,7 @@ use Rattle.m51_flat.specs.Outcome.{Done, PowerDown}
 use Rattle.m51_flat.specs.States.{States, shut_of}
 use Rattle.m51_flat.specs.Reads.{Agrees, CellMap, result_over}
 use Rattle.m51_flat.specs.Sfr.{flag, pcon}
-use Rattle.m51_flat.specs.Meaning.{outcome_of, plan_of}
+use Rattle.m51_flat.specs.Meaning.{instruction_outcome, plan_of}
 
 -- both puts may be written, it does not power down, and over each map that agrees with the store it is the same
 pub record IsDone
@@ -23,11 +23,11 @@ pub record IsDone
 abbrev pub EffectsAreDone : Type 0
 EffectsAreDone =
     (cpu : Cpu) (cells : States) (barred : Cell → Bool) (instr : Instr) (image : List ℕ) (ext : Pins) (e : Effect)
-    → outcome_of cpu cells barred instr image ext ≡ Done e → IsDone barred cells cpu instr image ext e
+    → instruction_outcome cpu cells barred instr image ext ≡ Done e → IsDone barred cells cpu instr image ext e
 
 -- an instruction whose outcome is power-down sets bit 1 of PCON, over each map that agrees with the store
 abbrev pub PowerGoesDown : Type 0
 PowerGoesDown =
     (cpu : Cpu) (cells : States) (barred : Cell → Bool) (instr : Instr) (image : List ℕ) (ext : Pins) (m : CellMap)
-    → outcome_of cpu cells barred instr image ext ≡ PowerDown → Agrees cells m
+    → instruction_outcome cpu cells barred instr image ext ≡ PowerDown → Agrees cells m
     → flag (result_over m (plan_of cpu instr image ext)).cpu pcon 1 ≡ true

@@ -56,20 +56,20 @@ bits_in m zero n = 0
 bits_in m (suc k) n = m.ram n + 2 * bits_in m k (n + 1)
 
 -- the value of one read
-unfoldable pub value_in : CellMap → Access → ℕ
-value_in m (ByteAt a) = bits_in m 8 (8 * a)
-value_in m (BitAt n) = m.ram (256 + n)
-value_in m (XbyteAt a) = m.xram a
+unfoldable pub access_value : CellMap → Access → ℕ
+access_value m (ByteAt a) = bits_in m 8 (8 * a)
+access_value m (BitAt n) = m.ram (256 + n)
+access_value m (XbyteAt a) = m.xram a
 
 -- over a map: the result
 abbrev pub result_over : {A : Type 0} → CellMap → Reads A → A
 result_over m (Ends a) = a
-result_over m (Read x go) = result_over m (go (value_in m x))
+result_over m (Read x go) = result_over m (go (access_value m x))
 
 -- over a map: the reads in order
 abbrev pub accesses_over : {A : Type 0} → CellMap → Reads A → List Access
 accesses_over m (Ends a) = []
-accesses_over m (Read x go) = x ∷ accesses_over m (go (value_in m x))
+accesses_over m (Read x go) = x ∷ accesses_over m (go (access_value m x))
 
 -- the answer to the first of these reads that has no value, or else this result
 abbrev pub first_missing : {A : Type 0} → States → List Access → A → Result A Missing

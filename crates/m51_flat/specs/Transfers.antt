@@ -32,8 +32,8 @@ compared ext e first second rel =
 
 -- an operand, of a port its latch, is counted down, and the branch is taken where it is not 0
 unfoldable pub counted_down : Effect → Addressing → ℕ → Reads Effect
-counted_down e place rel =
-    then_read (location_of e.cpu place) (λ at.
+counted_down e addressing rel =
+    then_read (location_of e.cpu addressing) (λ at.
     then_read (latch_at e.cpu at) (λ v.
     let w = (v + 255) % 256 in
     Ends (branched (not (w == 0)) rel (with_location at w e))))

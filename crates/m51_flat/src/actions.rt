@@ -19,11 +19,11 @@ pub(crate) enum Addressing {
 pub(crate) enum ByteOperand {
     /// The instruction itself.
     Immediate(u8),
-    /// A place.
+    /// An addressed byte.
     At(Addressing),
 }
 
-/// A place, once the register that it goes by is read.
+/// The location of an addressed byte, once the register that it goes by is read.
 #[derive(Clone, Copy)]
 pub(crate) enum Location {
     /// A byte of internal RAM.

@@ -69,14 +69,14 @@ pub(crate) fn assign<M: CellStore>(
     store: &M,
     ext: &Pins,
     effect: &mut Effect,
-    place: Addressing,
+    addressing: Addressing,
     from: ByteOperand,
 ) -> Result<(), Missing>
     ensures value { with_effect result effect.new ≡ answer (M.cells store.now)
-        (assigned ext.now effect.old place from) }
+        (assigned ext.now effect.old addressing from) }
     ensures missing { IfErr result (IsMissing (M.cells store.now)) }
 {
-    let location = locate(store, &effect.cpu, place)?;
+    let location = locate(store, &effect.cpu, addressing)?;
     let value = read_operand(store, &effect.cpu, ext, from)?;
     write_location(effect, location, value);
     Ok(())
@@ -109,14 +109,14 @@ pub(crate) fn combine<M: CellStore>(
     ext: &Pins,
     effect: &mut Effect,
     op: Logic,
-    place: Addressing,
+    addressing: Addressing,
     from: ByteOperand,
 ) -> Result<(), Missing>
     ensures value { with_effect result effect.new ≡ answer (M.cells store.now)
-        (combined ext.now effect.old op place from) }
+        (combined ext.now effect.old op addressing from) }
     ensures missing { IfErr result (IsMissing (M.cells store.now)) }
 {
-    let location = locate(store, &effect.cpu, place)?;
+    let location = locate(store, &effect.cpu, addressing)?;
     let value = read_latch_at(store, &effect.cpu, location)?;
     let mask = read_operand(store, &effect.cpu, ext, from)?;
     write_location(effect, location, logic_by(op, value, mask));
@@ -130,12 +130,12 @@ pub(crate) fn change<M: CellStore>(
     store: &M,
     effect: &mut Effect,
     count: Count,
-    place: Addressing,
+    addressing: Addressing,
 ) -> Result<(), Missing>
-    ensures value { with_effect result effect.new ≡ answer (M.cells store.now) (changed effect.old count place) }
+    ensures value { with_effect result effect.new ≡ answer (M.cells store.now) (changed effect.old count addressing) }
     ensures missing { IfErr result (IsMissing (M.cells store.now)) }
 {
-    let location = locate(store, &effect.cpu, place)?;
+    let location = locate(store, &effect.cpu, addressing)?;
     let value = read_latch_at(store, &effect.cpu, location)?;
     write_location(effect, location, count_by(count, value));
     Ok(())
@@ -162,12 +162,13 @@ pub(crate) fn exchange<M: CellStore>(
     store: &M,
     ext: &Pins,
     effect: &mut Effect,
-    place: Addressing,
+    addressing: Addressing,
 ) -> Result<(), Missing>
-    ensures value { with_effect result effect.new ≡ answer (M.cells store.now) (exchanged ext.now effect.old place) }
+    ensures value { with_effect result effect.new ≡ answer (M.cells store.now)
+        (exchanged ext.now effect.old addressing) }
     ensures missing { IfErr result (IsMissing (M.cells store.now)) }
 {
-    let location = locate(store, &effect.cpu, place)?;
+    let location = locate(store, &effect.cpu, addressing)?;
     let value = find_at(store, &effect.cpu, ext, location)?;
     let a = effect.cpu.latch(ACC);
     write_sfr(effect, ACC, value);
@@ -188,13 +189,13 @@ pub(crate) fn exchange_digit<M: CellStore>(
     store: &M,
     ext: &Pins,
     effect: &mut Effect,
-    place: Addressing,
+    addressing: Addressing,
 ) -> Result<(), Missing>
     ensures value { with_effect result effect.new ≡ answer (M.cells store.now)
-        (digits_exchanged ext.now effect.old place) }
+        (digits_exchanged ext.now effect.old addressing) }
     ensures missing { IfErr result (IsMissing (M.cells store.now)) }
 {
-    let location = locate(store, &effect.cpu, place)?;
+    let location = locate(store, &effect.cpu, addressing)?;
     let value = find_at(store, &effect.cpu, ext, location)?;
     let a = effect.cpu.latch(ACC);
     write_sfr(effect, ACC, digits(a, value));

@@ -52,13 +52,14 @@ pub(crate) fn compare<M: CellStore>(
 pub(crate) fn count_down<M: CellStore>(
     store: &M,
     effect: &mut Effect,
-    place: Addressing,
+    addressing: Addressing,
     rel: u8,
 ) -> Result<(), Missing>
-    ensures value { with_effect result effect.new ≡ answer (M.cells store.now) (counted_down effect.old place rel) }
+    ensures value { with_effect result effect.new ≡ answer (M.cells store.now)
+        (counted_down effect.old addressing rel) }
     ensures missing { IfErr result (IsMissing (M.cells store.now)) }
 {
-    let location = locate(store, &effect.cpu, place)?;
+    let location = locate(store, &effect.cpu, addressing)?;
     let value = read_latch_at(store, &effect.cpu, location)?.wrapping_sub(1);
     write_location(effect, location, value);
     branch_if(effect, value != 0, rel);

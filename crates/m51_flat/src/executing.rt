@@ -5,7 +5,7 @@ ghost use Rattle.m51_flat.specs.Outcome.{Done, outcome_by};
 ghost use Rattle.m51_flat.specs.Causes.{IsBarred, IsCause, IsWhole, unless_down};
 ghost use Rattle.m51_flat.specs.Laws.{Follows, HasParity, IfDone, next_address};
 ghost use Rattle.m51_flat.specs.LevelLaws.{LevelsFollow, writes_ie_or_ip};
-ghost use Rattle.m51_flat.specs.Meaning.{allowed, outcome_of, outcome_over, plan_of, started, still};
+ghost use Rattle.m51_flat.specs.Meaning.{allowed, instruction_outcome, outcome_over, plan_of, started, still};
 ghost use Rattle.m51_flat.specs.Meaning.{unless_barred};
 ghost use Rattle.m51_flat.specs.Reads.{Agrees, CellMap, result_over};
 ghost use Rattle.m51_flat.specs.Reset.{reset_cpu, reset_values};
@@ -137,7 +137,7 @@ fn allow<M: CellStore>(store: &M, effect: &Effect) -> Result<(), NoEffect>
 }
 
 // The outcome of an instruction over a store.
-#[tactic(auto, unfolding(crate::specs::Meaning::outcome_of))]
+#[tactic(auto, unfolding(crate::specs::Meaning::instruction_outcome))]
 #[inline(always)]
 fn run<M: CellStore>(
     cpu: &Cpu,
@@ -149,7 +149,7 @@ fn run<M: CellStore>(
 ) -> Result<(), NoEffect>
     requires { length image.now ≡ 65536 }
     ensures value { outcome_by result effect.new
-        ≡ outcome_of cpu.now (M.cells store.now) (M.barred store.now) instr.now image.now ext.now }
+        ≡ instruction_outcome cpu.now (M.cells store.now) (M.barred store.now) instr.now image.now ext.now }
     ensures cause { IsCause (M.cells store.now) (M.barred store.now) (outcome_by result effect.new) }
 {
     start(effect, cpu, instr);
@@ -171,7 +171,7 @@ fn run<M: CellStore>(
 pub fn exec<M: CellStore>(cpu: &Cpu, store: &M, instr: &Instr, image: &[u8], ext: &Pins) -> Outcome
     requires { length image.now ≡ 65536 }
     ensures outcome { result
-        ≡ outcome_of cpu.now (M.cells store.now) (M.barred store.now) instr.now image.now ext.now }
+        ≡ instruction_outcome cpu.now (M.cells store.now) (M.barred store.now) instr.now image.now ext.now }
 
     // Over any map that agrees with the store: its reads up to the first that fails, or else its effect.
     ensures over_map { (m : CellMap) → Agrees (M.cells store.now) m → result
@@ -217,7 +217,7 @@ pub fn exec_into<M: CellStore>(
 ) -> Result<(), NoEffect>
     requires { length image.now ≡ 65536 }
     ensures outcome { outcome_by result effect.new
-        ≡ outcome_of cpu.now (M.cells store.now) (M.barred store.now) instr.now image.now ext.now }
+        ≡ instruction_outcome cpu.now (M.cells store.now) (M.barred store.now) instr.now image.now ext.now }
 
     // Over any map that agrees with the store: its reads up to the first that fails, or else its effect.
     ensures over_map { (m : CellMap) → Agrees (M.cells store.now) m → outcome_by result effect.new

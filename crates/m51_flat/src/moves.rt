@@ -86,14 +86,14 @@ pub(crate) fn push<M: CellStore>(
     store: &M,
     ext: &Pins,
     effect: &mut Effect,
-    place: Addressing,
+    addressing: Addressing,
 ) -> Result<(), Missing>
-    ensures value { with_effect result effect.new ≡ answer (M.cells store.now) (pushed ext.now effect.old place) }
+    ensures value { with_effect result effect.new ≡ answer (M.cells store.now) (pushed ext.now effect.old addressing) }
     ensures missing { IfErr result (IsMissing (M.cells store.now)) }
 {
     let sp = effect.cpu.latch(SP).wrapping_add(1);
     write_sfr(effect, SP, sp);
-    let value = read_operand(store, &effect.cpu, ext, ByteOperand::At(place))?;
+    let value = read_operand(store, &effect.cpu, ext, ByteOperand::At(addressing))?;
     write_location(effect, Location::Ram(sp), value);
     Ok(())
 }
@@ -103,13 +103,13 @@ pub(crate) fn push<M: CellStore>(
 pub(crate) fn pop<M: CellStore>(
     store: &M,
     effect: &mut Effect,
-    place: Addressing,
+    addressing: Addressing,
 ) -> Result<(), Missing>
-    ensures value { with_effect result effect.new ≡ answer (M.cells store.now) (popped effect.old place) }
+    ensures value { with_effect result effect.new ≡ answer (M.cells store.now) (popped effect.old addressing) }
     ensures missing { IfErr result (IsMissing (M.cells store.now)) }
 {
     let sp = effect.cpu.latch(SP);
-    let location = locate(store, &effect.cpu, place)?;
+    let location = locate(store, &effect.cpu, addressing)?;
     let value = read_byte(store, sp)?;
     write_sfr(effect, SP, sp.wrapping_sub(1));
     write_location(effect, location, value);

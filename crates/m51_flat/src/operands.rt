@@ -50,18 +50,18 @@ pub(crate) fn bank_base(cpu: &Cpu) -> u8
     8 * (cpu.latch(PSW) / 8 % 4)
 }
 
-/// Where a place is: for an indirect one its register is read.
+/// The location of an addressed byte: for an indirect one its register is read.
 #[tactic(auto, unfolding(crate::specs::Operands::location_of))]
 #[inline(always)]
 pub(crate) fn locate<M: CellStore>(
     store: &M,
     cpu: &Cpu,
-    place: Addressing,
+    addressing: Addressing,
 ) -> Result<Location, Missing>
-    ensures value { result ≡ answer (M.cells store.now) (location_of cpu.now place) }
+    ensures value { result ≡ answer (M.cells store.now) (location_of cpu.now addressing) }
     ensures missing { IfErr result (IsMissing (M.cells store.now)) }
 {
-    match place {
+    match addressing {
         Addressing::Accumulator => Ok(Location::Sfr(ACC)),
         Addressing::Direct(address) => {
             if address < 128 {
@@ -127,8 +127,8 @@ pub(crate) fn read_operand<M: CellStore>(
 {
     match operand {
         ByteOperand::Immediate(value) => Ok(value),
-        ByteOperand::At(place) => {
-            let location = locate(store, cpu, place)?;
+        ByteOperand::At(addressing) => {
+            let location = locate(store, cpu, addressing)?;
             find_at(store, cpu, ext, location)
         }
     }

@@ -36,10 +36,10 @@ pub(crate) fn perform<M: CellStore>(
 {
     match action {
         Action::Skip => Ok(()),
-        Action::Assign(place, from) => assign(store, ext, effect, place, from),
+        Action::Assign(addressing, from) => assign(store, ext, effect, addressing, from),
         Action::Accumulate(op, from) => accumulate(store, ext, effect, op, from),
-        Action::Combine(op, place, from) => combine(store, ext, effect, op, place, from),
-        Action::Change(count, place) => change(store, effect, count, place),
+        Action::Combine(op, addressing, from) => combine(store, ext, effect, op, addressing, from),
+        Action::Change(count, addressing) => change(store, effect, count, addressing),
         Action::Turn(by) => {
             turn(effect, by);
             Ok(())
@@ -54,8 +54,8 @@ pub(crate) fn perform<M: CellStore>(
             write_pair(effect, pair);
             Ok(())
         }
-        Action::Exchange(place) => exchange(store, ext, effect, place),
-        Action::ExchangeDigit(place) => exchange_digit(store, ext, effect, place),
+        Action::Exchange(addressing) => exchange(store, ext, effect, addressing),
+        Action::ExchangeDigit(addressing) => exchange_digit(store, ext, effect, addressing),
         Action::LoadDptr(word) => {
             write_dptr(effect, word);
             Ok(())
@@ -71,8 +71,8 @@ pub(crate) fn perform<M: CellStore>(
             load_code(image, effect, base);
             Ok(())
         }
-        Action::Push(place) => push(store, ext, effect, place),
-        Action::Pop(place) => pop(store, effect, place),
+        Action::Push(addressing) => push(store, ext, effect, addressing),
+        Action::Pop(addressing) => pop(store, effect, addressing),
         Action::ChangeCarry(by) => {
             let carry = change_carry(by, read_carry(&effect.cpu));
             write_carry(effect, carry);
@@ -111,7 +111,7 @@ pub(crate) fn perform<M: CellStore>(
         Action::BranchOnBit(test, bit, rel) => branch_on_bit(store, ext, effect, test, bit, rel),
         Action::TestAndClear(bit, rel) => test_and_clear(store, effect, bit, rel),
         Action::Compare(first, second, rel) => compare(store, ext, effect, first, second, rel),
-        Action::CountDown(place, rel) => count_down(store, effect, place, rel),
+        Action::CountDown(addressing, rel) => count_down(store, effect, addressing, rel),
         Action::CallTo(target) => {
             call(effect, target);
             Ok(())

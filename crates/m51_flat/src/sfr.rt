@@ -7,7 +7,7 @@ use m51_alu::parity;
 use m51_sfr::addresses::{ACC, IE, IP, P0, P1, P2, P3, PSW, SBUF};
 use m51_sfr::is_register;
 
-/// The place of a register in the list of registers.
+/// The index of a register in the list of registers.
 pub(crate) fn index(address: u8) -> usize
     requires { 128 ≤ address }
     ensures value { result ≡ address - 0x80 }
@@ -33,14 +33,14 @@ pub(crate) fn port_at(address: u8) -> Option<u8>
 
 /// A byte with one bit replaced.
 #[tactic(auto, unfolding(crate::specs::Sfr::with_bit))]
-pub(crate) fn replace_bit(byte: u8, place: u8, bit: bool) -> u8
-    requires { place < 8 }
-    ensures { result ≡ with_bit byte place bit }
+pub(crate) fn replace_bit(byte: u8, number: u8, bit: bool) -> u8
+    requires { number < 8 }
+    ensures { result ≡ with_bit byte number bit }
 {
     if bit {
-        byte | 1 << place
+        byte | 1 << number
     } else {
-        byte & !(1 << place)
+        byte & !(1 << number)
     }
 }
 

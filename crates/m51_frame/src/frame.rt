@@ -1,10 +1,10 @@
 //! The frame of a record around its contents: type, length and checksum.
 ghost use Rattle.std.specs.Prelude.{◌≡◌, ◌<◌, ◌++◌, ◌∷◌, ◌+◌, ◌*◌, [], length, OnOk, IfOk};
 ghost use Rattle.m51_frame.specs.Fields.{Reads};
-ghost use Rattle.m51_frame.specs.Frame.{checksum_of, record_of, begins, summed, closed, lengthed, record_at};
+ghost use Rattle.m51_frame.specs.Frame.{checksum_of, record_of, begins, summed, framed_record, lengthed, record_at};
 ghost use Rattle.m51_frame.specs.Frame.{checksum_place};
 
-use crate::fields::{broken, place, put_pair};
+use crate::fields::{broken, offset_of, put_pair};
 use byteorder::{ByteOrder, LittleEndian};
 use m51_cells::NoMemory;
 use m51_module::ObjError;
@@ -61,10 +61,15 @@ fn summed<'a>(
 }
 
 // The contents of a record of that length of contents and checksum, and what follows it.
-#[tactic(auto, unfolding(crate::specs::Frame::closed))]
-fn closed(total: u32, number: u32, len: u16, bytes: &[u8]) -> Result<(&[u8], &[u8]), ObjError>
+#[tactic(auto, unfolding(crate::specs::Frame::framed_record))]
+fn framed_record(
+    total: u32,
+    number: u32,
+    len: u16,
+    bytes: &[u8],
+) -> Result<(&[u8], &[u8]), ObjError>
     requires { 0 < len }
-    ensures value { Reads (λ x. (x.0.now, x.1.now)) result (closed total number len bytes.now) }
+    ensures value { Reads (λ x. (x.0.now, x.1.now)) result (framed_record total number len bytes.now) }
     ensures shorter { IfOk result (λ x. length x.1.now < length bytes.now) }
 {
     let end = 2 + usize::from(len);
@@ -87,7 +92,7 @@ fn lengthed(total: u32, number: u32, bytes: &[u8]) -> Result<(&[u8], &[u8]), Obj
             if len == 0 {
                 return Err(broken(total, &bytes[1..]));
             }
-            closed(total, number, len, bytes)
+            framed_record(total, number, len, bytes)
         }
         _ => Err(ObjError::O1 { at: total }),
     }
@@ -117,7 +122,7 @@ pub fn record_at(
                 lengthed(total, number, bytes)
             } else {
                 Err(ObjError::O3 {
-                    at: place(total, bytes),
+                    at: offset_of(total, bytes),
                 })
             }
         }
@@ -130,7 +135,7 @@ pub fn record_at(
 pub fn checksum_place(total: u32, after: &[u8]) -> u32
     ensures { result ≡ checksum_place total after.now }
 {
-    place(total, after).saturating_sub(1)
+    offset_of(total, after).saturating_sub(1)
 }
 
 /// Appends a record of the type with these contents, which must be fewer than 65,535 bytes. Error: out of memory;

@@ -6,7 +6,7 @@ mod frame;
 mod names;
 mod pieces;
 
-pub use fields::{absent, broken, byte_at, pair, pair_at, place, put_pair, put_text, text_at};
+pub use fields::{absent, broken, byte_at, offset_of, pair, pair_at, put_pair, put_text, text_at};
 pub use frame::{begins, checksum_place, put_record, record_at, record_bytes};
 pub use names::{same, upper_name};
 pub use pieces::ends_before;

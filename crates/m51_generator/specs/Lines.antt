@@ -14,12 +14,12 @@ abbrev pub line : List ℕ → List ℕ
 line text = text ++ codes "\n"
 
 -- these lines as a text
-unfoldable pub text_of : List (List ℕ) → List ℕ
-text_of lines = flat_map line lines
+unfoldable pub lines_as_text : List (List ℕ) → List ℕ
+lines_as_text lines = flat_map line lines
 
 -- the module, and its stack
-abbrev pub opening : List (List ℕ)
-opening =
+abbrev pub opening_lines : List (List ℕ)
+opening_lines =
     codes "NAME GEN" ∷
     codes "?STACK SEGMENT IDATA" ∷
     codes "RSEG ?STACK" ∷
@@ -64,9 +64,10 @@ unit_tail local =
 -- the unit of this number and size, among all units: between beginning and end it calls its children
 unfoldable pub unit_text : List DrawnUnit → ℕ → ℕ → List ℕ
 unit_text units number size =
-    text_of (entry_lines (codes "U" ++ decimal number) (codes "L" ++ decimal number) size (codes "F" ++ decimal number))
-    ++ text_of (calls number units)
-    ++ text_of (unit_tail (codes "L" ++ decimal number))
+    lines_as_text
+    (entry_lines (codes "U" ++ decimal number) (codes "L" ++ decimal number) size (codes "F" ++ decimal number))
+    ++ lines_as_text (calls number units)
+    ++ lines_as_text (unit_tail (codes "L" ++ decimal number))
 
 -- the lines of units, of which the first has this number, among all units
 abbrev pub units_from : List DrawnUnit → ℕ → List DrawnUnit → List ℕ
@@ -83,7 +84,8 @@ handler_tail local port =
 
 -- a handler: its unit has the name of its label
 abbrev pub handler_text : List ℕ → List ℕ → List ℕ → List ℕ
-handler_text label local port = text_of (entry_lines label local 1 label) ++ text_of (handler_tail local port)
+handler_text label local port =
+    lines_as_text (entry_lines label local 1 label) ++ lines_as_text (handler_tail local port)
 
 -- the vectors, and MAIN up to its loop
 abbrev pub main_lines : List (List ℕ)
@@ -107,8 +109,8 @@ main_lines =
     []
 
 -- the end of the loop and of the source
-abbrev pub closing : List (List ℕ)
-closing =
+abbrev pub closing_lines : List (List ℕ)
+closing_lines =
     codes "LJMP LOOP" ∷
     codes "END" ∷
     []
@@ -116,13 +118,13 @@ closing =
 -- the text of a program with these units
 unfoldable pub program_text : List DrawnUnit → List ℕ
 program_text units =
-    text_of opening
+    lines_as_text opening_lines
     ++ units_from units 1 units
     ++ handler_text (codes "HA") (codes "VA") (codes "P0")
     ++ handler_text (codes "HB") (codes "VB") (codes "P2")
-    ++ text_of main_lines
-    ++ text_of (calls 0 units)
-    ++ text_of closing
+    ++ lines_as_text main_lines
+    ++ lines_as_text (calls 0 units)
+    ++ lines_as_text closing_lines
 
 -- the source with `units` units, drawn from this start
 abbrev pub generated : ℕ → ℕ → SourceFile

@@ -1,7 +1,7 @@
 //! The lines of procedures.
 ghost use Rattle.std.specs.Prelude.{◌≡◌, ◌++◌, IfOk, OnOk, codes, string_bytes};
 ghost use Rattle.std.specs.Fmt.{decimal};
-ghost use Rattle.m51_generator.specs.Lines.{text_of, entry_lines, handler_tail, handler_text};
+ghost use Rattle.m51_generator.specs.Lines.{lines_as_text, entry_lines, handler_tail, handler_text};
 
 use crate::texts::push_lines;
 use m51_cells::NoMemory;
@@ -68,12 +68,12 @@ pub(crate) fn push_entry(
     label: &str,
 ) -> Result<(), NoMemory>
     ensures { OnOk result (text.new.items
-        ≡ text.old.items ++ text_of (entry_lines unit.now local.now size label.now)) }
+        ≡ text.old.items ++ lines_as_text (entry_lines unit.now local.now size label.now)) }
 {
     let code = code_line(alloc, unit)?;
     let data = data_line(alloc, unit)?;
     let data_again = segment_line(alloc, "?DT?", unit)?;
-    let place = local_line(alloc, local, size)?;
+    let reserved = local_line(alloc, local, size)?;
     let code_again = segment_line(alloc, "?PR?", unit)?;
     let first = label_line(alloc, label, local)?;
     push_lines(
@@ -82,7 +82,7 @@ pub(crate) fn push_entry(
             code.as_str(),
             data.as_str(),
             data_again.as_str(),
-            place.as_str(),
+            reserved.as_str(),
             code_again.as_str(),
             first.as_str(),
         ],
@@ -97,7 +97,7 @@ fn push_handler_tail(
     local: &str,
     port: &str,
 ) -> Result<(), NoMemory>
-    ensures { OnOk result (text.new.items ≡ text.old.items ++ text_of (handler_tail local.now port.now)) }
+    ensures { OnOk result (text.new.items ≡ text.old.items ++ lines_as_text (handler_tail local.now port.now)) }
 {
     let count = count_line(alloc, port)?;
     let load = load_line(alloc, local)?;

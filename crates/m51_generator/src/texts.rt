@@ -1,13 +1,13 @@
 //! Lines appended to a text.
 ghost use Rattle.std.specs.Prelude.{◌≡◌, ◌++◌, OnOk};
-ghost use Rattle.m51_generator.specs.Lines.{lent, text_of, opening, main_lines, closing};
+ghost use Rattle.m51_generator.specs.Lines.{lent, lines_as_text, opening_lines, main_lines, closing_lines};
 
 use m51_cells::NoMemory;
 
 // Appends these lines.
-#[tactic(auto, unfolding(crate::specs::Lines::text_of))]
+#[tactic(auto, unfolding(crate::specs::Lines::lines_as_text))]
 pub(crate) fn push_lines(text: &mut Vec<u8>, lines: &[&str]) -> Result<(), NoMemory>
-    ensures { OnOk result (text.new.items ≡ text.old.items ++ text_of (lent lines.now)) }
+    ensures { OnOk result (text.new.items ≡ text.old.items ++ lines_as_text (lent lines.now)) }
 {
     for line in lines {
         text.extend_from_slice(line.as_bytes())?;
@@ -18,7 +18,7 @@ pub(crate) fn push_lines(text: &mut Vec<u8>, lines: &[&str]) -> Result<(), NoMem
 
 // Appends the module and its stack.
 pub(crate) fn push_opening(text: &mut Vec<u8>) -> Result<(), NoMemory>
-    ensures { OnOk result (text.new.items ≡ text.old.items ++ text_of opening) }
+    ensures { OnOk result (text.new.items ≡ text.old.items ++ lines_as_text opening_lines) }
 {
     push_lines(
         text,
@@ -28,7 +28,7 @@ pub(crate) fn push_opening(text: &mut Vec<u8>) -> Result<(), NoMemory>
 
 // Appends the vectors, and MAIN up to its loop.
 pub(crate) fn push_main(text: &mut Vec<u8>) -> Result<(), NoMemory>
-    ensures { OnOk result (text.new.items ≡ text.old.items ++ text_of main_lines) }
+    ensures { OnOk result (text.new.items ≡ text.old.items ++ lines_as_text main_lines) }
 {
     push_lines(
         text,
@@ -55,7 +55,7 @@ pub(crate) fn push_main(text: &mut Vec<u8>) -> Result<(), NoMemory>
 
 // Appends the end of the loop and of the source.
 pub(crate) fn push_closing(text: &mut Vec<u8>) -> Result<(), NoMemory>
-    ensures { OnOk result (text.new.items ≡ text.old.items ++ text_of closing) }
+    ensures { OnOk result (text.new.items ≡ text.old.items ++ lines_as_text closing_lines) }
 {
     push_lines(text, &["LJMP LOOP", "END"])
 }

@@ -1,7 +1,7 @@
 //! The lines of units.
 ghost use Rattle.std.specs.Prelude.{◌≡◌, [], ◌∷◌, ◌++◌, IfOk, OnOk, string_bytes};
 ghost use Rattle.std.specs.Fmt.{decimal};
-ghost use Rattle.m51_generator.specs.Lines.{text_of, call_line, calls, unit_tail, unit_text, units_from};
+ghost use Rattle.m51_generator.specs.Lines.{lines_as_text, call_line, calls, unit_tail, unit_text, units_from};
 
 use crate::procedures::{load_line, push_entry};
 use crate::texts::push_lines;
@@ -18,21 +18,21 @@ fn numbered(alloc: Global, letter: &str, number: usize) -> Result<String, NoMemo
 
 // Appends a call of the procedure of a unit.
 fn push_call(text: &mut Vec<u8>, alloc: Global, number: usize) -> Result<(), NoMemory>
-    ensures { OnOk result (text.new.items ≡ text.old.items ++ text_of (call_line number ∷ [])) }
+    ensures { OnOk result (text.new.items ≡ text.old.items ++ lines_as_text (call_line number ∷ [])) }
 {
     let line = numbered(alloc, "LCALL F", number)?;
     push_lines(text, &[line.as_str()])
 }
 
 // Appends the calls of the units with this parent.
-#[tactic(auto, unfolding(crate::specs::Lines::text_of))]
+#[tactic(auto, unfolding(crate::specs::Lines::lines_as_text))]
 pub(crate) fn push_calls(
     text: &mut Vec<u8>,
     alloc: Global,
     parent: usize,
     units: &[DrawnUnit],
 ) -> Result<(), NoMemory>
-    ensures { OnOk result (text.new.items ≡ text.old.items ++ text_of (calls parent units.now)) }
+    ensures { OnOk result (text.new.items ≡ text.old.items ++ lines_as_text (calls parent units.now)) }
 {
     for (index, unit) in units.iter().enumerate() {
         if unit.parent == parent {
@@ -45,7 +45,7 @@ pub(crate) fn push_calls(
 // Appends the end of the procedure of a unit.
 #[tactic(auto, unfolding(crate::specs::Lines::unit_tail))]
 fn push_tail(text: &mut Vec<u8>, alloc: Global, local: &str) -> Result<(), NoMemory>
-    ensures { OnOk result (text.new.items ≡ text.old.items ++ text_of (unit_tail local.now)) }
+    ensures { OnOk result (text.new.items ≡ text.old.items ++ lines_as_text (unit_tail local.now)) }
 {
     let load = load_line(alloc, local)?;
     push_lines(text, &[load.as_str(), "INC A", "MOV P1,A", "RET"])

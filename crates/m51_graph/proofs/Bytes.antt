@@ -1,27 +1,34 @@
 -- Numbers whose bits are the results of tests.
-use Rattle.std.proofs.Common.{◌≡◌, ◌⊎◌, inl, inr, ℕ, zero, suc, ◌+◌, ◌*◌, ◌^◌, ◌<◌, ◌≤◌, true, false, Bool, cond, List, [], ◌∷◌, ◌++◌, length, take, get_or, refl, sym, ap, subst, ◌∙◌, arith, add-one, length-take-le}
+use Rattle.m51_graph.proofs.Common.{◌≡◌, ◌⊎◌, inl, inr, ℕ, zero, suc, ◌+◌, ◌*◌, ◌<◌, ◌≤◌, true, false, Bool, cond, List}
+use Rattle.m51_graph.proofs.Common.{[], ◌∷◌, ◌++◌, length, take, get_or, refl, sym, ap, subst, ◌∙◌, arith, add-one}
+use Rattle.m51_graph.proofs.Common.{Contains, cases_Bool, take_more, contains_after, first_or_after, none_in_empty}
+use Rattle.m51_graph.proofs.Common.{AddsBits}
+use Rattle.std.proofs.Common.{◌^◌}
+use Rattle.std.proofs.Common.{length-take-le}
 use Rattle.std.proofs.Math.Nat.{pow-suc}
-use Rattle.std.specs.List.{Contains}
-use Rattle.std.proofs.lemmas.Bool.{cases_Bool}
-use Rattle.std.proofs.lemmas.List.{take_more}
-use Rattle.m51_cells.proofs.Small.{contains_after, first_or_after, none_in_empty}
-use Rattle.m51_graph.specs.Relating.{AddsBits, bits_of}
+use Rattle.m51_graph.specs.Relating.{bits_of}
 
-bits_push : (test : ℕ → Bool) (xs : List ℕ) (y weight : ℕ) → weight ≡ 2 ^ length xs → bits_of test (xs ++ y ∷ []) ≡ bits_of test xs + cond (test y) weight 0
-bits_push test [] y weight is = elim (test y) as (λ b. cond b 1 0 + 2 * 0 ≡ 0 + cond b weight 0) [ true ↦ omega (arith, is) | false ↦ omega arith ]
+bits_push : (test : ℕ → Bool) (xs : List ℕ) (y weight : ℕ) → weight ≡ 2 ^ length xs → bits_of test (xs ++ y ∷ [])
+    ≡ bits_of test xs + cond (test y) weight 0
+bits_push test [] y weight is =
+    elim (test y) as (λ b. cond b 1 0 + 2 * 0 ≡ 0 + cond b weight 0) [ true ↦ omega (arith, is) | false ↦ omega arith ]
 bits_push test (x ∷ xs) y weight is =
     let half : ℕ = 2 ^ length xs in
     let twice : weight ≡ 2 * half = omega (arith, is, pow-suc 2 (length xs)) in
     let rest : bits_of test (xs ++ y ∷ []) ≡ bits_of test xs + cond (test y) half 0 = bits_push test xs y half refl in
-    let last : cond (test y) weight 0 ≡ 2 * cond (test y) half 0 = elim (test y) as (λ b. cond b weight 0 ≡ 2 * cond b half 0) [ true ↦ twice | false ↦ omega arith ] in
+    let last : cond (test y) weight 0 ≡ 2 * cond (test y) half 0 =
+    elim (test y) as (λ b. cond b weight 0 ≡ 2 * cond b half 0) [ true ↦ twice | false ↦ omega arith ] in
     omega (arith, rest, last)
 
 -- one more bit
-module _ (test : ℕ → Bool) (xs : List ℕ) (count bits weight d : ℕ) (below : count < length xs) (h : AddsBits test xs count bits weight) where
-  one_more : bits_of test (take (count + 1) xs) ≡ bits_of test (take count xs) + cond (test (get_or xs count d)) weight 0
+module _ (test : ℕ → Bool) (xs : List ℕ) (count bits weight d : ℕ) (below : count < length xs)
+    (h : AddsBits test xs count bits weight) where
+  one_more : bits_of test (take (count + 1) xs)
+      ≡ bits_of test (take count xs) + cond (test (get_or xs count d)) weight 0
   one_more =
       ap (bits_of test) (take_more xs count d below)
-      ∙ bits_push test (take count xs) (get_or xs count d) weight (h.weight_is ∙ ap (λ n. 2 ^ n) (sym (length-take-le count xs (omega (arith, below)))))
+      ∙ bits_push test (take count xs) (get_or xs count d) weight
+      (h.weight_is ∙ ap (λ n. 2 ^ n) (sym (length-take-le count xs (omega (arith, below)))))
 
   pub adds_set : test (get_or xs count d) ≡ true → AddsBits test xs (count + 1) (bits + weight) (weight * 2)
   adds_set passes = record {

@@ -1,18 +1,18 @@
 -- Levels that climb along the edges until each edge leads to a higher one.
-use Rattle.std.proofs.Common.{◌≡◌, inl, inr, ℕ, zero, suc, ◌+◌, ◌*◌, ◌<◌, ◌≤◌, true, false, Bool, ◌||◌, List, [], ◌∷◌, ◌++◌, length, take, set, get_or, sum, refl, sym, ap, subst, ◌∙◌, arith, length-append}
-use Rattle.std.proofs.lemmas.List.{take_more, get_or-set_same, get_or-set_other, length-set}
+use Rattle.m51_graph.proofs.Common.{◌≡◌, inl, inr, ℕ, zero, suc, ◌+◌, ◌*◌, ◌<◌, ◌≤◌, true, false, Bool, ◌||◌, List, []}
+use Rattle.m51_graph.proofs.Common.{◌∷◌, ◌++◌, length, take, get_or, sum, refl, sym, ap, subst, ◌∙◌, arith, take_more}
+use Rattle.m51_graph.proofs.Common.{false≢true, Edges, HasEdge, IsWalk, last_of, Reaches, none_in_empty, reach_edge}
+use Rattle.m51_graph.proofs.Common.{AreWalked, IsClimbing, LeadWithin, IsLevel}
+use Rattle.std.proofs.Common.{set, length-append}
+use Rattle.std.proofs.lemmas.List.{get_or-set_same, get_or-set_other, length-set}
 use Rattle.std.proofs.lemmas.List.Elements.{Contains-push_cases, Contains-get_or}
 use Rattle.std.proofs.lemmas.List.Sums.{sum_by-set}
-use Rattle.std.proofs.lemmas.Bool.{false≢true}
-use Rattle.m51_module.specs.Walks.{Edges, HasEdge, IsWalk, last_of, Reaches}
-use Rattle.m51_cells.proofs.Small.{none_in_empty}
 use Rattle.m51_cells.proofs.ListsAndOptions.{sum_most}
 use Rattle.m51_module.proofs.Units.{same_or_not}
-use Rattle.m51_module.proofs.Reach.{last_on, reach_edge, reach_on, walk_on}
+use Rattle.m51_module.proofs.Reach.{last_on, reach_on, walk_on}
 use Rattle.m51_graph.specs.Leading.{leads}
-use Rattle.m51_graph.specs.Climbing.{AreSettled, AreWalked, IsClimbing, Lifts}
-use Rattle.m51_graph.specs.Graph.{LeadWithin}
-use Rattle.m51_graph.specs.Levels.{EndsWalk, IsLevel}
+use Rattle.m51_graph.specs.Climbing.{AreSettled, Lifts}
+use Rattle.m51_graph.specs.Levels.{EndsWalk}
 use Rattle.m51_graph.proofs.Deciding.{leads_tells}
 
 abbrev pub one_if : Bool → ℕ
@@ -26,7 +26,8 @@ tally p (suc n) = one_if (p n) + tally p n
 
 pub tally_le : (p : ℕ → Bool) (n : ℕ) → tally p n ≤ n
 tally_le p zero = omega arith
-tally_le p (suc n) = let h = tally_le p n in elim (p n) as (λ b. one_if b + tally p n ≤ suc n) [ true ↦ omega (arith, h) | false ↦ omega (arith, h) ]
+tally_le p (suc n) = let h = tally_le p n in
+    elim (p n) as (λ b. one_if b + tally p n ≤ suc n) [ true ↦ omega (arith, h) | false ↦ omega (arith, h) ]
 
 -- a number counts no more under a weaker test
 pub one_le : (a b : Bool) → (a ≡ true → b ≡ true) → one_if a ≤ one_if b
@@ -38,14 +39,16 @@ tally_mono p q zero h = omega arith
 tally_mono p q (suc n) h = omega (arith, tally_mono p q n h, one_le (p n) (q n) (h n))
 
 -- and more numbers pass the weaker test if one of them passes only that
-pub tally_lt : (p q : ℕ → Bool) (n w : ℕ) → w < n → ((u : ℕ) → p u ≡ true → q u ≡ true) → p w ≡ false → q w ≡ true → tally p n < tally q n
+pub tally_lt : (p q : ℕ → Bool) (n w : ℕ) → w < n → ((u : ℕ) → p u ≡ true → q u ≡ true) → p w ≡ false → q w ≡ true
+    → tally p n < tally q n
 tally_lt p q zero w below h lacks passes = absurd (omega (arith, below))
 tally_lt p q (suc n) w below h lacks passes = elim (same_or_not w n) as (λ _. tally p (suc n) < tally q (suc n)) [
   | inl e ↦
       let none : one_if (p n) ≡ 0 = ap one_if (subst (λ m. p m ≡ false) e lacks) in
       let one : one_if (q n) ≡ 1 = ap one_if (subst (λ m. q m ≡ true) e passes) in
       omega (arith, tally_mono p q n h, none, one)
-  | inr ne ↦ let less = tally_lt p q n w (omega (arith, below, ne)) h lacks passes in omega (arith, less, one_le (p n) (q n) (h n))
+  | inr ne ↦ let less = tally_lt p q n w (omega (arith, below, ne)) h lacks passes in
+      omega (arith, less, one_le (p n) (q n) (h n))
 ]
 
 module _ (n : ℕ) (edges : Edges) (within : LeadWithin n edges) (no_cycle : (u : ℕ) → Reaches edges u u → ⊥) where
@@ -54,7 +57,9 @@ module _ (n : ℕ) (edges : Edges) (within : LeadWithin n edges) (no_cycle : (u 
   rank v = tally (λ w. leads edges w v) n
 
   not_itself : (u : ℕ) → leads edges u u ≡ false
-  not_itself u = elim (leads edges u u) as (λ b. (b ≡ true → ⊥) → b ≡ false) [ true ↦ λ h. absurd (h refl) | false ↦ λ h. refl ] (λ h. no_cycle u ((leads_tells edges u u).0 h))
+  not_itself u =
+      elim (leads edges u u) as (λ b. (b ≡ true → ⊥) → b ≡ false) [ true ↦ λ h. absurd (h refl) | false ↦ λ h. refl ]
+      (λ h. no_cycle u ((leads_tells edges u u).0 h))
 
   -- more of them along an edge
   pub rank_edge : (u v : ℕ) → HasEdge edges u v → rank u < rank v
@@ -68,10 +73,17 @@ module _ (n : ℕ) (edges : Edges) (within : LeadWithin n edges) (no_cycle : (u 
 
   -- no walk is longer than there are units
   pub walk_short : (unit count : ℕ) → EndsWalk edges unit count → count ≤ n
-  walk_short unit count h = omega (arith, rank_walk h.first h.more h.walk, tally_le (λ w. leads edges w (last_of h.first h.more)) n, h.count_is)
+  walk_short unit count h =
+      omega (
+        arith,
+        rank_walk h.first h.more h.walk,
+        tally_le (λ w. leads edges w (last_of h.first h.more)) n,
+        h.count_is,
+      )
 
 -- a walk that ends in a unit, and then an edge
-pub ends_on : (edges : Edges) (u v count : ℕ) → EndsWalk edges u count → HasEdge edges u v → EndsWalk edges v (count + 1)
+pub ends_on : (edges : Edges) (u v count : ℕ) → EndsWalk edges u count → HasEdge edges u v
+    → EndsWalk edges v (count + 1)
 ends_on edges u v count h e = record {
   first = h.first;
   more = h.more ++ v ∷ [];
@@ -81,8 +93,13 @@ ends_on edges u v count h e = record {
 }
 
 -- at first each level is 0, of the walk without an edge
-pub walked_first : (edges : Edges) (levels : List ℕ) → ((u : ℕ) → u < length levels → get_or levels u 0 ≡ 0) → AreWalked edges levels
-walked_first edges levels zeros = record { walked = λ u below. record { first = u; more = []; walk = tt; ends = refl; count_is = sym (zeros u below) } }
+pub walked_first : (edges : Edges) (levels : List ℕ) → ((u : ℕ) → u < length levels → get_or levels u 0 ≡ 0)
+    → AreWalked edges levels
+walked_first edges levels zeros =
+    record {
+      walked =
+          λ u below. record { first = u; more = []; walk = tt; ends = refl; count_is = sym (zeros u below) };
+    }
 
 pub climbs_none : (edges : Edges) (levels : List ℕ) → AreWalked edges levels → IsClimbing edges [] levels levels false
 climbs_none edges levels walked = record {
@@ -94,19 +111,24 @@ climbs_none edges levels walked = record {
 }
 
 -- a level that rises
-pub climbs_edge : (edges done : Edges) (u v : ℕ) (old new : List ℕ) (rose : Bool) → HasEdge edges u v → u < length new → v < length new
+pub climbs_edge : (edges done : Edges) (u v : ℕ) (old new : List ℕ) (rose : Bool) → HasEdge edges u v → u < length new
+    → v < length new
     → get_or new v 0 < get_or new u 0 + 1 → IsClimbing edges done old new rose
     → IsClimbing edges (done ++ (u, v) ∷ []) old (set new v (get_or new u 0 + 1)) true
 climbs_edge edges done u v old new rose e in_u in_v less c =
     let level : ℕ = get_or new u 0 + 1 in
-    let longer : sum (set new v level) + get_or new v 0 ≡ sum new + level = sum_by-set (λ (x : ℕ). x) new v level 0 in_v in
+    let longer : sum (set new v level) + get_or new v 0 ≡ sum new + level =
+    sum_by-set (λ (x : ℕ). x) new v level 0 in_v in
     let same : length (set new v level) ≡ length new = length-set new v level in
     record {
       len = same ∙ c.len;
       walked = record {
         walked = λ w below. elim (same_or_not w v) as (λ _. EndsWalk edges w (get_or (set new v level) w 0)) [
-          | inl here ↦ subst (λ x. EndsWalk edges x (get_or (set new v level) x 0)) (sym here) (subst (λ k. EndsWalk edges v k) (sym (get_or-set_same new v level 0 in_v)) (ends_on edges u v (get_or new u 0) (c.walked.walked u in_u) e))
-          | inr other ↦ subst (λ k. EndsWalk edges w k) (sym (get_or-set_other new v w level 0 other)) (c.walked.walked w (omega (arith, below, same)))
+          | inl here ↦ subst (λ x. EndsWalk edges x (get_or (set new v level) x 0)) (sym here)
+              (subst (λ k. EndsWalk edges v k) (sym (get_or-set_same new v level 0 in_v))
+              (ends_on edges u v (get_or new u 0) (c.walked.walked u in_u) e))
+          | inr other ↦ subst (λ k. EndsWalk edges w k) (sym (get_or-set_other new v w level 0 other))
+              (c.walked.walked w (omega (arith, below, same)))
         ];
       };
       settled = λ h. absurd (false≢true (sym h));
@@ -134,7 +156,8 @@ climbs_pass edges done u v old new rose high c = record {
 }
 
 -- the next edge of a list
-pub climbs_more : (edges : Edges) (i : ℕ) (d : ℕ × ℕ) (old now new : List ℕ) (rose lifted : Bool) → LeadWithin (length now) edges → i < length edges
+pub climbs_more : (edges : Edges) (i : ℕ) (d : ℕ × ℕ) (old now new : List ℕ) (rose lifted : Bool)
+    → LeadWithin (length now) edges → i < length edges
     → Lifts (get_or edges i d).0 (get_or edges i d).1 now new lifted → IsClimbing edges (take i edges) old now rose
     → IsClimbing edges (take (i + 1) edges) old new (lifted || rose)
 climbs_more edges i d old now new rose true within below h c =
@@ -142,7 +165,8 @@ climbs_more edges i d old now new rose true within below h c =
     let is : HasEdge edges edge.0 edge.1 = Contains-get_or edges i d below in
     let inside = within.within edge.0 edge.1 is in
     subst (λ levels. IsClimbing edges (take (i + 1) edges) old levels true) (sym h.1)
-    (subst (λ (es : Edges). IsClimbing edges es old (set now edge.1 (get_or now edge.0 0 + 1)) true) (sym (take_more edges i d below))
+    (subst (λ (es : Edges). IsClimbing edges es old (set now edge.1 (get_or now edge.0 0 + 1)) true)
+    (sym (take_more edges i d below))
     (climbs_edge edges (take i edges) edge.0 edge.1 old now rose is inside.0 inside.1 h.0 c))
 climbs_more edges i d old now new rose false within below h c =
     let edge : ℕ × ℕ = get_or edges i d in
@@ -150,17 +174,20 @@ climbs_more edges i d old now new rose false within below h c =
     (subst (λ (es : Edges). IsClimbing edges es old now rose) (sym (take_more edges i d below))
     (climbs_pass edges (take i edges) edge.0 edge.1 old now rose (omega (arith, h.0)) c))
 
-module _ (edges : Edges) (levels : List ℕ) (within : LeadWithin (length levels) edges) (no_cycle : (u : ℕ) → Reaches edges u u → ⊥) (walked : AreWalked edges levels) where
+module _ (edges : Edges) (levels : List ℕ) (within : LeadWithin (length levels) edges)
+    (no_cycle : (u : ℕ) → Reaches edges u u → ⊥) (walked : AreWalked edges levels) where
   -- levels are no higher than there are units
   pub level_most : (unit : ℕ) → unit < length levels → get_or levels unit 0 ≤ length levels
-  level_most unit below = walk_short (length levels) edges within no_cycle unit (get_or levels unit 0) (walked.walked unit below)
+  level_most unit below =
+      walk_short (length levels) edges within no_cycle unit (get_or levels unit 0) (walked.walked unit below)
 
   pub levels_most : sum levels ≤ length levels * length levels
   levels_most = sum_most (length levels) levels level_most
 
 -- where each edge leads to a higher level, no walk has more edges than the level of its end
 module _ (edges : Edges) (levels : List ℕ) (settled : AreSettled edges levels) where
-  climbed : (u : ℕ) (more : List ℕ) → IsWalk edges u more → get_or levels u 0 + length more ≤ get_or levels (last_of u more) 0
+  climbed : (u : ℕ) (more : List ℕ) → IsWalk edges u more
+      → get_or levels u 0 + length more ≤ get_or levels (last_of u more) 0
   climbed u [] walk = omega arith
   climbed u (v ∷ more) walk = omega (arith, settled.higher u v walk.0, climbed v more walk.1)
 
@@ -175,7 +202,8 @@ pub record Ends (count : ℕ) (edge : ℕ × ℕ) : Type 0 where
   pub from : edge.0 < count
   pub to : edge.1 < count
 
-pub ends_within : (count i : ℕ) (d : ℕ × ℕ) (edges : Edges) → LeadWithin count edges → i < length edges → Ends count (get_or edges i d)
+pub ends_within : (count i : ℕ) (d : ℕ × ℕ) (edges : Edges) → LeadWithin count edges → i < length edges
+    → Ends count (get_or edges i d)
 ends_within count i d edges within below =
     let both = within.within (get_or edges i d).0 (get_or edges i d).1 (Contains-get_or edges i d below) in
     record { from = both.0; to = both.1 }

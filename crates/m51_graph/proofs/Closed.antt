@@ -1,16 +1,11 @@
 -- The pairs that walks along edges join, found unit by unit.
-use Rattle.std.proofs.Common.{◌≡◌, ◌⊎◌, inl, inr, ℕ, zero, suc, ◌+◌, ◌<◌, true, Bool, ◌||◌, ◌&&◌, nat_eq, List, [], ◌∷◌, length, take, get_or, refl, sym, ap, subst, ◌∙◌, arith}
+use Rattle.m51_graph.proofs.Common.{◌≡◌, ◌⊎◌, inl, inr, ℕ, zero, suc, ◌+◌, ◌<◌, true, Bool, ◌||◌, ◌&&◌, nat_eq, List}
+use Rattle.m51_graph.proofs.Common.{[], ◌∷◌, length, take, get_or, refl, sym, ap, subst, ◌∙◌, arith, Decides, Contains}
+use Rattle.m51_graph.proofs.Common.{cases_eq, Decides-eqb, Any-from_list_any, list_any_at, Edges, HasEdge, IsWalk}
+use Rattle.m51_graph.proofs.Common.{last_of, Reaches, reach_edge, flipped, edge_test, same_edge, LeadWithin}
 use Rattle.std.proofs.Math.Bool.{and_comm, or_comm}
-use Rattle.std.specs.Bool.{Decides}
-use Rattle.std.specs.List.{Contains}
-use Rattle.std.proofs.lemmas.Bool.{cases_eq}
-use Rattle.std.proofs.lemmas.Bool.Decides.{Decides-eqb}
-use Rattle.std.proofs.lemmas.List.Folds.{Any-from_list_any, list_any_at, list_any_more}
-use Rattle.m51_module.specs.Walks.{Edges, HasEdge, IsWalk, last_of, Reaches}
-use Rattle.m51_module.proofs.Reach.{reach_edge}
-use Rattle.m51_relations.specs.Rows.{closed_below, flipped, with_pair}
-use Rattle.m51_graph.specs.Drawing.{edge_test, same_edge}
-use Rattle.m51_graph.specs.Graph.{LeadWithin}
+use Rattle.std.proofs.lemmas.List.Folds.{list_any_more}
+use Rattle.m51_relations.specs.Rows.{closed_below, with_pair}
 use Rattle.m51_graph.specs.Leading.{leads}
 use Rattle.m51_relations.proofs.BitLaws.{same_pairs}
 use Rattle.m51_graph.proofs.Deciding.{and_decides, leads_is, or_decides, reach_trans}
@@ -26,11 +21,13 @@ edge_tells edges u v =
           let told = (same edge).0 any.4 in
           let is : edge ≡ (u, v) = ap (λ (a : ℕ). (a, edge.1)) (sym told.0) ∙ ap (λ (b : ℕ). (u, b)) (sym told.1) in
           subst (λ (p : ℕ × ℕ). Contains edges p) is (any.0, any.2, any.3),
-      λ h. list_any_at (same_edge (u, v)) edges h.0 (u, v) h.1 (ap (same_edge (u, v)) h.2 ∙ (same (u, v)).1 (refl, refl)),
+      λ h. list_any_at (same_edge (u, v)) edges h.0 (u, v) h.1
+          (ap (same_edge (u, v)) h.2 ∙ (same (u, v)).1 (refl, refl)),
     )
 
 -- one more edge
-pub edge_more : (edges : Edges) (i : ℕ) (d : ℕ × ℕ) (has : ℕ → ℕ → Bool) → i < length edges → has ≡ edge_test (take i edges)
+pub edge_more : (edges : Edges) (i : ℕ) (d : ℕ × ℕ) (has : ℕ → ℕ → Bool) → i < length edges → has
+    ≡ edge_test (take i edges)
     → with_pair (get_or edges i d).0 (get_or edges i d).1 has ≡ edge_test (take (i + 1) edges)
 edge_more edges i d has below is =
     let edge : ℕ × ℕ = get_or edges i d in
@@ -40,7 +37,8 @@ edge_more edges i d has below is =
     ∙ sym (list_any_more (same_edge (u, v)) edges i d below))
 
 -- one more edge, reversed
-pub caller_more : (edges : Edges) (i : ℕ) (d : ℕ × ℕ) (has : ℕ → ℕ → Bool) → i < length edges → has ≡ flipped (edge_test (take i edges))
+pub caller_more : (edges : Edges) (i : ℕ) (d : ℕ × ℕ) (has : ℕ → ℕ → Bool) → i < length edges → has
+    ≡ flipped (edge_test (take i edges))
     → with_pair (get_or edges i d).1 (get_or edges i d).0 has ≡ flipped (edge_test (take (i + 1) edges))
 caller_more edges i d has below is =
     let edge : ℕ × ℕ = get_or edges i d in
@@ -83,13 +81,15 @@ module _ (edges : Edges) (has : ℕ → ℕ → Bool) (tells : (u v : ℕ) → D
   from_last k v (inr h) = h.1
 
   -- two walks that meet in a unit below the bound
-  closed_on : (k u w v : ℕ) → w < k → closed_below k has u w ≡ true → closed_below k has w v ≡ true → closed_below k has u v ≡ true
+  closed_on : (k u w v : ℕ) → w < k → closed_below k has u w ≡ true → closed_below k has w v ≡ true
+      → closed_below k has u v ≡ true
   closed_on zero u w v below p q = absurd (omega (arith, below))
   closed_on (suc k) u w v below p q =
       let one = (via_tells k u w).0 p in
       let two = (via_tells k w v).0 q in
       (via_tells k u v).1 (elim (cases_eq w k) as (λ _. Via k u v) [
-        | inl here ↦ inr (to_last k u (subst (λ n. Via k u n) here one), from_last k v (subst (λ n. Via k n v) here two))
+        | inl here ↦ inr
+            (to_last k u (subst (λ n. Via k u n) here one), from_last k v (subst (λ n. Via k n v) here two))
         | inr other ↦
             let less : w < k = omega (arith, below, other) in
             elim one as (λ _. Via k u v) [
@@ -105,19 +105,26 @@ module _ (edges : Edges) (has : ℕ → ℕ → Bool) (tells : (u v : ℕ) → D
       ])
 
   module _ (count : ℕ) (within : LeadWithin count edges) where
-    closed_along : (u w : ℕ) (more : List ℕ) → closed_below count has u w ≡ true → IsWalk edges w more → closed_below count has u (last_of w more) ≡ true
+    closed_along : (u w : ℕ) (more : List ℕ) → closed_below count has u w ≡ true → IsWalk edges w more
+        → closed_below count has u (last_of w more) ≡ true
     closed_along u w [] p walk = p
     closed_along u w (v ∷ more) p walk =
-        closed_along u v more (closed_on count u w v (within.within w v walk.0).0 p (closed_edge count w v walk.0)) walk.1
+        closed_along u v more
+        (closed_on count u w v (within.within w v walk.0).0 p (closed_edge count w v walk.0)) walk.1
 
     reaches_closed : (u v : ℕ) → Reaches edges u v → closed_below count has u v ≡ true
-    reaches_closed u v r = subst (λ w. closed_below count has u w ≡ true) r.ends (closed_along u r.next r.more (closed_edge count u r.next r.walk.0) r.walk.1)
+    reaches_closed u v r =
+        subst (λ w. closed_below count has u w ≡ true) r.ends
+        (closed_along u r.next r.more (closed_edge count u r.next r.walk.0) r.walk.1)
 
     -- after all units the pairs are those that walks join
     pub closed_leads : closed_below count has ≡ leads edges
-    closed_leads = same_pairs (closed_below count has) (leads edges) (λ u v. leads_is edges u v (closed_below count has u v) (closed_reaches count u v, reaches_closed u v))
+    closed_leads =
+        same_pairs (closed_below count has) (leads edges)
+        (λ u v. leads_is edges u v (closed_below count has u v) (closed_reaches count u v, reaches_closed u v))
 
 -- of the edges
-pub edges_closed : (count : ℕ) (edges : Edges) (has : ℕ → ℕ → Bool) → LeadWithin count edges → has ≡ edge_test edges → closed_below count has ≡ leads edges
+pub edges_closed : (count : ℕ) (edges : Edges) (has : ℕ → ℕ → Bool) → LeadWithin count edges → has ≡ edge_test edges
+    → closed_below count has ≡ leads edges
 edges_closed count edges has within is =
     ap (closed_below count) is ∙ closed_leads edges (edge_test edges) (edge_tells edges) count within

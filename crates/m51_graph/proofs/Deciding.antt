@@ -1,21 +1,22 @@
 -- The decision whether a walk leads from one unit to another is right.
-use Rattle.std.proofs.Common.{◌≡◌, ◌⊎◌, inl, inr, ℕ, suc, ◌+◌, ◌<◌, true, false, Bool, ◌||◌, ◌&&◌, nat_eq, List, [], ◌∷◌, refl, sym, ap, subst, ◌∙◌, arith}
-use Rattle.std.specs.Bool.{Decides}
-use Rattle.std.proofs.lemmas.Bool.{false≢true}
-use Rattle.std.proofs.lemmas.Bool.Decides.{Decides-eqb, same_from_decides}
-use Rattle.m51_module.specs.Walks.{Edges, HasEdge, IsWalk, last_of, Reaches}
-use Rattle.m51_cells.proofs.Small.{contains_after, first_or_after, none_in_empty}
-use Rattle.m51_module.proofs.Reach.{reach_edge, reach_on, reach_from, lead_on}
+use Rattle.m51_graph.proofs.Common.{◌≡◌, ◌⊎◌, inl, inr, ℕ, suc, ◌+◌, ◌<◌, true, false, Bool, ◌||◌, ◌&&◌, nat_eq, List}
+use Rattle.m51_graph.proofs.Common.{[], ◌∷◌, refl, sym, ap, subst, ◌∙◌, arith, Decides, false≢true, Decides-eqb, Edges}
+use Rattle.m51_graph.proofs.Common.{HasEdge, IsWalk, last_of, Reaches, contains_after, first_or_after, none_in_empty}
+use Rattle.m51_graph.proofs.Common.{reach_edge}
+use Rattle.std.proofs.lemmas.Bool.Decides.{same_from_decides}
+use Rattle.m51_module.proofs.Reach.{reach_on, reach_from, lead_on}
 use Rattle.m51_graph.specs.Leading.{leads}
 
 -- a walk, and then a longer one
-pub reach_along : (edges : Edges) (u v : ℕ) (more : List ℕ) → Reaches edges u v → IsWalk edges v more → Reaches edges u (last_of v more)
+pub reach_along : (edges : Edges) (u v : ℕ) (more : List ℕ) → Reaches edges u v → IsWalk edges v more
+    → Reaches edges u (last_of v more)
 reach_along edges u v [] r walk = r
 reach_along edges u v (w ∷ more) r walk = reach_along edges u w more (reach_on edges u v w r walk.0) walk.1
 
 pub reach_trans : (edges : Edges) (u v w : ℕ) → Reaches edges u v → Reaches edges v w → Reaches edges u w
 reach_trans edges u v w one two =
-    subst (λ x. Reaches edges u x) two.ends (reach_along edges u two.next two.more (reach_on edges u v two.next one two.walk.0) two.walk.1)
+    subst (λ x. Reaches edges u x) two.ends
+    (reach_along edges u two.next two.more (reach_on edges u v two.next one two.walk.0) two.walk.1)
 
 -- a walk stays one where there are more edges
 walk_more : (edge : ℕ × ℕ) (edges : Edges) (u : ℕ) (more : List ℕ) → IsWalk edges u more → IsWalk (edge ∷ edges) u more
@@ -23,7 +24,8 @@ walk_more edge edges u [] walk = tt
 walk_more edge edges u (v ∷ more) walk = (contains_after edge edges (u, v) walk.0, walk_more edge edges v more walk.1)
 
 reach_more : (edge : ℕ × ℕ) (edges : Edges) (u v : ℕ) → Reaches edges u v → Reaches (edge ∷ edges) u v
-reach_more edge edges u v r = record { next = r.next; more = r.more; walk = walk_more edge edges u (r.next ∷ r.more) r.walk; ends = r.ends }
+reach_more edge edges u v r =
+    record { next = r.next; more = r.more; walk = walk_more edge edges u (r.next ∷ r.more) r.walk; ends = r.ends }
 
 -- the two are one unit, or the first reaches the second
 abbrev Leads : Edges → ℕ → ℕ → Type 0
@@ -38,7 +40,8 @@ leads_on : (edges : Edges) (u v w : ℕ) → HasEdge edges u v → Leads edges v
 leads_on edges u v w e (inl same) = subst (λ x. Reaches edges u x) same (reach_edge edges u v e)
 leads_on edges u v w e (inr r) = reach_from edges u v w e r
 
-split_on : (edge : ℕ × ℕ) (edges : Edges) (u v w : ℕ) → HasEdge (edge ∷ edges) u v → Leads edges v w ⊎ (Leads edges v edge.0 × Leads edges edge.1 w) → Splits edge edges u w
+split_on : (edge : ℕ × ℕ) (edges : Edges) (u v w : ℕ) → HasEdge (edge ∷ edges) u v → Leads edges v w
+    ⊎ (Leads edges v edge.0 × Leads edges edge.1 w) → Splits edge edges u w
 split_on edge edges u v w e rest = elim (first_or_after edge edges (u, v) e) as (λ _. Splits edge edges u w) [
   | inl here ↦
       let from : u ≡ edge.0 = sym (ap (λ (p : ℕ × ℕ). p.0) here) in
@@ -53,13 +56,17 @@ split_on edge edges u v w e rest = elim (first_or_after edge edges (u, v) e) as 
   ]
 ]
 
-widen : (edge : ℕ × ℕ) (edges : Edges) (u w : ℕ) → Splits edge edges u w → Leads edges u w ⊎ (Leads edges u edge.0 × Leads edges edge.1 w)
+widen : (edge : ℕ × ℕ) (edges : Edges) (u w : ℕ) → Splits edge edges u w → Leads edges u w
+    ⊎ (Leads edges u edge.0 × Leads edges edge.1 w)
 widen edge edges u w (inl r) = inl (inr r)
 widen edge edges u w (inr both) = inr both
 
-split_walk : (edge : ℕ × ℕ) (edges : Edges) (u v : ℕ) (more : List ℕ) → IsWalk (edge ∷ edges) u (v ∷ more) → Splits edge edges u (last_of v more)
+split_walk : (edge : ℕ × ℕ) (edges : Edges) (u v : ℕ) (more : List ℕ) → IsWalk (edge ∷ edges) u (v ∷ more)
+    → Splits edge edges u (last_of v more)
 split_walk edge edges u v [] walk = split_on edge edges u v v walk.0 (inl (inl refl))
-split_walk edge edges u v (w ∷ more) walk = split_on edge edges u v (last_of w more) walk.0 (widen edge edges v (last_of w more) (split_walk edge edges v w more walk.1))
+split_walk edge edges u v (w ∷ more) walk =
+    split_on edge edges u v (last_of w more) walk.0
+    (widen edge edges v (last_of w more) (split_walk edge edges v w more walk.1))
 
 split_reach : (edge : ℕ × ℕ) (edges : Edges) (u w : ℕ) → Reaches (edge ∷ edges) u w → Splits edge edges u w
 split_reach edge edges u w r = subst (λ x. Splits edge edges u x) r.ends (split_walk edge edges u r.next r.more r.walk)
@@ -69,7 +76,8 @@ join_reach edge edges u w (inl r) = reach_more edge edges u w r
 join_reach edge edges u w (inr both) =
     let here : HasEdge (edge ∷ edges) edge.0 edge.1 = (0, omega arith, refl) in
     let before : Reaches (edge ∷ edges) u edge.1 = elim both.0 as (λ _. Reaches (edge ∷ edges) u edge.1) [
-      | inl same ↦ subst (λ x. Reaches (edge ∷ edges) x edge.1) (sym same) (reach_edge (edge ∷ edges) edge.0 edge.1 here)
+      | inl same ↦ subst (λ x. Reaches (edge ∷ edges) x edge.1) (sym same)
+          (reach_edge (edge ∷ edges) edge.0 edge.1 here)
       | inr r ↦ reach_on (edge ∷ edges) u edge.0 edge.1 (reach_more edge edges u edge.0 r) here
     ] in
     elim both.1 as (λ _. Reaches (edge ∷ edges) u w) [
@@ -80,7 +88,8 @@ join_reach edge edges u w (inr both) =
 -- Bool tests as facts
 pub or_decides : {P Q : Type 0} → (a b : Bool) → Decides a P → Decides b Q → Decides (a || b) (P ⊎ Q)
 or_decides true b d e = (λ h. inl (d.0 refl), λ h. refl)
-or_decides false b d e = (λ h. inr (e.0 h), λ h. elim h as (λ _. b ≡ true) [ inl p ↦ absurd (false≢true (d.1 p)) | inr q ↦ e.1 q ])
+or_decides false b d e =
+    (λ h. inr (e.0 h), λ h. elim h as (λ _. b ≡ true) [ inl p ↦ absurd (false≢true (d.1 p)) | inr q ↦ e.1 q ])
 
 pub and_decides : {P Q : Type 0} → (a b : Bool) → Decides a P → Decides b Q → Decides (a && b) (P × Q)
 and_decides true b d e = (λ h. (d.0 refl, e.0 h), λ h. e.1 h.1)
@@ -92,7 +101,8 @@ unfolding leads
 leads_tells [] u w = (λ h. absurd (false≢true h), λ r. absurd (none_in_empty (u, r.next) r.walk.0))
 leads_tells (edge ∷ edges) u w =
     let split : Decides (leads (edge ∷ edges) u w) (Splits edge edges u w) =
-    or_decides (leads edges u w) ((nat_eq u edge.0 || leads edges u edge.0) && (nat_eq edge.1 w || leads edges edge.1 w)) (leads_tells edges u w)
+    or_decides (leads edges u w)
+    ((nat_eq u edge.0 || leads edges u edge.0) && (nat_eq edge.1 w || leads edges edge.1 w)) (leads_tells edges u w)
     (and_decides (nat_eq u edge.0 || leads edges u edge.0) (nat_eq edge.1 w || leads edges edge.1 w)
     (or_decides (nat_eq u edge.0) (leads edges u edge.0) (Decides-eqb u edge.0) (leads_tells edges u edge.0))
     (or_decides (nat_eq edge.1 w) (leads edges edge.1 w) (Decides-eqb edge.1 w) (leads_tells edges edge.1 w))) in

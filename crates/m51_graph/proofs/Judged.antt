@@ -1,21 +1,19 @@
 -- What the rules on edges and roots make sure of.
-use Rattle.std.proofs.Common.{◌≡◌, inl, inr, ℕ, zero, suc, ◌+◌, ◌-◌, ◌<◌, true, false, Bool, cond, nat_eq, List, [], ◌∷◌, length, drop, get_or, Option, Some, None, Result, Ok, refl, sym, ap, subst, ◌∙◌, arith}
-use Rattle.std.specs.List.{Contains, list_any}
-use Rattle.std.specs.Option.{option_map_or, option_or}
-use Rattle.std.proofs.lemmas.Bool.{cases_Bool, false≢true}
-use Rattle.std.proofs.lemmas.Bool.Decides.{Decides-eqb}
-use Rattle.std.proofs.lemmas.List.Folds.{list_any_at}
+use Rattle.m51_graph.proofs.Common.{◌≡◌, inl, inr, ℕ, zero, suc, ◌+◌, ◌-◌, ◌<◌, true, false, Bool, cond, nat_eq, List}
+use Rattle.m51_graph.proofs.Common.{[], ◌∷◌, length, drop, get_or, Option, Some, None, refl, sym, ap, subst, ◌∙◌, arith}
+use Rattle.m51_graph.proofs.Common.{Contains, list_any, option_map_or, option_or, cases_Bool, false≢true, Decides-eqb}
+use Rattle.m51_graph.proofs.Common.{list_any_at, vectors, first_or_after, none_in_empty, GraphParts, AreOfUnits}
+use Rattle.m51_graph.proofs.Common.{first_under_two, cyclic_from, lies_under}
+use Rattle.std.proofs.Common.{Result, Ok}
 use Rattle.std.proofs.lemmas.Option.{slice_get_within, get_or_from_slice_get}
 use Rattle.m51_cells.specs.Outcome.{RefusesWith}
 use Rattle.m51_module.specs.declared.linked.Refusal.{Refusal}
 use Rattle.m51_module.specs.declared.linked.Refusal.TheVariants.{L8}
-use Rattle.m51_module.specs.Roots.{vectors}
-use Rattle.m51_cells.proofs.Small.{first_or_after, none_in_empty}
 use Rattle.m51_cells.proofs.ListsAndOptions.{filter_keeps}
 use Rattle.m51_module.proofs.Units.{same_or_not}
-use Rattle.m51_graph.specs.declared.parts.GraphParts.{GraphParts}
-use Rattle.m51_graph.specs.Graph.{AreOfUnits, IsGraph, IsOwn, UnitLiesUnder}
-use Rattle.m51_graph.specs.Graphs.{judged_by, on_cycles, passed, unless, under_two, unit_under_two, first_under_two, cyclic_from, has_overlaid, roots_above, lies_under}
+use Rattle.m51_graph.specs.Graph.{IsGraph, IsOwn, UnitLiesUnder}
+use Rattle.m51_graph.specs.Graphs.{judged_by, on_cycles, passed, unless, under_two, unit_under_two}
+use Rattle.m51_graph.specs.Graphs.{has_overlaid, roots_above}
 use Rattle.m51_graph.specs.Leading.{leads}
 use Rattle.m51_graph.proofs.Deciding.{leads_tells}
 use Rattle.m51_graph.proofs.Drawn.{drop_rest}
@@ -27,7 +25,8 @@ passed_none None v h = refl
 passed_none (Some refusal) v h = absurd (cc h)
 
 -- the first rule that fails is that of several
-pub refuses_more : (refusal rule rest : Option Refusal) → RefusesWith refusal (passed rule) → RefusesWith refusal (passed (option_or rule rest))
+pub refuses_more : (refusal rule rest : Option Refusal) → RefusesWith refusal (passed rule)
+    → RefusesWith refusal (passed (option_or rule rest))
 refuses_more None rule rest h = tt
 refuses_more (Some r) None rest h = absurd (cc h)
 refuses_more (Some r) (Some s) rest h = h
@@ -42,13 +41,17 @@ module _ (reach : ℕ → ℕ → Bool) (g : GraphParts) where
 
   pub first_step : (titles : List (List ℕ)) (i : ℕ) (d : List ℕ) → i < length titles
       → first_under_two reach g.roots g.own i (drop i titles)
-      ≡ option_or (unit_under_two reach g.roots g.own i (get_or titles i d)) (first_under_two reach g.roots g.own (i + 1) (drop (i + 1) titles))
+      ≡ option_or (unit_under_two reach g.roots g.own i (get_or titles i d))
+      (first_under_two reach g.roots g.own (i + 1) (drop (i + 1) titles))
   first_step titles i d below = ap (λ (ts : List (List ℕ)). rules i ts) (drop_rest titles i d below)
 
-  pub first_goes_on : (titles : List (List ℕ)) (i : ℕ) (d : List ℕ) → i < length titles → unit_under_two reach g.roots g.own i (get_or titles i d) ≡ None
-      → first_under_two reach g.roots g.own (i + 1) (drop (i + 1) titles) ≡ first_under_two reach g.roots g.own i (drop i titles)
+  pub first_goes_on : (titles : List (List ℕ)) (i : ℕ) (d : List ℕ) → i < length titles
+      → unit_under_two reach g.roots g.own i (get_or titles i d) ≡ None
+      → first_under_two reach g.roots g.own (i + 1) (drop (i + 1) titles)
+      ≡ first_under_two reach g.roots g.own i (drop i titles)
   first_goes_on titles i d below none =
-      sym (first_step titles i d below ∙ ap (λ (found : Option Refusal). option_or found (rules (i + 1) (drop (i + 1) titles))) none)
+      sym (first_step titles i d below
+      ∙ ap (λ (found : Option Refusal). option_or found (rules (i + 1) (drop (i + 1) titles))) none)
 
 -- a list without an item
 pub none_left : (xs : List (List ℕ)) → length xs ≡ 0 → xs ≡ []
@@ -59,7 +62,8 @@ none_left (x ∷ xs) h = absurd (omega (arith, h))
 no_first : (title : List ℕ) (more : List (List ℕ)) → title ∷ more ≡ [] → ⊥
 no_first title more h = absurd (cc h)
 
-cyclic_none : (reach : ℕ → ℕ → Bool) (unit : ℕ) (titles : List (List ℕ)) → cyclic_from reach unit titles ≡ [] → (k : ℕ) → k < length titles → reach (unit + k) (unit + k) ≡ false
+cyclic_none : (reach : ℕ → ℕ → Bool) (unit : ℕ) (titles : List (List ℕ)) → cyclic_from reach unit titles ≡ [] → (k : ℕ)
+    → k < length titles → reach (unit + k) (unit + k) ≡ false
 cyclic_none reach unit [] h k below = absurd (omega (arith, below))
 cyclic_none reach unit (title ∷ more) h k below =
     let rest = cyclic_from reach (unit + 1) more in
@@ -69,7 +73,8 @@ cyclic_none reach unit (title ∷ more) h k below =
           let none : rest ≡ [] = sym (ap (λ (b : Bool). cond b (title ∷ rest) rest) free) ∙ h in
           elim (same_or_not k 0) as (λ _. reach (unit + k) (unit + k) ≡ false) [
             | inl here ↦ subst (λ n. reach n n ≡ false) (omega (arith, here)) free
-            | inr later ↦ subst (λ n. reach n n ≡ false) (omega (arith, later)) (cyclic_none reach (unit + 1) more none (k - 1) (omega (arith, below, later)))
+            | inr later ↦ subst (λ n. reach n n ≡ false) (omega (arith, later))
+                (cyclic_none reach (unit + 1) more none (k - 1) (omega (arith, below, later)))
           ]
     ]
 
@@ -78,15 +83,19 @@ pub none_of_both : (one two : Option Refusal) → option_or one two ≡ None →
 none_of_both None two h = (refl, h)
 none_of_both (Some r) two h = absurd (cc h)
 
-none_under_two : (reach : ℕ → ℕ → Bool) (g : GraphParts) (unit : ℕ) (titles : List (List ℕ)) → first_under_two reach g.roots g.own unit titles ≡ None → (k : ℕ) → k < length titles
+none_under_two : (reach : ℕ → ℕ → Bool) (g : GraphParts) (unit : ℕ) (titles : List (List ℕ))
+    → first_under_two reach g.roots g.own unit titles ≡ None → (k : ℕ) → k < length titles
     → unit_under_two reach g.roots g.own (unit + k) (get_or titles k []) ≡ None
 none_under_two reach g unit [] h k below = absurd (omega (arith, below))
 none_under_two reach g unit (title ∷ more) h zero below =
     subst (λ n. unit_under_two reach g.roots g.own n title ≡ None) (omega arith)
-    (none_of_both (unit_under_two reach g.roots g.own unit title) (first_under_two reach g.roots g.own (unit + 1) more) h).0
+    (none_of_both (unit_under_two reach g.roots g.own unit title)
+    (first_under_two reach g.roots g.own (unit + 1) more) h).0
 none_under_two reach g unit (title ∷ more) h (suc k) below =
     subst (λ n. unit_under_two reach g.roots g.own n (get_or more k []) ≡ None) (omega arith)
-    (none_under_two reach g (unit + 1) more (none_of_both (unit_under_two reach g.roots g.own unit title) (first_under_two reach g.roots g.own (unit + 1) more) h).1 k (omega (arith, below)))
+    (none_under_two reach g (unit + 1) more
+    (none_of_both (unit_under_two reach g.roots g.own unit title)
+    (first_under_two reach g.roots g.own (unit + 1) more) h).1 k (omega (arith, below)))
 
 -- a unit without that refusal lies under one root at most
 at_most_one : (title xs : List ℕ) (x y : ℕ) → under_two title xs ≡ None → Contains xs x → Contains xs y → x ≡ y
@@ -103,36 +112,46 @@ at_most_one title (a ∷ b ∷ more) x y h in_x in_y = absurd (cc h)
 -- an own unit has an overlaid segment
 own_has_overlaid : (g : GraphParts) (unit segment : ℕ) → IsOwn g unit segment → has_overlaid g.own unit ≡ true
 own_has_overlaid g unit segment own =
-    list_any_at (λ found. option_map_or (nat_eq unit) found false) g.own segment None (slice_get_within g.own segment (Some unit) own)
-    (ap (λ (found : Option ℕ). option_map_or (nat_eq unit) found false) (get_or_from_slice_get g.own segment (Some unit) None own) ∙ (Decides-eqb unit unit).1 refl)
+    list_any_at (λ found. option_map_or (nat_eq unit) found false) g.own segment None
+    (slice_get_within g.own segment (Some unit) own)
+    (ap (λ (found : Option ℕ). option_map_or (nat_eq unit) found false)
+    (get_or_from_slice_get g.own segment (Some unit) None own) ∙ (Decides-eqb unit unit).1 refl)
 
 module _ (titles : List (List ℕ)) (g : GraphParts) (units : AreOfUnits g) (same : length titles ≡ length g.units) where
-  one_above : first_under_two (leads g.edges) g.roots g.own 0 titles ≡ None → (segment unit x y : ℕ) → IsOwn g unit segment → UnitLiesUnder g x unit → UnitLiesUnder g y unit → x ≡ y
+  one_above : first_under_two (leads g.edges) g.roots g.own 0 titles ≡ None → (segment unit x y : ℕ)
+      → IsOwn g unit segment → UnitLiesUnder g x unit → UnitLiesUnder g y unit → x ≡ y
   one_above single s u x y own above_x above_y =
       let reach : ℕ → ℕ → Bool = leads g.edges in
       let title : List ℕ = get_or titles u [] in
       let below : u < length titles = omega (arith, units.own u s own, same) in
       let passes : unit_under_two reach g.roots g.own u title ≡ None =
-      subst (λ n. unit_under_two reach g.roots g.own n title ≡ None) (omega arith) (none_under_two reach g 0 titles single u below) in
+      subst (λ n. unit_under_two reach g.roots g.own n title ≡ None) (omega arith)
+      (none_under_two reach g 0 titles single u below) in
       let under : under_two title (roots_above reach g.roots u) ≡ None =
-      sym (ap (λ (b : Bool). cond b (under_two title (roots_above reach g.roots u)) None) (own_has_overlaid g u s own)) ∙ passes in
+      sym (ap (λ (b : Bool). cond b (under_two title (roots_above reach g.roots u)) None) (own_has_overlaid g u s own))
+      ∙ passes in
       let among : (v : ℕ) → UnitLiesUnder g v u → Contains (roots_above reach g.roots u) v =
-      λ v h. filter_keeps (λ vector. lies_under reach g.roots vector u) vectors v (units.roots v h.root h.is_root).0 ((above_tells g v u).1 h) in
+      λ v h. filter_keeps (λ vector. lies_under reach g.roots vector u) vectors v (units.roots v h.root h.is_root).0
+      ((above_tells g v u).1 h) in
       at_most_one title (roots_above reach g.roots u) x y under (among x above_x) (among y above_y)
 
-  pub graph_judged : cyclic_from (leads g.edges) 0 titles ≡ [] → first_under_two (leads g.edges) g.roots g.own 0 titles ≡ None → IsGraph g
+  pub graph_judged : cyclic_from (leads g.edges) 0 titles ≡ [] → first_under_two (leads g.edges) g.roots g.own 0 titles
+      ≡ None → IsGraph g
   graph_judged free single = record {
     units = units;
     no_cycle = λ u r.
         let below : u < length titles = omega (arith, (units.edges.within u r.next r.walk.0).0, same) in
-        let none : leads g.edges u u ≡ false = subst (λ n. leads g.edges n n ≡ false) (omega arith) (cyclic_none (leads g.edges) 0 titles free u below) in
+        let none : leads g.edges u u ≡ false =
+        subst (λ n. leads g.edges n n ≡ false) (omega arith) (cyclic_none (leads g.edges) 0 titles free u below) in
         false≢true (sym none ∙ (leads_tells g.edges u u).1 r);
     one_root = λ s u x y owns above_x above_y.
-        one_above single s owns.own x y owns.own_is (owner_under g s u x owns above_x) (owner_under g s u y owns above_y);
+        one_above single s owns.own x y owns.own_is (owner_under g s u x owns above_x)
+        (owner_under g s u y owns above_y);
   }
 
 -- parts that no rule refuses
-pub judged_ok : (reach : ℕ → ℕ → Bool) (titles : List (List ℕ)) (g : GraphParts) → list_any (λ root. nat_eq root.0 0) g.roots ≡ true → cyclic_from reach 0 titles ≡ []
+pub judged_ok : (reach : ℕ → ℕ → Bool) (titles : List (List ℕ)) (g : GraphParts)
+    → list_any (λ root. nat_eq root.0 0) g.roots ≡ true → cyclic_from reach 0 titles ≡ []
     → first_under_two reach g.roots g.own 0 titles ≡ None → judged_by reach titles g ≡ Ok g
 judged_ok reach titles g reset free single =
     let last : Result GraphParts Refusal = unless (first_under_two reach g.roots g.own 0 titles) (Ok g) in

@@ -1,13 +1,10 @@
 -- The levels that a graph keeps.
-use Rattle.std.proofs.Common.{◌≡◌, ◌<◌, ◌≤◌, ℕ, length, get_or, sym, subst, arith}
-use Rattle.m51_graph.specs.declared.parts.GraphParts.{GraphParts}
-use Rattle.m51_graph.specs.declared.tables.Tables.{Tables}
-use Rattle.m51_graph.specs.Graph.{LeadWithin}
-use Rattle.m51_graph.specs.Kept.{IsKept}
-use Rattle.m51_graph.specs.Levels.{IsLevel}
+use Rattle.m51_graph.proofs.Common.{◌≡◌, ◌<◌, ◌≤◌, ℕ, length, get_or, sym, subst, arith, GraphParts, Tables, LeadWithin}
+use Rattle.m51_graph.proofs.Common.{IsLevel}
+use Rattle.m51_graph.specs.Kept.{IsKeptGraph}
 use Rattle.m51_graph.proofs.Climbing.{level_is, level_most}
 
-module _ (g : GraphParts) (t : Tables) (kept : IsKept g t) (unit : ℕ) (below : unit < length g.units) where
+module _ (g : GraphParts) (t : Tables) (kept : IsKeptGraph g t) (unit : ℕ) (below : unit < length g.units) where
   inside : unit < length t.levels.items
   inside = omega (arith, below, kept.tables.level_count)
 
@@ -17,5 +14,11 @@ module _ (g : GraphParts) (t : Tables) (kept : IsKept g t) (unit : ℕ) (below :
   -- it is a small number
   pub level_below : get_or t.levels.items unit 0 ≤ 1000
   level_below =
-      let within : LeadWithin (length t.levels.items) g.edges = subst (λ n. LeadWithin n g.edges) (sym kept.tables.level_count) kept.graph.units.edges in
-      omega (arith, level_most g.edges t.levels.items within kept.graph.no_cycle kept.tables.walked unit inside, kept.tables.level_count, kept.graph.units.few_units)
+      let within : LeadWithin (length t.levels.items) g.edges =
+      subst (λ n. LeadWithin n g.edges) (sym kept.tables.level_count) kept.graph.units.edges in
+      omega (
+        arith,
+        level_most g.edges t.levels.items within kept.graph.no_cycle kept.tables.walked unit inside,
+        kept.tables.level_count,
+        kept.graph.units.few_units,
+      )

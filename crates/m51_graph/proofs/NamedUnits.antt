@@ -1,26 +1,30 @@
 -- Tables from names and joined numbers to units.
-use Rattle.std.proofs.Common.{◌≡◌, inl, inr, ℕ, zero, suc, ◌+◌, ◌<◌, ◌≤◌, true, false, Bool, cond, nat_eq, List, [], ◌∷◌, ◌++◌, length, take, get_or, position, Option, Some, None, refl, sym, ap, subst, ◌∙◌, arith, eq-eqb}
+use Rattle.m51_graph.proofs.Common.{◌≡◌, inl, inr, ℕ, zero, suc, ◌+◌, ◌<◌, ◌≤◌, true, false, Bool, cond, nat_eq, List}
+use Rattle.m51_graph.proofs.Common.{[], ◌∷◌, ◌++◌, length, take, get_or, Option, Some, None, refl, sym, ap, subst, ◌∙◌}
+use Rattle.m51_graph.proofs.Common.{arith, option_or, bytes_eq, cases_Bool, ne_eqb, take_more, JoinedSegment, named}
+use Rattle.m51_graph.proofs.Common.{units_from, units_of}
+use Rattle.std.proofs.Common.{position}
+use Rattle.std.proofs.Common.{eq-eqb}
 use Rattle.std.specs.Prelude.{slice_index_or, unwrap_or}
 use Rattle.std.specs.List.{position_from}
-use Rattle.std.specs.Option.{option_or}
-use Rattle.std.specs.Str.{bytes_eq}
-use Rattle.std.proofs.lemmas.Bool.{cases_Bool, ne_eqb}
 use Rattle.std.proofs.lemmas.Iterator.Adapters.{position_from-zero}
-use Rattle.std.proofs.lemmas.List.{take_more, length-take-le}
+use Rattle.std.proofs.lemmas.List.{length-take-le}
 use Rattle.std.proofs.lemmas.Slice.Eq.{bytes_eq-Decides}
 use Rattle.m51_cells.specs.Kinds.{is_code}
-use Rattle.m51_resolve.specs.declared.segment.JoinedSegment.{JoinedSegment}
-use Rattle.m51_graph.specs.Numbered.{AreNumbers, IsUnitTable, number_in, units_by_segment}
-use Rattle.m51_graph.specs.Units.{named, units_from, units_of}
+use Rattle.m51_graph.specs.Numbered.{AreNumbers, IsUnitTable, number_by_name, units_by_segment}
 
 -- one more item
 from_push : {X : Type 0} (p : X → Bool) (n : ℕ) (xs : List X) (x : X)
     → position_from p n (xs ++ x ∷ []) ≡ option_or (position_from p n xs) (cond (p x) (Some (n + length xs)) None)
 from_push p n [] x = ap (λ k. cond (p x) (Some k) None) (omega arith)
-from_push p n (y ∷ xs) x = elim (p y) as (λ b. cond b (Some n) (position_from p (n + 1) (xs ++ x ∷ [])) ≡ option_or (cond b (Some n) (position_from p (n + 1) xs)) (cond (p x) (Some (n + suc (length xs))) None)) [
-  | true ↦ refl
-  | false ↦ from_push p (n + 1) xs x ∙ ap (λ k. option_or (position_from p (n + 1) xs) (cond (p x) (Some k) None)) (omega arith)
-]
+from_push p n (y ∷ xs) x =
+    elim (p y) as
+    (λ b. cond b (Some n) (position_from p (n + 1) (xs ++ x ∷ []))
+    ≡ option_or (cond b (Some n) (position_from p (n + 1) xs)) (cond (p x) (Some (n + suc (length xs))) None)) [
+      | true ↦ refl
+      | false ↦ from_push p (n + 1) xs x
+          ∙ ap (λ k. option_or (position_from p (n + 1) xs) (cond (p x) (Some k) None)) (omega arith)
+    ]
 
 position_more : {X : Type 0} (p : X → Bool) (xs : List X) (i : ℕ) (d : X) → i < length xs
     → position p (take (i + 1) xs) ≡ option_or (position p (take i xs)) (cond (p (get_or xs i d)) (Some i) None)
@@ -29,7 +33,8 @@ position_more p xs i d below =
     position_from-zero p (take (i + 1) xs)
     ∙ ap (position_from p 0) (take_more xs i d below)
     ∙ from_push p 0 (take i xs) x
-    ∙ ap (λ n. option_or (position_from p 0 (take i xs)) (cond (p x) (Some n) None)) (omega (arith, length-take-le i xs (omega (arith, below))))
+    ∙ ap (λ n. option_or (position_from p 0 (take i xs)) (cond (p x) (Some n) None))
+    (omega (arith, length-take-le i xs (omega (arith, below))))
     ∙ ap (λ o. option_or o (cond (p x) (Some i) None)) (sym (position_from-zero p (take i xs)))
 
 first_or : (o : Option ℕ) (i : ℕ) → Some (unwrap_or o i) ≡ option_or o (Some i)
@@ -42,14 +47,16 @@ or_none (Some n) = refl
 
 -- the table has the first units of the titles before the next one
 pub record AreBefore (titles : List (List ℕ)) (i : ℕ) (numbers : List (List ℕ × ℕ)) : Type 0 where
-  pub each : (name : List ℕ) → number_in numbers name ≡ named (take i titles) name
+  pub each : (name : List ℕ) → number_by_name numbers name ≡ named (take i titles) name
 
 pub before_first : (titles : List (List ℕ)) → AreBefore titles 0 []
 before_first titles = record { each = λ name. refl }
 
 -- one more title
-pub before_more : (titles : List (List ℕ)) (i : ℕ) (d title : List ℕ) (now new : List (List ℕ × ℕ)) → i < length titles → title ≡ get_or titles i d → AreBefore titles i now
-    → ((name : List ℕ) → number_in new name ≡ cond (bytes_eq title name) (Some (unwrap_or (number_in now title) i)) (number_in now name))
+pub before_more : (titles : List (List ℕ)) (i : ℕ) (d title : List ℕ) (now new : List (List ℕ × ℕ)) → i < length titles
+    → title ≡ get_or titles i d → AreBefore titles i now
+    → ((name : List ℕ) → number_by_name new name
+    ≡ cond (bytes_eq title name) (Some (unwrap_or (number_by_name now title) i)) (number_by_name now name))
     → AreBefore titles (i + 1) new
 before_more titles i d title now new below is before updates = record {
   each = λ name.
@@ -57,51 +64,75 @@ before_more titles i d title now new below is before updates = record {
       let old = named (take i titles) name in
       let whole : named (take (i + 1) titles) name ≡ option_or old (cond (bytes_eq title name) (Some i) None) =
       position_more test titles i d below ∙ ap (λ t. option_or old (cond (bytes_eq t name) (Some i) None)) (sym is) in
-      updates name ∙ elim (cases_Bool (bytes_eq title name)) as (λ _. cond (bytes_eq title name) (Some (unwrap_or (number_in now title) i)) (number_in now name) ≡ named (take (i + 1) titles) name) [
+      updates name
+      ∙ elim (cases_Bool (bytes_eq title name)) as
+      (λ _. cond (bytes_eq title name) (Some (unwrap_or (number_by_name now title) i)) (number_by_name now name)
+      ≡ named (take (i + 1) titles) name) [
         | inl same ↦
             let e : title ≡ name = (bytes_eq-Decides title name).0 same in
-            ap (λ b. cond b (Some (unwrap_or (number_in now title) i)) (number_in now name)) same
-            ∙ ap (λ t. Some (unwrap_or (number_in now t) i)) e ∙ ap (λ o. Some (unwrap_or o i)) (before.each name)
+            ap (λ b. cond b (Some (unwrap_or (number_by_name now title) i)) (number_by_name now name)) same
+            ∙ ap (λ t. Some (unwrap_or (number_by_name now t) i)) e ∙ ap (λ o. Some (unwrap_or o i)) (before.each name)
             ∙ first_or old i ∙ sym (whole ∙ ap (λ b. option_or old (cond b (Some i) None)) same)
         | inr other ↦
-            ap (λ b. cond b (Some (unwrap_or (number_in now title) i)) (number_in now name)) other
+            ap (λ b. cond b (Some (unwrap_or (number_by_name now title) i)) (number_by_name now name)) other
             ∙ before.each name ∙ or_none old ∙ sym (whole ∙ ap (λ b. option_or old (cond b (Some i) None)) other)
       ];
 }
 
 -- all titles
-pub before_all : (titles : List (List ℕ)) (i : ℕ) (numbers : List (List ℕ × ℕ)) → length titles ≤ 1000 → take i titles ≡ titles → AreBefore titles i numbers → AreNumbers titles numbers
-before_all titles i numbers few all before = record { few = few; each = λ name. before.each name ∙ ap (λ ts. named ts name) all }
+pub before_all : (titles : List (List ℕ)) (i : ℕ) (numbers : List (List ℕ × ℕ)) → length titles ≤ 1000 → take i titles
+    ≡ titles → AreBefore titles i numbers → AreNumbers titles numbers
+before_all titles i numbers few all before =
+    record { few = few; each = λ name. before.each name ∙ ap (λ ts. named ts name) all }
 
 -- no unit has a joined number below the first
-none_before : (m number unit : ℕ) (segments : List JoinedSegment) → m < number → position_from (nat_eq m) unit (units_from number segments) ≡ None
+none_before : (m number unit : ℕ) (segments : List JoinedSegment) → m < number
+    → position_from (nat_eq m) unit (units_from number segments) ≡ None
 none_before m number unit [] below = refl
-none_before m number unit (j ∷ more) below = elim (is_code j.kind) as (λ b. position_from (nat_eq m) unit (cond b (number ∷ units_from (number + 1) more) (units_from (number + 1) more)) ≡ None) [
-  | true ↦ ap (λ b. cond b (Some unit) (position_from (nat_eq m) (unit + 1) (units_from (number + 1) more))) (ne_eqb m number (λ e. absurd (omega (arith, e, below))))
-      ∙ none_before m (number + 1) (unit + 1) more (omega (arith, below))
-  | false ↦ none_before m (number + 1) unit more (omega (arith, below))
-]
+none_before m number unit (j ∷ more) below =
+    elim (is_code j.kind) as
+    (λ b. position_from (nat_eq m) unit (cond b (number ∷ units_from (number + 1) more) (units_from (number + 1) more))
+    ≡ None) [
+      | true ↦ ap (λ b. cond b (Some unit) (position_from (nat_eq m) (unit + 1) (units_from (number + 1) more)))
+          (ne_eqb m number (λ e. absurd (omega (arith, e, below))))
+          ∙ none_before m (number + 1) (unit + 1) more (omega (arith, below))
+      | false ↦ none_before m (number + 1) unit more (omega (arith, below))
+    ]
 
 -- the table has the unit of each joined number
 entry_is : (number unit : ℕ) (segments : List JoinedSegment) (n : ℕ)
-    → slice_index_or (units_by_segment unit segments) n None ≡ position_from (nat_eq (number + n)) unit (units_from number segments)
+    → slice_index_or (units_by_segment unit segments) n None
+    ≡ position_from (nat_eq (number + n)) unit (units_from number segments)
 entry_is number unit [] n = refl
-entry_is number unit (j ∷ more) zero = elim (is_code j.kind) as (λ b. slice_index_or (cond b (Some unit ∷ units_by_segment (unit + 1) more) (None ∷ units_by_segment unit more)) 0 None
-    ≡ position_from (nat_eq (number + 0)) unit (cond b (number ∷ units_from (number + 1) more) (units_from (number + 1) more))) [
-      | true ↦ sym (ap (λ b. cond b (Some unit) (position_from (nat_eq (number + 0)) (unit + 1) (units_from (number + 1) more))) (eq-eqb (number + 0) number (omega arith)))
+entry_is number unit (j ∷ more) zero =
+    elim (is_code j.kind) as
+    (λ b. slice_index_or
+    (cond b (Some unit ∷ units_by_segment (unit + 1) more) (None ∷ units_by_segment unit more)) 0 None
+    ≡ position_from (nat_eq (number + 0)) unit
+    (cond b (number ∷ units_from (number + 1) more) (units_from (number + 1) more))) [
+      | true ↦ sym
+          (ap (λ b. cond b (Some unit) (position_from (nat_eq (number + 0)) (unit + 1) (units_from (number + 1) more)))
+          (eq-eqb (number + 0) number (omega arith)))
       | false ↦ sym (none_before (number + 0) (number + 1) unit more (omega arith))
     ]
 entry_is number unit (j ∷ more) (suc n) =
     let next : number + suc n ≡ number + 1 + n = omega arith in
-    elim (is_code j.kind) as (λ b. slice_index_or (cond b (Some unit ∷ units_by_segment (unit + 1) more) (None ∷ units_by_segment unit more)) (suc n) None
-    ≡ position_from (nat_eq (number + suc n)) unit (cond b (number ∷ units_from (number + 1) more) (units_from (number + 1) more))) [
+    elim (is_code j.kind) as
+    (λ b. slice_index_or (cond b (Some unit ∷ units_by_segment (unit + 1) more) (None ∷ units_by_segment unit more))
+    (suc n) None
+    ≡ position_from (nat_eq (number + suc n)) unit
+    (cond b (number ∷ units_from (number + 1) more) (units_from (number + 1) more))) [
       | true ↦ entry_is (number + 1) (unit + 1) more n
           ∙ ap (λ m. position_from (nat_eq m) (unit + 1) (units_from (number + 1) more)) (sym next)
-          ∙ sym (ap (λ b. cond b (Some unit) (position_from (nat_eq (number + suc n)) (unit + 1) (units_from (number + 1) more))) (ne_eqb (number + suc n) number (λ e. absurd (omega (arith, e)))))
-      | false ↦ entry_is (number + 1) unit more n ∙ ap (λ m. position_from (nat_eq m) unit (units_from (number + 1) more)) (sym next)
+          ∙ sym (ap
+          (λ b. cond b (Some unit) (position_from (nat_eq (number + suc n)) (unit + 1) (units_from (number + 1) more)))
+          (ne_eqb (number + suc n) number (λ e. absurd (omega (arith, e)))))
+      | false ↦ entry_is (number + 1) unit more n
+          ∙ ap (λ m. position_from (nat_eq m) unit (units_from (number + 1) more)) (sym next)
     ]
 
-pub unit_table : (segments : List JoinedSegment) → length (units_of segments) ≤ 1000 → IsUnitTable (units_of segments) (units_by_segment 0 segments)
+pub unit_table : (segments : List JoinedSegment) → length (units_of segments) ≤ 1000
+    → IsUnitTable (units_of segments) (units_by_segment 0 segments)
 unit_table segments few = record {
   few = few;
   each = λ number.

@@ -1,17 +1,15 @@
 -- Pairs joined by a pair of one set and then one of another, and which owners they say are related.
-use Rattle.std.proofs.Common.{◌≡◌, ℕ, zero, suc, ◌+◌, ◌<◌, ◌≤◌, true, false, Bool, ◌||◌, ◌&&◌, [], ◌∷◌, length, refl, sym, ap, ◌∙◌, arith}
-use Rattle.std.specs.List.{list_any, range_with_len}
+use Rattle.m51_graph.proofs.Common.{◌≡◌, ℕ, zero, suc, ◌+◌, ◌<◌, ◌≤◌, true, false, Bool, ◌||◌, ◌&&◌, [], ◌∷◌, length}
+use Rattle.m51_graph.proofs.Common.{refl, sym, ap, ◌∙◌, arith, list_any, range_with_len, GraphParts, Tables, edge_test}
+use Rattle.m51_graph.proofs.Common.{flipped, pairs}
 use Rattle.std.proofs.lemmas.List.Folds.{list_any-append}
 use Rattle.std.proofs.Math.Bool.{and_comm, or-false}
 use Rattle.m51_cells.proofs.Small.{range_suc}
 use Rattle.m51_relations.specs.declared.owner_pairs.Owned.{Owned}
-use Rattle.m51_graph.specs.declared.parts.GraphParts.{GraphParts}
-use Rattle.m51_graph.specs.declared.tables.Tables.{Tables}
-use Rattle.m51_graph.specs.Drawing.{edge_test}
 use Rattle.m51_graph.specs.Kept.{AreTables}
 use Rattle.m51_relations.specs.OwnerPairs.{owner_pair, related_by}
 use Rattle.m51_graph.specs.Relating.{are_related, owner_related, owners_related}
-use Rattle.m51_relations.specs.Rows.{flipped, pairs, passed_below}
+use Rattle.m51_relations.specs.Rows.{passed_below}
 
 or_three : (a b c : Bool) → ((a || b) || c) ≡ (a || (b || (c || false)))
 or_three true b c = refl
@@ -19,18 +17,21 @@ or_three false true c = refl
 or_three false false true = refl
 or_three false false false = refl
 
-any_more : (p : ℕ → Bool) (n : ℕ) → list_any p (range_with_len 0 (suc n)) ≡ (list_any p (range_with_len 0 n) || (p n || false))
+any_more : (p : ℕ → Bool) (n : ℕ) → list_any p (range_with_len 0 (suc n))
+    ≡ (list_any p (range_with_len 0 n) || (p n || false))
 any_more p n =
     ap (list_any p) (range_suc 0 n) ∙ list_any-append p (range_with_len 0 n) ((0 + n) ∷ [])
     ∙ ap (λ k. list_any p (range_with_len 0 n) || (p k || false)) (omega arith)
 
 -- what is joined below the bound, where each unit on the way passes the test
-pub passed_is : (tests others has : ℕ → ℕ → Bool) (first : Bool) (p : ℕ → Bool) (u v count : ℕ) → has u v ≡ first → ((k : ℕ) → k < count → (tests u k && others k v) ≡ p k)
+pub passed_is : (tests others has : ℕ → ℕ → Bool) (first : Bool) (p : ℕ → Bool) (u v count : ℕ) → has u v ≡ first
+    → ((k : ℕ) → k < count → (tests u k && others k v) ≡ p k)
     → (n : ℕ) → n ≤ count → passed_below tests others has n u v ≡ (first || list_any p (range_with_len 0 n))
 unfolding passed_below
 passed_is tests others has first p u v count is each zero below = is ∙ sym (or-false first)
 passed_is tests others has first p u v count is each (suc n) below =
-    ap (λ b. b || (tests u n && others n v)) (passed_is tests others has first p u v count is each n (omega (arith, below)))
+    ap (λ b. b || (tests u n && others n v))
+    (passed_is tests others has first p u v count is each n (omega (arith, below)))
     ∙ ap (λ b. (first || list_any p (range_with_len 0 n)) || b) (each n (omega (arith, below)))
     ∙ or_three first (list_any p (range_with_len 0 n)) (p n)
     ∙ ap (λ b. first || b) (sym (any_more p n))
@@ -57,14 +58,18 @@ module _ (g : GraphParts) (t : Tables) (are : AreTables g t) where
   second_is u v below below' =
       let p : ℕ → Bool = λ k. pairs t.edges k v && are_related t k u in
       are.owners.second u v below
-      ∙ passed_is (pairs t.owners.plain) (edge_test g.edges) (pairs t.owners.plain) (are_related t v u) p u v count (plain_is u v below below')
-      (λ k inside. ap (λ b. b && edge_test g.edges k v) (plain_is u k below inside) ∙ ap (λ b. are_related t k u && b) (edge_is k v) ∙ and_comm (are_related t k u) (pairs t.edges k v))
+      ∙ passed_is (pairs t.owners.plain) (edge_test g.edges) (pairs t.owners.plain) (are_related t v u) p u v count
+      (plain_is u v below below')
+      (λ k inside. ap (λ b. b && edge_test g.edges k v) (plain_is u k below inside)
+      ∙ ap (λ b. are_related t k u && b) (edge_is k v) ∙ and_comm (are_related t k u) (pairs t.edges k v))
       count (omega arith)
       ∙ ap (λ n. are_related t v u || list_any p (range_with_len 0 n)) (sym are.edge_count)
 
   -- an owner of the first segment, which is an argument segment, and then what is known of the second
-  any_owner : (has : ℕ → ℕ → Bool) (u v : ℕ) (argument : Bool) → u < count → ((k : ℕ) → k < count → has k v ≡ owner_related t (Owner v argument) k)
-      → passed_below (flipped (edge_test g.edges)) has has count u v ≡ owners_related t (Owner u true) (Owner v argument)
+  any_owner : (has : ℕ → ℕ → Bool) (u v : ℕ) (argument : Bool) → u < count
+      → ((k : ℕ) → k < count → has k v ≡ owner_related t (Owner v argument) k)
+      → passed_below (flipped (edge_test g.edges)) has has count u v
+      ≡ owners_related t (Owner u true) (Owner v argument)
   any_owner has u v argument below is =
       let p : ℕ → Bool = λ k. pairs t.edges k u && owner_related t (Owner v argument) k in
       passed_is (flipped (edge_test g.edges)) has has (owner_related t (Owner v argument) u) p u v count (is u below)
@@ -72,14 +77,19 @@ module _ (g : GraphParts) (t : Tables) (are : AreTables g t) where
       count (omega arith)
       ∙ ap (λ n. owner_related t (Owner v argument) u || list_any p (range_with_len 0 n)) (sym are.edge_count)
 
-  pair_is : (u v : ℕ) (a b : Bool) → u < count → v < count → owner_pair t.owners a b u v ≡ owners_related t (Owner u a) (Owner v b)
-  pair_is u v false false below below' = plain_is u v below below' ∙ none_added v u ∙ sym (or-false (owner_related t (Owner v false) u))
+  pair_is : (u v : ℕ) (a b : Bool) → u < count → v < count → owner_pair t.owners a b u v
+      ≡ owners_related t (Owner u a) (Owner v b)
+  pair_is u v false false below below' = plain_is u v below below' ∙ none_added v u
+      ∙ sym (or-false (owner_related t (Owner v false) u))
   pair_is u v false true below below' = second_is u v below below' ∙ sym (or-false (owner_related t (Owner v true) u))
   pair_is u v true false below below' =
-      are.owners.first u v below ∙ any_owner (pairs t.owners.plain) u v false below (λ k inside. plain_is k v inside below' ∙ none_added v k)
+      are.owners.first u v below
+      ∙ any_owner (pairs t.owners.plain) u v false below (λ k inside. plain_is k v inside below' ∙ none_added v k)
   pair_is u v true true below below' =
-      are.owners.both u v below ∙ any_owner (pairs t.owners.second) u v true below (λ k inside. second_is k v inside below')
+      are.owners.both u v below
+      ∙ any_owner (pairs t.owners.second) u v true below (λ k inside. second_is k v inside below')
 
   -- the set of pairs gives whether owners of the two are related
-  pub owners_are : (one two : Owned) → one.own < count → two.own < count → owner_pair t.owners one.argument two.argument one.own two.own ≡ owners_related t one two
+  pub owners_are : (one two : Owned) → one.own < count → two.own < count
+      → owner_pair t.owners one.argument two.argument one.own two.own ≡ owners_related t one two
   owners_are one two below below' = pair_is one.own two.own one.argument two.argument below below'

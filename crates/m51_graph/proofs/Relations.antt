@@ -1,25 +1,24 @@
 -- Roots above units, related units and segments in conflict, decided.
-use Rattle.std.proofs.Common.{◌≡◌, ◌≢◌, ◌⊎◌, inl, inr, ℕ, ◌+◌, ◌*◌, ◌/◌, ◌%◌, ◌<◌, ◌≤◌, true, false, Bool, not, cond, ◌||◌, ◌&&◌, nat_eq, List, [], ◌∷◌, length, get_or, map, Some, refl, sym, ap, subst, ◌∙◌, arith, eq-eqb}
-use Rattle.std.specs.Prelude.{slice_get}
-use Rattle.std.specs.Bool.{Decides}
-use Rattle.std.specs.List.{Contains, list_any, range_with_len}
-use Rattle.std.proofs.lemmas.Bool.{and_from, and_parts, cases_Bool, cases_eq, false≢true, ne_eqb, or_cases, or_left, or_right}
-use Rattle.std.proofs.lemmas.Bool.Decides.{Decides-eqb}
+use Rattle.m51_graph.proofs.Common.{◌≡◌, ◌⊎◌, inl, inr, ℕ, ◌+◌, ◌*◌, ◌<◌, ◌≤◌, true, false, Bool, not, cond, ◌||◌, ◌&&◌}
+use Rattle.m51_graph.proofs.Common.{nat_eq, List, [], ◌∷◌, length, get_or, map, Some, refl, sym, ap, subst, ◌∙◌, arith}
+use Rattle.m51_graph.proofs.Common.{slice_get, Decides, Contains, list_any, range_with_len, and_from, and_parts}
+use Rattle.m51_graph.proofs.Common.{cases_Bool, cases_eq, false≢true, ne_eqb, Decides-eqb, Any-from_list_any}
+use Rattle.m51_graph.proofs.Common.{list_any_at, vectors, Edges, HasEdge, IsWalk, Reaches, last_of, GraphParts, Tables}
+use Rattle.m51_graph.proofs.Common.{pairs, edge_test, AreOfUnits, lies_under}
+use Rattle.std.proofs.Common.{◌≢◌, ◌/◌, ◌%◌}
+use Rattle.std.proofs.Common.{eq-eqb}
+use Rattle.std.proofs.lemmas.Bool.{or_cases, or_left}
+use Rattle.std.proofs.lemmas.Bool.{or_right}
 use Rattle.std.proofs.lemmas.List.FromFn.{get_or-map-range_with_len, get_or-range_with_len, length-range_with_len}
-use Rattle.std.proofs.lemmas.List.Folds.{Any-from_list_any, list_any_at}
-use Rattle.m51_module.specs.Conflict.{AreRelated, Same, Before, After, FirstUnderNone, SecondUnderNone, UnderTwo, InConflict, FirstPlain, SecondPlain, Owners}
-use Rattle.m51_module.specs.Roots.{vectors, LiesUnder}
-use Rattle.m51_module.specs.Walks.{Edges, HasEdge, IsWalk, Reaches, last_of}
+use Rattle.m51_module.specs.Conflict.{AreRelated, Same, Before, After, FirstUnderNone, SecondUnderNone, UnderTwo}
+use Rattle.m51_module.specs.Conflict.{InConflict, FirstPlain, SecondPlain, Owners}
+use Rattle.m51_module.specs.Roots.{LiesUnder}
 use Rattle.m51_module.proofs.Conflicts.{related_back}
 use Rattle.m51_module.proofs.Reach.{under_on}
-use Rattle.m51_graph.specs.declared.parts.GraphParts.{GraphParts}
 use Rattle.m51_relations.specs.declared.owner_pairs.Owned.{Owned}
-use Rattle.m51_graph.specs.declared.tables.Tables.{Tables}
-use Rattle.m51_relations.specs.Rows.{pairs}
-use Rattle.m51_graph.specs.Drawing.{edge_test}
-use Rattle.m51_graph.specs.Graph.{AreBits, AreOfUnits, IsArgument, IsGraph, IsOwn, IsRootAt, Owns, SegmentsConflict, UnitLiesUnder, joined_graph}
-use Rattle.m51_graph.specs.Graphs.{lies_under}
-use Rattle.m51_graph.specs.Kept.{AreTables, IsKept}
+use Rattle.m51_graph.specs.Graph.{AreBits, IsArgument, IsGraph, IsOwn, IsRootAt, Owns, SegmentsConflict}
+use Rattle.m51_graph.specs.Graph.{UnitLiesUnder, joined_graph}
+use Rattle.m51_graph.specs.Kept.{AreTables, IsKeptGraph}
 use Rattle.m51_graph.specs.Leading.{leads}
 use Rattle.m51_relations.specs.OwnerPairs.{are_apart}
 use Rattle.m51_graph.specs.Relating.{IsOwned, are_related, bits_of, owner_related, owners_related, root_byte}
@@ -34,18 +33,28 @@ module _ (g : GraphParts) where
   abbrev test : ℕ → ℕ → ℕ × ℕ → Bool
   test vector unit root = nat_eq root.0 vector && (nat_eq root.1 unit || leads g.edges root.1 unit)
 
-  test_tells : (vector unit : ℕ) (root : ℕ × ℕ) → Decides (test vector unit root) ((root.0 ≡ vector) × ((root.1 ≡ unit) ⊎ Reaches g.edges root.1 unit))
-  test_tells vector unit root = and_decides (nat_eq root.0 vector) (nat_eq root.1 unit || leads g.edges root.1 unit) (Decides-eqb root.0 vector)
-      (or_decides (nat_eq root.1 unit) (leads g.edges root.1 unit) (Decides-eqb root.1 unit) (leads_tells g.edges root.1 unit))
+  test_tells : (vector unit : ℕ) (root : ℕ × ℕ)
+      → Decides (test vector unit root) ((root.0 ≡ vector) × ((root.1 ≡ unit) ⊎ Reaches g.edges root.1 unit))
+  test_tells vector unit root =
+      and_decides (nat_eq root.0 vector) (nat_eq root.1 unit || leads g.edges root.1 unit) (Decides-eqb root.0 vector)
+      (or_decides (nat_eq root.1 unit) (leads g.edges root.1 unit) (Decides-eqb root.1 unit)
+      (leads_tells g.edges root.1 unit))
 
   -- the decision is true exactly if the unit lies under a root at the vector
-  pub above_tells : (vector unit : ℕ) → Decides (lies_under (leads g.edges) g.roots vector unit) (UnitLiesUnder g vector unit)
+  pub above_tells : (vector unit : ℕ)
+      → Decides (lies_under (leads g.edges) g.roots vector unit) (UnitLiesUnder g vector unit)
   above_tells vector unit = (
     λ h.
         let any = Any-from_list_any (test vector unit) g.roots h in
         let root : ℕ × ℕ = any.1 in
         let told = (test_tells vector unit root).0 any.4 in
-        record { root = root.1; is_root = subst (λ p. Contains g.roots p) (ap (λ (v : ℕ). (v, root.1)) told.0) (any.0, any.2, any.3); leads = told.1 },
+        record {
+          root = root.1;
+          is_root =
+              subst (λ p. Contains g.roots p) (ap (λ (v : ℕ). (v, root.1)) told.0) (any.0, any.2, any.3);
+          leads =
+              told.1;
+        },
     λ h.
         let at = h.is_root in
         list_any_at (test vector unit) g.roots at.0 (vector, h.root) at.1
@@ -53,21 +62,30 @@ module _ (g : GraphParts) where
   )
 
   -- bits of tests
-  pub bits_tell : (unit : ℕ) (xs : List ℕ) → AreBits g unit xs (bits_of (λ vector. lies_under (leads g.edges) g.roots vector unit) xs)
+  pub bits_tell : (unit : ℕ) (xs : List ℕ)
+      → AreBits g unit xs (bits_of (λ vector. lies_under (leads g.edges) g.roots vector unit) xs)
   bits_tell unit [] = refl
   bits_tell unit (x ∷ xs) =
       let rest : ℕ = bits_of (above unit) xs in
       elim (cases_Bool (above unit x)) as (λ _. AreBits g unit (x ∷ xs) (bits_of (above unit) (x ∷ xs))) [
         | inl lies ↦
             let one : ℕ = 1 in
-            let whole : bits_of (above unit) (x ∷ xs) ≡ one + 2 * rest = ap (λ (b : Bool). cond b one 0 + 2 * rest) lies in
-            subst (λ n. AreBits g unit (x ∷ xs) n) (sym whole)
-            ((λ h. (above_tells x unit).0 lies, λ h. omega arith), subst (λ n. AreBits g unit xs n) (omega arith) (bits_tell unit xs))
+            let whole : bits_of (above unit) (x ∷ xs) ≡ one + 2 * rest =
+            ap (λ (b : Bool). cond b one 0 + 2 * rest) lies in
+            subst (λ n. AreBits g unit (x ∷ xs) n) (sym whole) (
+              (λ h. (above_tells x unit).0 lies, λ h. omega arith),
+              subst (λ n. AreBits g unit xs n) (omega arith)
+                  (bits_tell unit xs),
+            )
         | inr free ↦
             let none : ℕ = 0 in
-            let whole : bits_of (above unit) (x ∷ xs) ≡ none + 2 * rest = ap (λ (b : Bool). cond b 1 none + 2 * rest) free in
-            subst (λ n. AreBits g unit (x ∷ xs) n) (sym whole)
-            ((λ h. absurd (omega (arith, h)), λ h. absurd (false≢true (sym free ∙ (above_tells x unit).1 h))), subst (λ n. AreBits g unit xs n) (omega arith) (bits_tell unit xs))
+            let whole : bits_of (above unit) (x ∷ xs) ≡ none + 2 * rest =
+            ap (λ (b : Bool). cond b 1 none + 2 * rest) free in
+            subst (λ n. AreBits g unit (x ∷ xs) n) (sym whole) (
+              (λ h. absurd (omega (arith, h)), λ h. absurd (false≢true (sym free ∙ (above_tells x unit).1 h))),
+              subst
+                  (λ n. AreBits g unit xs n) (omega arith) (bits_tell unit xs),
+            )
       ]
 
 -- units that each lie under at most one root
@@ -89,7 +107,9 @@ module _ (g : GraphParts) (units : AreOfUnits g) where
 
   none_under : (unit : ℕ) → byte unit ≡ 0 → UnderNone unit
   none_under unit h vector lies =
-      false≢true (sym (bits_zero (above g unit) vectors h vector (at_vector vector unit lies)) ∙ (above_tells g vector unit).1 lies)
+      false≢true
+      (sym (bits_zero (above g unit) vectors h vector (at_vector vector unit lies))
+      ∙ (above_tells g vector unit).1 lies)
 
   zero_byte : (unit : ℕ) → UnderNone unit → byte unit ≡ 0
   zero_byte unit none = elim (bits_some (above g unit) vectors) as (λ _. byte unit ≡ 0) [
@@ -98,18 +118,20 @@ module _ (g : GraphParts) (units : AreOfUnits g) where
   ]
 
   -- under the same root they have the same bytes
-  same_tests : (one two x : ℕ) → HasOne one → HasOne two → UnitLiesUnder g x one → UnitLiesUnder g x two → (v : ℕ) → above g one v ≡ above g two v
-  same_tests one two x only only' lies lies' v = elim (cases_Bool (above g one v)) as (λ _. above g one v ≡ above g two v) [
-    | inl h ↦
-        let here : v ≡ x = only v x ((above_tells g v one).0 h) lies in
-        h ∙ sym ((above_tells g v two).1 (subst (λ w. UnitLiesUnder g w two) (sym here) lies'))
-    | inr h ↦ elim (cases_Bool (above g two v)) as (λ _. above g one v ≡ above g two v) [
-      | inl k ↦
-          let here : v ≡ x = only' v x ((above_tells g v two).0 k) lies' in
-          absurd (false≢true (sym h ∙ (above_tells g v one).1 (subst (λ w. UnitLiesUnder g w one) (sym here) lies)))
-      | inr k ↦ h ∙ sym k
-    ]
-  ]
+  same_tests : (one two x : ℕ) → HasOne one → HasOne two → UnitLiesUnder g x one → UnitLiesUnder g x two → (v : ℕ)
+      → above g one v ≡ above g two v
+  same_tests one two x only only' lies lies' v =
+      elim (cases_Bool (above g one v)) as (λ _. above g one v ≡ above g two v) [
+        | inl h ↦
+            let here : v ≡ x = only v x ((above_tells g v one).0 h) lies in
+            h ∙ sym ((above_tells g v two).1 (subst (λ w. UnitLiesUnder g w two) (sym here) lies'))
+        | inr h ↦ elim (cases_Bool (above g two v)) as (λ _. above g one v ≡ above g two v) [
+          | inl k ↦
+              let here : v ≡ x = only' v x ((above_tells g v two).0 k) lies' in
+              absurd (false≢true (sym h ∙ (above_tells g v one).1 (subst (λ w. UnitLiesUnder g w one) (sym here) lies)))
+          | inr k ↦ h ∙ sym k
+        ]
+      ]
 
   not_tells : (m n : ℕ) → Decides (not (nat_eq m n)) (m ≢ n)
   not_tells m n = (
@@ -122,7 +144,8 @@ module _ (g : GraphParts) (units : AreOfUnits g) where
 
   splits_tell : (one two : ℕ) → Decides (are_apart (byte one) (byte two)) (Splits one two)
   splits_tell one two =
-      or_decides (nat_eq (byte two) 0) (not (nat_eq (byte one) (byte two))) (Decides-eqb (byte two) 0) (not_tells (byte one) (byte two))
+      or_decides (nat_eq (byte two) 0) (not (nat_eq (byte one) (byte two))) (Decides-eqb (byte two) 0)
+      (not_tells (byte one) (byte two))
 
   from_other : (one two : ℕ) → HasOne one → HasOne two → byte one ≢ byte two → Related one two
   from_other one two only only' ne = elim (bits_some (above g one) vectors) as (λ _. Related one two) [
@@ -135,7 +158,8 @@ module _ (g : GraphParts) (units : AreOfUnits g) where
           elim (cases_eq some.x some'.x) as (λ _. Related one two) [
             | inl same ↦
                 absurd (ne (bits_agree (above g one) (above g two) vectors
-                (λ v is. same_tests one two some.x only only' lies (subst (λ w. UnitLiesUnder g w two) (sym same) lies') v)))
+                (λ v is. same_tests one two some.x only only' lies
+                (subst (λ w. UnitLiesUnder g w two) (sym same) lies') v)))
             | inr other ↦ UnderTwo some.x some'.x other lies lies'
           ]
     ]
@@ -152,9 +176,12 @@ module _ (g : GraphParts) (units : AreOfUnits g) where
     | inr other ↦ inr (λ e. other (sym e ∙ zero))
   ]
 
-  under_two : (one two x y : ℕ) → HasOne two → x ≢ y → UnitLiesUnder g x one → UnitLiesUnder g y two → byte one ≢ byte two
+  under_two : (one two x y : ℕ) → HasOne two → x ≢ y → UnitLiesUnder g x one → UnitLiesUnder g y two
+      → byte one ≢ byte two
   under_two one two x y only ne lies lies' same =
-      let here : above g two x ≡ true = sym (bits_same (above g one) (above g two) vectors same x (at_vector x one lies)) ∙ (above_tells g x one).1 lies in
+      let here : above g two x ≡ true =
+      sym (bits_same (above g one) (above g two) vectors same x (at_vector x one lies))
+      ∙ (above_tells g x one).1 lies in
       ne (only x y ((above_tells g x two).0 here) lies')
 
   abbrev Sides : ℕ → ℕ → Type 0
@@ -164,9 +191,11 @@ module _ (g : GraphParts) (units : AreOfUnits g) where
   related one two = nat_eq one two || leads g.edges one two || leads g.edges two one || are_apart (byte one) (byte two)
 
   both_tell : (one two : ℕ) → Decides (related one two) (Sides one two ⊎ Splits one two)
-  both_tell one two = or_decides (nat_eq one two || leads g.edges one two || leads g.edges two one) (are_apart (byte one) (byte two))
+  both_tell one two =
+      or_decides (nat_eq one two || leads g.edges one two || leads g.edges two one) (are_apart (byte one) (byte two))
       (or_decides (nat_eq one two || leads g.edges one two) (leads g.edges two one)
-      (or_decides (nat_eq one two) (leads g.edges one two) (Decides-eqb one two) (leads_tells g.edges one two)) (leads_tells g.edges two one))
+      (or_decides (nat_eq one two) (leads g.edges one two) (Decides-eqb one two) (leads_tells g.edges one two))
+      (leads_tells g.edges two one))
       (splits_tell one two)
 
   -- the decision is right for units that each lie under at most one root
@@ -189,12 +218,14 @@ module _ (g : GraphParts) (units : AreOfUnits g) where
     ]),
   )
 
-walk_within : (g : GraphParts) → AreOfUnits g → (u v : ℕ) (more : List ℕ) → IsWalk g.edges u (v ∷ more) → last_of v more < length g.units
+walk_within : (g : GraphParts) → AreOfUnits g → (u v : ℕ) (more : List ℕ) → IsWalk g.edges u (v ∷ more)
+    → last_of v more < length g.units
 walk_within g units u v [] walk = (units.edges.within u v walk.0).1
 walk_within g units u v (w ∷ more) walk = walk_within g units v w more walk.1
 
 -- an owner lies under the roots above it, which are above the own unit too
-pub owner_under : (g : GraphParts) (segment unit vector : ℕ) → (owns : Owns g unit segment) → UnitLiesUnder g vector unit → UnitLiesUnder g vector owns.own
+pub owner_under : (g : GraphParts) (segment unit vector : ℕ) → (owns : Owns g unit segment)
+    → UnitLiesUnder g vector unit → UnitLiesUnder g vector owns.own
 owner_under g segment unit vector owns h = elim owns.owner as (λ _. UnitLiesUnder g vector owns.own) [
   | inl same ↦ subst (λ u. UnitLiesUnder g vector u) same h
   | inr calls ↦ under_on (joined_graph g) vector unit owns.own h calls.1
@@ -224,21 +255,26 @@ below_tells count p = (
 )
 
 -- the decision over the tables of a graph
-module _ (g : GraphParts) (t : Tables) (kept : IsKept g t) where
+module _ (g : GraphParts) (t : Tables) (kept : IsKeptGraph g t) where
   abbrev units : AreOfUnits g
   units = kept.graph.units
 
-  pub under_is : (unit : ℕ) → unit < length g.units → get_or t.under.items unit 0 ≡ root_byte (leads g.edges) g.roots unit
+  pub under_is : (unit : ℕ) → unit < length g.units → get_or t.under.items unit 0
+      ≡ root_byte (leads g.edges) g.roots unit
   under_is unit below =
       ap (λ (bytes : List ℕ). get_or bytes unit 0) kept.tables.under
       ∙ get_or-map-range_with_len (root_byte (leads g.edges) g.roots) 0 (length g.units) unit unit 0 below (omega arith)
 
   related_is : (one two : ℕ) → one < length g.units → two < length g.units → are_related t one two
-      ≡ (nat_eq one two || leads g.edges one two || leads g.edges two one || are_apart (root_byte (leads g.edges) g.roots one) (root_byte (leads g.edges) g.roots two))
+      ≡ (nat_eq one two || leads g.edges one two || leads g.edges two one || are_apart
+      (root_byte (leads g.edges) g.roots one) (root_byte (leads g.edges) g.roots two))
   related_is one two below below' =
-      ap (λ (p : ℕ → ℕ → Bool). nat_eq one two || p one two || p two one || are_apart (get_or t.under.items one 0) (get_or t.under.items two 0)) kept.tables.reach
-      ∙ ap (λ n. nat_eq one two || leads g.edges one two || leads g.edges two one || are_apart n (get_or t.under.items two 0)) (under_is one below)
-      ∙ ap (λ n. nat_eq one two || leads g.edges one two || leads g.edges two one || are_apart (root_byte (leads g.edges) g.roots one) n) (under_is two below')
+      ap (λ (p : ℕ → ℕ → Bool). nat_eq one two || p one two || p two one || are_apart (get_or t.under.items one 0)
+      (get_or t.under.items two 0)) kept.tables.reach
+      ∙ ap (λ n. nat_eq one two || leads g.edges one two || leads g.edges two one || are_apart n
+      (get_or t.under.items two 0)) (under_is one below)
+      ∙ ap (λ n. nat_eq one two || leads g.edges one two || leads g.edges two one || are_apart
+      (root_byte (leads g.edges) g.roots one) n) (under_is two below')
 
   abbrev Near : ℕ → ℕ → Type 0
   Near one two = AreRelated (joined_graph g) one two
@@ -253,7 +289,9 @@ module _ (g : GraphParts) (t : Tables) (kept : IsKept g t) where
   near_tells s u v w owns owns' =
       let in_u : u < length g.units = owner_below s u owns in
       let in_v : v < length g.units = owner_below w v owns' in
-      let told = related_tells g units u v (λ x y. kept.graph.one_root s u x y owns) (λ x y. kept.graph.one_root w v x y owns') in
+      let told =
+      related_tells g units u v (λ x y. kept.graph.one_root s u x y owns)
+      (λ x y. kept.graph.one_root w v x y owns') in
       (λ h. told.0 (sym (related_is u v in_u in_v) ∙ h), λ h. related_is u v in_u in_v ∙ told.1 h)
 
   edge_is : (caller own : ℕ) → pairs t.edges caller own ≡ edge_test g.edges caller own
@@ -268,27 +306,37 @@ module _ (g : GraphParts) (t : Tables) (kept : IsKept g t) where
   own_owns : (segment : ℕ) (s : Owned) → IsOwned g segment s → Owns g s.own segment
   own_owns segment s is = record { own = s.own; own_is = is.own; owner = inl refl }
 
-  caller_owns : (segment : ℕ) (s : Owned) (caller : ℕ) → IsOwned g segment s → s.argument ≡ true → HasEdge g.edges caller s.own → Owns g caller segment
+  caller_owns : (segment : ℕ) (s : Owned) (caller : ℕ) → IsOwned g segment s → s.argument ≡ true
+      → HasEdge g.edges caller s.own → Owns g caller segment
   caller_owns segment s caller is marked e =
       record { own = s.own; own_is = is.own; owner = inr (is.argument ∙ ap (λ b. Some b) marked, e) }
 
   -- for any test of owners that is decided: of the own unit, or of a caller of an argument segment
   abbrev some_passes : Owned → (ℕ → Bool) → Bool
-  some_passes s p = p s.own || (s.argument && list_any (λ caller. pairs t.edges caller s.own && p caller) (range_with_len 0 t.edges.count))
+  some_passes s p =
+      p s.own ||
+      (s.argument && list_any (λ caller. pairs t.edges caller s.own && p caller) (range_with_len 0 t.edges.count))
 
   module _ (segment : ℕ) (s : Owned) (is : IsOwned g segment s) (p : ℕ → Bool) (Holds : ℕ → Type 0)
       (tells : (u : ℕ) → Owns g u segment → Decides (p u) (Holds u)) where
     found : some_passes s p ≡ true → SomeOwner segment Holds
-    found h = elim (or_cases (p s.own) (s.argument && list_any (λ caller. pairs t.edges caller s.own && p caller) (range_with_len 0 t.edges.count)) h) as (λ _. SomeOwner segment Holds) [
-      | inl here ↦ record { unit = s.own; owns = own_owns segment s is; holds = (tells s.own (own_owns segment s is)).0 here }
-      | inr rest ↦
-          let both = and_parts s.argument (list_any (λ caller. pairs t.edges caller s.own && p caller) (range_with_len 0 t.edges.count)) rest in
-          let some = (below_tells t.edges.count (λ caller. pairs t.edges caller s.own && p caller)).0 both.1 in
-          let passes = and_parts (pairs t.edges some.number s.own) (p some.number) some.passes in
-          let e : HasEdge g.edges some.number s.own = (edge_tells g.edges some.number s.own).0 (sym (edge_is some.number s.own) ∙ passes.0) in
-          let owns : Owns g some.number segment = caller_owns segment s some.number is both.0 e in
-          record { unit = some.number; owns = owns; holds = (tells some.number owns).0 passes.1 }
-    ]
+    found h =
+        elim (or_cases (p s.own)
+        (s.argument && list_any (λ caller. pairs t.edges caller s.own && p caller) (range_with_len 0 t.edges.count)) h)
+        as (λ _. SomeOwner segment Holds) [
+          | inl here ↦ record
+              { unit = s.own; owns = own_owns segment s is; holds = (tells s.own (own_owns segment s is)).0 here }
+          | inr rest ↦
+              let both =
+              and_parts s.argument
+              (list_any (λ caller. pairs t.edges caller s.own && p caller) (range_with_len 0 t.edges.count)) rest in
+              let some = (below_tells t.edges.count (λ caller. pairs t.edges caller s.own && p caller)).0 both.1 in
+              let passes = and_parts (pairs t.edges some.number s.own) (p some.number) some.passes in
+              let e : HasEdge g.edges some.number s.own =
+              (edge_tells g.edges some.number s.own).0 (sym (edge_is some.number s.own) ∙ passes.0) in
+              let owns : Owns g some.number segment = caller_owns segment s some.number is both.0 e in
+              record { unit = some.number; owns = owns; holds = (tells some.number owns).0 passes.1 }
+        ]
 
     same_own : (u : ℕ) → (owns : Owns g u segment) → owns.own ≡ s.own
     same_own u owns = cc (owns.own_is, is.own)
@@ -303,11 +351,21 @@ module _ (g : GraphParts) (t : Tables) (kept : IsKept g t) where
               let e : HasEdge g.edges u s.own = subst (λ w. HasEdge g.edges u w) (same_own u some.owns) calls.1 in
               let marked : s.argument ≡ true = cc (calls.0, is.argument) in
               let edge : pairs t.edges u s.own ≡ true = edge_is u s.own ∙ (edge_tells g.edges u s.own).1 e in
-              let any : list_any (λ caller. pairs t.edges caller s.own && p caller) (range_with_len 0 t.edges.count) ≡ true =
+              let any : list_any (λ caller. pairs t.edges caller s.own && p caller) (range_with_len 0 t.edges.count)
+              ≡ true =
               (below_tells t.edges.count (λ caller. pairs t.edges caller s.own && p caller)).1
-              (record { number = u; below = omega (arith, (units.edges.within u s.own e).0, kept.tables.edge_count); passes = and_from (pairs t.edges u s.own) (p u) edge holds }) in
-              or_right (p s.own) (s.argument && list_any (λ caller. pairs t.edges caller s.own && p caller) (range_with_len 0 t.edges.count))
-              (and_from s.argument (list_any (λ caller. pairs t.edges caller s.own && p caller) (range_with_len 0 t.edges.count)) marked any)
+              (record {
+                number = u;
+                below =
+                    omega (arith, (units.edges.within u s.own e).0, kept.tables.edge_count);
+                passes =
+                    and_from (pairs t.edges u s.own) (p u) edge holds;
+              }) in
+              or_right (p s.own)
+              (s.argument && list_any (λ caller. pairs t.edges caller s.own && p caller)
+              (range_with_len 0 t.edges.count))
+              (and_from s.argument
+              (list_any (λ caller. pairs t.edges caller s.own && p caller) (range_with_len 0 t.edges.count)) marked any)
         ]
 
     some_tells : Decides (some_passes s p) (SomeOwner segment Holds)
@@ -317,20 +375,30 @@ module _ (g : GraphParts) (t : Tables) (kept : IsKept g t) where
   abbrev OwnersNear : ℕ → ℕ → Type 0
   OwnersNear one two = SomeOwner one (λ u. SomeOwner two (λ v. Near v u))
 
-  owners_tell : (one two : ℕ) (s w : Owned) → IsOwned g one s → IsOwned g two w → Decides (owners_related t s w) (OwnersNear one two)
+  owners_tell : (one two : ℕ) (s w : Owned) → IsOwned g one s → IsOwned g two w
+      → Decides (owners_related t s w) (OwnersNear one two)
   owners_tell one two s w is is' =
       some_tells one s is (λ u. owner_related t w u) (λ u. SomeOwner two (λ v. Near v u))
-      (λ u owns. some_tells two w is' (λ v. are_related t v u) (λ v. Near v u) (λ v owns'. near_tells two v u one owns' owns))
+      (λ u owns. some_tells two w is' (λ v. are_related t v u) (λ v. Near v u)
+      (λ v owns'. near_tells two v u one owns' owns))
 
-  pub conflict_tells : (one two : ℕ) (s w : Owned) → IsOwned g one s → IsOwned g two w → Decides (owners_related t s w) (SegmentsConflict g one two)
+  pub conflict_tells : (one two : ℕ) (s w : Owned) → IsOwned g one s → IsOwned g two w
+      → Decides (owners_related t s w) (SegmentsConflict g one two)
   conflict_tells one two s w is is' =
       let told = owners_tell one two s w is is' in (
         λ h.
             let some = told.0 h in
-            Owners some.unit some.holds.unit some.owns some.holds.owns (related_back (joined_graph g) some.holds.unit some.unit some.holds.holds),
+            Owners some.unit some.holds.unit some.owns some.holds.owns
+            (related_back (joined_graph g) some.holds.unit some.unit some.holds.holds),
         λ h. elim h as (λ _. owners_related t s w ≡ true) [
           | FirstPlain plain ↦ absurd (plain (s.own, is.own))
           | SecondPlain plain ↦ absurd (plain (w.own, is'.own))
-          | Owners u v owns owns' near ↦ told.1 (record { unit = u; owns = owns; holds = record { unit = v; owns = owns'; holds = related_back (joined_graph g) u v near } })
+          | Owners u v owns owns' near ↦ told.1
+              (record {
+                unit = u;
+                owns = owns;
+                holds =
+                    record { unit = v; owns = owns'; holds = related_back (joined_graph g) u v near };
+              })
         ],
       )

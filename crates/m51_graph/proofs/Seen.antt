@@ -1,8 +1,7 @@
 -- The set of the pairs of edges that are drawn.
-use Rattle.std.proofs.Common.{◌≡◌, ℕ, true, false, Bool, cond, ◌||◌, ◌&&◌, nat_eq, List, [], ◌∷◌, ◌++◌, refl, sym, ap, ◌∙◌}
+use Rattle.m51_graph.proofs.Common.{◌≡◌, ℕ, true, false, Bool, cond, ◌||◌, ◌&&◌, nat_eq, List, [], ◌∷◌, ◌++◌, refl, sym}
+use Rattle.m51_graph.proofs.Common.{ap, ◌∙◌, Edges, edge_test, has_edge, same_edge, with_edge}
 use Rattle.std.proofs.lemmas.List.Folds.{list_any-append}
-use Rattle.m51_module.specs.Walks.{Edges}
-use Rattle.m51_graph.specs.Drawing.{edge_test, has_edge, same_edge, with_edge}
 use Rattle.m51_relations.specs.Rows.{no_pair, with_pair}
 use Rattle.m51_relations.proofs.BitLaws.{same_pairs}
 
@@ -17,7 +16,8 @@ pub seen_none : no_pair ≡ edge_test []
 seen_none = same_pairs no_pair (edge_test []) (λ u v. refl)
 
 -- the pair of one more edge
-pub seen_more : (edges : Edges) (edge : ℕ × ℕ) (seen : ℕ → ℕ → Bool) → seen ≡ edge_test edges → with_pair edge.0 edge.1 seen ≡ edge_test (edges ++ edge ∷ [])
+pub seen_more : (edges : Edges) (edge : ℕ × ℕ) (seen : ℕ → ℕ → Bool) → seen ≡ edge_test edges
+    → with_pair edge.0 edge.1 seen ≡ edge_test (edges ++ edge ∷ [])
 seen_more edges edge seen is =
     same_pairs (with_pair edge.0 edge.1 seen) (edge_test (edges ++ edge ∷ []))
     (λ u v. ap (λ (p : ℕ → ℕ → Bool). (nat_eq u edge.0 && nat_eq v edge.1) || p u v) is

@@ -1,13 +1,11 @@
 -- The level of a unit is decided along the list of edges.
-use Rattle.std.proofs.Common.{◌≡◌, inl, inr, ℕ, zero, suc, ◌+◌, ◌-◌, ◌<◌, true, false, Bool, not, ◌&&◌, nat_eq, List, [], ◌∷◌, length, Option, Some, unwrap_or, cond, refl, sym, ap, subst, ◌∙◌, arith, add-one}
-use Rattle.std.specs.Bool.{Decides}
+use Rattle.m51_graph.proofs.Common.{◌≡◌, inl, inr, ℕ, zero, suc, ◌+◌, ◌-◌, ◌<◌, true, false, Bool, not, ◌&&◌, nat_eq}
+use Rattle.m51_graph.proofs.Common.{List, [], ◌∷◌, length, Option, Some, cond, refl, sym, ap, subst, ◌∙◌, arith}
+use Rattle.m51_graph.proofs.Common.{add-one, Decides, Contains, range_with_len, cases_Bool, Decides-eqb}
+use Rattle.m51_graph.proofs.Common.{Any-from_list_any, list_any_at, Edges, HasEdge, IsWalk, last_of, IsLevel}
+use Rattle.std.proofs.Common.{unwrap_or}
 use Rattle.std.specs.Prelude.{find}
-use Rattle.std.specs.List.{Contains, range_with_len}
-use Rattle.std.proofs.lemmas.Bool.{cases_Bool}
-use Rattle.std.proofs.lemmas.Bool.Decides.{Decides-eqb}
-use Rattle.std.proofs.lemmas.List.Folds.{Any-from_list_any, list_any_at}
-use Rattle.m51_module.specs.Walks.{Edges, HasEdge, IsWalk, last_of}
-use Rattle.m51_graph.specs.Levels.{EndsWalk, IsLevel, ends_walk, level_of}
+use Rattle.m51_graph.specs.Levels.{EndsWalk, ends_walk, level_of}
 use Rattle.m51_graph.proofs.Climbing.{ends_on}
 use Rattle.m51_graph.proofs.Deciding.{and_decides}
 
@@ -18,51 +16,73 @@ record IsLast (edges : Edges) (first unit count : ℕ) : Type 0 where
   count_is : length before ≡ count
   edge : HasEdge edges (last_of first before) unit
 
-last_edge : (edges : Edges) (first next : ℕ) (more : List ℕ) → IsWalk edges first (next ∷ more) → IsLast edges first (last_of next more) (length more)
+last_edge : (edges : Edges) (first next : ℕ) (more : List ℕ) → IsWalk edges first (next ∷ more)
+    → IsLast edges first (last_of next more) (length more)
 last_edge edges first next [] walk = record { before = []; walk = tt; count_is = refl; edge = walk.0 }
 last_edge edges first next (v ∷ more) walk =
     let rest = last_edge edges next v more walk.1 in
-    record { before = next ∷ rest.before; walk = (walk.0, rest.walk); count_is = omega (arith, rest.count_is); edge = rest.edge }
+    record {
+      before = next ∷ rest.before;
+      walk = (walk.0, rest.walk);
+      count_is = omega (arith, rest.count_is);
+      edge =
+          rest.edge;
+    }
 
 record LeadsIn (edges : Edges) (unit count : ℕ) : Type 0 where
   from : ℕ
   walk : EndsWalk edges from count
   edge : HasEdge edges from unit
 
-last_of_walk : (edges : Edges) (unit count first : ℕ) (more : List ℕ) → IsWalk edges first more → last_of first more ≡ unit → length more ≡ suc count → LeadsIn edges unit count
+last_of_walk : (edges : Edges) (unit count first : ℕ) (more : List ℕ) → IsWalk edges first more → last_of first more
+    ≡ unit → length more ≡ suc count → LeadsIn edges unit count
 last_of_walk edges unit count first [] walk ends count_is = absurd (omega (arith, count_is))
 last_of_walk edges unit count first (next ∷ more) walk ends count_is =
     let last = last_edge edges first next more walk in
     record {
       from = last_of first last.before;
-      walk = record { first = first; more = last.before; walk = last.walk; ends = refl; count_is = omega (arith, last.count_is, count_is) };
+      walk = record {
+        first = first;
+        more = last.before;
+        walk = last.walk;
+        ends = refl;
+        count_is =
+            omega (arith, last.count_is, count_is);
+      };
       edge = subst (λ w. HasEdge edges (last_of first last.before) w) ends last.edge;
     }
 
 -- the decision: by its last edge
-pub ends_walk_tells : (edges : Edges) (count unit : ℕ) → Decides (ends_walk edges count unit) (EndsWalk edges unit count)
+pub ends_walk_tells : (edges : Edges) (count unit : ℕ)
+    → Decides (ends_walk edges count unit) (EndsWalk edges unit count)
 unfolding ends_walk
-ends_walk_tells edges zero unit = (λ _. record { first = unit; more = []; walk = tt; ends = refl; count_is = refl }, λ _. refl)
+ends_walk_tells edges zero unit =
+    (λ _. record { first = unit; more = []; walk = tt; ends = refl; count_is = refl }, λ _. refl)
 ends_walk_tells edges (suc count) unit =
     let test : ℕ × ℕ → Bool = λ edge. nat_eq edge.1 unit && ends_walk edges count edge.0 in
     let tells : (edge : ℕ × ℕ) → Decides (test edge) ((edge.1 ≡ unit) × EndsWalk edges edge.0 count) =
-    λ edge. and_decides (nat_eq edge.1 unit) (ends_walk edges count edge.0) (Decides-eqb edge.1 unit) (ends_walk_tells edges count edge.0) in (
+    λ edge. and_decides (nat_eq edge.1 unit) (ends_walk edges count edge.0) (Decides-eqb edge.1 unit)
+    (ends_walk_tells edges count edge.0) in (
       λ h.
           let any = Any-from_list_any test edges h in
           let edge : ℕ × ℕ = any.1 in
           let told = (tells edge).0 any.4 in
-          let e : HasEdge edges edge.0 unit = subst (λ (p : ℕ × ℕ). Contains edges p) (ap (λ (v : ℕ). (edge.0, v)) told.0) (any.0, any.2, any.3) in
+          let e : HasEdge edges edge.0 unit =
+          subst (λ (p : ℕ × ℕ). Contains edges p) (ap (λ (v : ℕ). (edge.0, v)) told.0) (any.0, any.2, any.3) in
           subst (λ n. EndsWalk edges unit n) (add-one count) (ends_on edges edge.0 unit count told.1 e),
       λ h.
           let last = last_of_walk edges unit count h.first h.more h.walk h.ends h.count_is in
           let e : HasEdge edges last.from unit = last.edge in
-          list_any_at test edges e.0 (last.from, unit) e.1 (ap test e.2 ∙ (tells (last.from, unit)).1 (refl, last.walk)),
+          list_any_at test edges e.0 (last.from, unit) e.1
+          (ap test e.2 ∙ (tells (last.from, unit)).1 (refl, last.walk)),
     )
 
 -- without its first edge
-without_first : (edges : Edges) (unit count first : ℕ) (more : List ℕ) → IsWalk edges first more → last_of first more ≡ unit → length more ≡ suc count → EndsWalk edges unit count
+without_first : (edges : Edges) (unit count first : ℕ) (more : List ℕ) → IsWalk edges first more → last_of first more
+    ≡ unit → length more ≡ suc count → EndsWalk edges unit count
 without_first edges unit count first [] walk ends count_is = absurd (omega (arith, count_is))
-without_first edges unit count first (next ∷ more) walk ends count_is = record { first = next; more = more; walk = walk.1; ends = ends; count_is = omega (arith, count_is) }
+without_first edges unit count first (next ∷ more) walk ends count_is =
+    record { first = next; more = more; walk = walk.1; ends = ends; count_is = omega (arith, count_is) }
 
 shorter : (edges : Edges) (unit count : ℕ) → EndsWalk edges unit (suc count) → EndsWalk edges unit count
 shorter edges unit count h = without_first edges unit count h.first h.more h.walk h.ends h.count_is
@@ -70,39 +90,49 @@ shorter edges unit count h = without_first edges unit count h.first h.more h.wal
 -- of fewer edges
 pub fewer : (edges : Edges) (unit count less : ℕ) → EndsWalk edges unit (less + count) → EndsWalk edges unit count
 fewer edges unit count zero h = subst (λ n. EndsWalk edges unit n) (omega arith) h
-fewer edges unit count (suc less) h = fewer edges unit count less (shorter edges unit (less + count) (subst (λ n. EndsWalk edges unit n) (omega arith) h))
+fewer edges unit count (suc less) h =
+    fewer edges unit count less (shorter edges unit (less + count) (subst (λ n. EndsWalk edges unit n) (omega arith) h))
 
-find_from : (p : ℕ → Bool) (n from count : ℕ) → count < n → p (from + count) ≡ true → ((k : ℕ) → k < count → p (from + k) ≡ false)
+find_from : (p : ℕ → Bool) (n from count : ℕ) → count < n → p (from + count) ≡ true
+    → ((k : ℕ) → k < count → p (from + k) ≡ false)
     → find p (range_with_len from n) ≡ Some (from + count)
 find_from p zero from count below passes fails = absurd (omega (arith, below))
 find_from p (suc n) from zero below passes fails =
     let here : from + 0 ≡ from = omega arith in
-    ap (λ (b : Bool). cond b (Some from) (find p (range_with_len (from + 1) n))) (ap p (sym here) ∙ passes) ∙ ap (λ (k : ℕ). Some k) (sym here)
+    ap (λ (b : Bool). cond b (Some from) (find p (range_with_len (from + 1) n))) (ap p (sym here) ∙ passes)
+    ∙ ap (λ (k : ℕ). Some k) (sym here)
 find_from p (suc n) from (suc count) below passes fails =
     let here : from + 0 ≡ from = omega arith in
     let next : from + suc count ≡ from + 1 + count = omega arith in
-    ap (λ (b : Bool). cond b (Some from) (find p (range_with_len (from + 1) n))) (ap p (sym here) ∙ fails 0 (omega arith))
+    ap (λ (b : Bool). cond b (Some from) (find p (range_with_len (from + 1) n)))
+    (ap p (sym here) ∙ fails 0 (omega arith))
     ∙ find_from p n (from + 1) count (omega (arith, below)) (ap p (sym next) ∙ passes)
-    (λ k less. let shifted : from + 1 + k ≡ from + suc k = omega arith in ap p shifted ∙ fails (suc k) (omega (arith, less)))
+    (λ k less. let shifted : from + 1 + k ≡ from + suc k = omega arith in ap p shifted
+    ∙ fails (suc k) (omega (arith, less)))
     ∙ ap (λ (k : ℕ). Some k) (sym next)
 
 -- the first below n that passes
-pub find_least : (p : ℕ → Bool) (n count : ℕ) → count < n → p count ≡ true → ((k : ℕ) → k < count → p k ≡ false) → find p (range_with_len 0 n) ≡ Some count
+pub find_least : (p : ℕ → Bool) (n count : ℕ) → count < n → p count ≡ true → ((k : ℕ) → k < count → p k ≡ false)
+    → find p (range_with_len 0 n) ≡ Some count
 find_least p n count below passes fails =
     let same : (k : ℕ) → 0 + k ≡ k = λ k. omega arith in
-    find_from p n 0 count below (ap p (same count) ∙ passes) (λ k less. ap p (same k) ∙ fails k less) ∙ ap (λ (k : ℕ). Some k) (same count)
+    find_from p n 0 count below (ap p (same count) ∙ passes) (λ k less. ap p (same k) ∙ fails k less)
+    ∙ ap (λ (k : ℕ). Some k) (same count)
 
 -- the level of a unit is what the decision finds
-pub level_function : (edges : Edges) (unit level : ℕ) → IsLevel edges unit level → level < 65536 → level ≡ level_of edges unit
+pub level_function : (edges : Edges) (unit level : ℕ) → IsLevel edges unit level → level < 65536 → level
+    ≡ level_of edges unit
 unfolding level_of
 level_function edges unit level h below =
     let test : ℕ → Bool = λ count. not (ends_walk edges (suc count) unit) in
-    let here : test level ≡ true = elim (cases_Bool (ends_walk edges (suc level) unit)) as (λ _. not (ends_walk edges (suc level) unit) ≡ true) [
+    let here : test level ≡ true =
+    elim (cases_Bool (ends_walk edges (suc level) unit)) as (λ _. not (ends_walk edges (suc level) unit) ≡ true) [
       | inl walks ↦ absurd (omega (arith, h.most (suc level) ((ends_walk_tells edges (suc level) unit).0 walks)))
       | inr ends ↦ ap not ends
     ] in
     let under : (k : ℕ) → k < level → test k ≡ false = λ k less.
     let split : (level - suc k) + suc k ≡ level = omega (arith, less) in
-    let walk : EndsWalk edges unit (suc k) = fewer edges unit (suc k) (level - suc k) (subst (λ n. EndsWalk edges unit n) (sym split) h.longest) in
+    let walk : EndsWalk edges unit (suc k) =
+    fewer edges unit (suc k) (level - suc k) (subst (λ n. EndsWalk edges unit n) (sym split) h.longest) in
     ap not ((ends_walk_tells edges (suc k) unit).1 walk) in
     sym (ap (λ (found : Option ℕ). unwrap_or found 0) (find_least test 65536 level below here under))

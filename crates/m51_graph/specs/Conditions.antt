@@ -26,6 +26,6 @@ IsTargetThere modules m (InSegment s) = IsSome (segment_at modules m s)
 IsTargetThere modules m (OfExternal e) = IsSome (external_at modules m e)
 
 -- both units of an edge are below `count`
-pub record IsWithin (count : ℕ) (edge : ℕ × ℕ) : Type 0 where
+pub record IsEdgeWithin (count : ℕ) (edge : ℕ × ℕ) : Type 0 where
   pub from : edge.0 < count
   pub to : edge.1 < count

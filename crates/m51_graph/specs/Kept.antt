@@ -24,6 +24,6 @@ pub record AreTables (g : GraphParts) (t : Tables) : Type 0 where
   pub owners : AreOwnerPairs (edge_test g.edges) (leads g.edges) t.under.items (length g.units) t.owners
 
 -- the parts are those of a graph, and the tables are theirs
-pub record IsKept (g : GraphParts) (t : Tables) : Type 0 where
+pub record IsKeptGraph (g : GraphParts) (t : Tables) : Type 0 where
   pub graph : IsGraph g
   pub tables : AreTables g t

@@ -54,7 +54,7 @@ pub record IsAdded (titles : List (List ℕ)) (controls : List (ℕ × Control))
   pub to : named titles other ≡ Some v
 
 -- a control line cuts the edge, as OVERLAY(u ~ v, w)
-pub record IsCut (titles : List (List ℕ)) (controls : List (ℕ × Control)) (u v : ℕ) : Type 0 where
+pub record IsEdgeCut (titles : List (List ℕ)) (controls : List (ℕ × Control)) (u v : ℕ) : Type 0 where
   pub line : ℕ × Control
   pub there : Contains controls line
   pub first : List ℕ
@@ -69,7 +69,7 @@ pub record IsCut (titles : List (List ℕ)) (controls : List (ℕ × Control)) (
 pub record IsDrawn (modules : List ModuleParts) (controls : List (ℕ × Control)) (u v : ℕ) : Type 0 where
   pub made : RefersTo modules u v ⊎ IsAdded (unit_titles (segments_of modules)) controls u v
   pub differ : u ≢ v
-  pub uncut : IsCut (unit_titles (segments_of modules)) controls u v → ⊥
+  pub uncut : IsEdgeCut (unit_titles (segments_of modules)) controls u v → ⊥
 
 -- an edge leads from one unit to another exactly if it is drawn so
 abbrev pub EdgesAre : Type 0

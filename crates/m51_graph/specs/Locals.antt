@@ -26,8 +26,8 @@ unit_front = 0x3F ∷ 0x50 ∷ 0x52 ∷ 0x3F ∷ []
 
 -- how the name of the segment begins where it is that of a unit: ?AG? for one that is marked as an argument segment,
 -- else as the locals of its kind
-abbrev pub front_of : JoinedSegment → Option (List ℕ)
-front_of j = if j.argument then Some argument_front else local_front j.kind
+abbrev pub unit_prefix : JoinedSegment → Option (List ℕ)
+unit_prefix j = if j.argument then Some argument_front else local_front j.kind
 
 -- the name with ?PR? in place of this prefix of four bytes, if it begins with that
 abbrev pub unit_name : List ℕ → List ℕ → Option (List ℕ)
@@ -35,7 +35,7 @@ unit_name title front = if starts_with nat_eq title front then Some (unit_front 
 
 -- the name of the segment's own unit
 abbrev pub own_name : JoinedSegment → Option (List ℕ)
-own_name j = option_and_then (unit_name j.title) (front_of j)
+own_name j = option_and_then (unit_name j.title) (unit_prefix j)
 
 -- the unit whose local or argument segment it is
 abbrev pub own_unit : List (List ℕ) → JoinedSegment → Option ℕ

@@ -9,13 +9,13 @@ use Rattle.m51_resolve.specs.declared.segment.JoinedSegment.{JoinedSegment}
 use Rattle.m51_graph.specs.Units.{named}
 
 -- what a table has of a name
-abbrev pub number_in : List (List ℕ × ℕ) → List ℕ → Option ℕ
-number_in numbers name = lookup (bytes_eq name) numbers
+abbrev pub number_by_name : List (List ℕ × ℕ) → List ℕ → Option ℕ
+number_by_name numbers name = lookup (bytes_eq name) numbers
 
 -- the table has the first unit of each of the titles
 pub record AreNumbers (titles : List (List ℕ)) (numbers : List (List ℕ × ℕ)) : Type 0 where
   pub few : length titles ≤ MOST_UNITS
-  pub each : (name : List ℕ) → number_in numbers name ≡ named titles name
+  pub each : (name : List ℕ) → number_by_name numbers name ≡ named titles name
 
 -- for each of these segments which unit it is, if it is one; the first unit among them has that number
 abbrev pub units_by_segment : ℕ → List JoinedSegment → List (Option ℕ)

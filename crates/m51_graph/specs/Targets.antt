@@ -21,13 +21,13 @@ public_unit modules m (InSegment s) = unit_with modules m s
 public_unit modules m (OfExternal e) = None
 
 -- the base of the public of that index, from 0; none if no public has it
-abbrev pub base_at : List Public → ℕ → Base
-base_at publics place = option_map_or (λ (p : Public). p.base) (slice_get publics place) NoBase
+abbrev pub base_in_publics : List Public → ℕ → Base
+base_in_publics publics index = option_map_or (λ (p : Public). p.base) (slice_get publics index) NoBase
 
 -- the base of the public of that index of the module of that number
 abbrev pub public_base : List ModuleParts → ℕ → ℕ → Base
-public_base modules m place =
-    option_map_or (λ (parts : ModuleParts). base_at parts.publics place) (slice_get modules m) NoBase
+public_base modules m index =
+    option_map_or (λ (parts : ModuleParts). base_in_publics parts.publics index) (slice_get modules m) NoBase
 
 -- the unit in which the public lies that resolves an external of the module of that number
 abbrev pub external_unit : List ModuleParts → ℕ → ℕ → Option ℕ

@@ -2,7 +2,7 @@
 ghost use Rattle.std.specs.Prelude.{◌≡◌, ◌||◌, ℕ, IfOk, IfSome, IsOk, IsSome, Some, filter, length, not, slice_get};
 ghost use Rattle.std.specs.List.{filter_map, list_any};
 ghost use Rattle.m51_resolve.specs.Joining.{segments_of, segment_at};
-ghost use Rattle.m51_graph.specs.Conditions.{IsTargetThere, IsWithin};
+ghost use Rattle.m51_graph.specs.Conditions.{IsTargetThere, IsEdgeWithin};
 ghost use Rattle.m51_graph.specs.Drawing.{added_by, cuts, edge_between, edge_named, edges_of, fixup_edge, fixup_edges};
 ghost use Rattle.m51_graph.specs.Drawing.{is_cut, is_edge, module_edges, with_added, with_edges};
 ghost use Rattle.m51_relations.specs.Rows.{pairs};
@@ -151,7 +151,7 @@ fn draw_lines(
 
 // Puts the edge into the set, if there is one.
 fn put_edge(set: &mut BitRows, found: Option<(u16, u16)>)
-    requires { IfSome found (λ edge. IsWithin set.old.count edge) }
+    requires { IfSome found (λ edge. IsEdgeWithin set.old.count edge) }
     ensures count { set.new.count ≡ set.old.count }
     ensures pairs { (u v : ℕ) → pairs set.new u v ≡ (is_edge (u, v) found || pairs set.old u v) }
 {

@@ -1,7 +1,7 @@
 //! Edges in the order in which they are drawn.
 ghost use Rattle.std.specs.Prelude.{◌≡◌, ◌≤◌, [], IfOk, IfSome, IsOk};
 ghost use Rattle.m51_cells.specs.declared.limits.TheConstants.{MOST_UNITS};
-ghost use Rattle.m51_graph.specs.Conditions.{IsWithin};
+ghost use Rattle.m51_graph.specs.Conditions.{IsEdgeWithin};
 ghost use Rattle.m51_graph.specs.Drawing.{has_edge, with_edge};
 ghost use Rattle.m51_graph.specs.DrawnEdges.{with_found};
 
@@ -59,7 +59,7 @@ impl EdgeList {
 
     // Adds the edge unless it is already present.
     fn draw(&mut self, edge: (u16, u16)) -> Result<(), NoMemory>
-        requires { IsWithin self.old.count edge }
+        requires { IsEdgeWithin self.old.count edge }
         ensures count { self.new.count ≡ self.old.count }
         ensures drawn { IsOk result → self.new.list ≡ with_edge self.old.list edge }
     {
@@ -72,7 +72,7 @@ impl EdgeList {
 
     // Adds the edge that was found, if one was, unless it is already present.
     pub(crate) fn draw_found(&mut self, found: Option<(u16, u16)>) -> Result<(), NoMemory>
-        requires { IfSome found (λ edge. IsWithin self.old.count edge) }
+        requires { IfSome found (λ edge. IsEdgeWithin self.old.count edge) }
         ensures count { self.new.count ≡ self.old.count }
         ensures drawn { IsOk result → self.new.list ≡ with_found self.old.list found }
     {

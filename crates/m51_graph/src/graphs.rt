@@ -29,13 +29,13 @@ pub struct Graph {
 
 impl Model for Graph {
     ghost use Rattle.m51_graph.specs.declared.parts.GraphParts.{GraphParts};
-    ghost use Rattle.m51_graph.specs.Kept.{IsKept};
+    ghost use Rattle.m51_graph.specs.Kept.{IsKeptGraph};
 
     ghost Value = { GraphParts };
 
     ghost view = { λ g. g.parts };
 
-    ghost invariant = { λ g. IsKept g.parts g.tables };
+    ghost invariant = { λ g. IsKeptGraph g.parts g.tables };
 }
 
 impl Graph {

@@ -5,7 +5,7 @@ ghost use Rattle.std.specs.Option.{option_map_or};
 ghost use Rattle.std.specs.Str.{bytes_eq};
 ghost use Rattle.m51_cells.specs.declared.limits.TheConstants.{MOST_UNITS};
 ghost use Rattle.m51_relations.specs.Bits.{bit};
-ghost use Rattle.m51_graph.specs.Locals.{front_of, is_apart, is_lost, keeps_apart, local_front, lost_segment};
+ghost use Rattle.m51_graph.specs.Locals.{unit_prefix, is_apart, is_lost, keeps_apart, local_front, lost_segment};
 ghost use Rattle.m51_graph.specs.Locals.{overlaid_unless, own_name, own_unit, own_units, unit_front, unit_name};
 ghost use Rattle.m51_graph.specs.Units.{named};
 
@@ -35,8 +35,8 @@ fn local_front(kind: Kind) -> Option<[u8; 4]>
 }
 
 // How the name of the segment begins where it is that of a unit.
-fn front_of(segment: &JoinedSegment) -> Option<[u8; 4]>
-    ensures { result ≡ front_of segment.now }
+fn unit_prefix(segment: &JoinedSegment) -> Option<[u8; 4]>
+    ensures { result ≡ unit_prefix segment.now }
 {
     if segment.argument {
         return Some(*b"?AG?");
@@ -67,8 +67,8 @@ fn is_unit_of(title: &[u8], rest: &[u8]) -> bool
 
 // The index of the first title that is ?PR? and then these bytes.
 fn place_of(titles: &[Name], rest: &[u8]) -> Option<usize>
-    ensures place { result ≡ position (λ title. bytes_eq title (unit_front ++ rest.now)) titles.now }
-    ensures inside { IfSome result (λ place. place < length titles.now) }
+    ensures index { result ≡ position (λ title. bytes_eq title (unit_front ++ rest.now)) titles.now }
+    ensures inside { IfSome result (λ index. index < length titles.now) }
 {
     titles
         .iter()
@@ -99,7 +99,7 @@ fn own_unit(titles: &[Name], segment: &JoinedSegment) -> Option<u16>
     requires { length titles.now ≤ MOST_UNITS }
     ensures { result ≡ own_unit titles.now segment.now }
 {
-    match front_of(segment) {
+    match unit_prefix(segment) {
         Some(front) => named_with(titles, segment.title.bytes(), front),
         None => None,
     }

@@ -3,7 +3,8 @@ ghost use Rattle.std.specs.Prelude.{◌≡◌, IsSome};
 ghost use Rattle.m51_resolve.specs.Joining.{segments_of, segment_at};
 ghost use Rattle.m51_resolve.specs.Publics.{external_at};
 ghost use Rattle.m51_graph.specs.Conditions.{IsBaseIn, IsBaseThere, IsTargetThere};
-ghost use Rattle.m51_graph.specs.Targets.{base_at, external_unit, public_base, public_unit, target_unit, unit_with};
+ghost use Rattle.m51_graph.specs.Targets.{base_in_publics, external_unit, public_base, public_unit, target_unit};
+ghost use Rattle.m51_graph.specs.Targets.{unit_with};
 ghost use Rattle.m51_graph.specs.Units.{units_of};
 
 use crate::unit_table::UnitTable;
@@ -35,23 +36,23 @@ fn public_unit(joined: &Joined, units: &UnitTable, module: u8, base: Base) -> Op
 }
 
 // The base of the public of that index, from 0; none if no public has it.
-fn base_at(parts: &Module, place: usize) -> Base
-    ensures base { result ≡ base_at parts.now.publics place }
+fn base_in_publics(parts: &Module, index: usize) -> Base
+    ensures base { result ≡ base_in_publics parts.now.publics index }
     ensures there { IsBaseIn parts.now result }
 {
-    match parts.publics().get(place) {
+    match parts.publics().get(index) {
         Some(public) => public.base,
         None => Base::None,
     }
 }
 
 // The base of the public of that index of the module.
-fn public_base(joined: &Joined, module: u8, place: usize) -> Base
-    ensures base { result ≡ public_base joined.now «module» place }
+fn public_base(joined: &Joined, module: u8, index: usize) -> Base
+    ensures base { result ≡ public_base joined.now «module» index }
     ensures there { IsBaseThere joined.now «module» result }
 {
     match joined.modules().get(usize::from(module)) {
-        Some(parts) => base_at(parts, place),
+        Some(parts) => base_in_publics(parts, index),
         None => Base::None,
     }
 }
@@ -62,8 +63,8 @@ fn external_unit(joined: &Joined, units: &UnitTable, module: u8, external: u8) -
     requires units { units.now ≡ units_of (segments_of joined.now) }
     ensures { result ≡ external_unit joined.now «module» external }
 {
-    let (home, place) = joined.public_of(module, external);
-    public_unit(joined, units, home, public_base(joined, home, place))
+    let (home, index) = joined.public_of(module, external);
+    public_unit(joined, units, home, public_base(joined, home, index))
 }
 
 // The unit to which a target refers, directly or by an external.

@@ -2,7 +2,7 @@
 ghost use Rattle.std.specs.Prelude.{◌≡◌, ◌≤◌, ◌<◌, bytes_eq, IfOk, IfSome, OnOk, Some, length, unwrap_or};
 ghost use Rattle.indexmap.specs.IndexMap.{Updates};
 ghost use Rattle.m51_cells.specs.declared.limits.TheConstants.{MOST_UNITS};
-ghost use Rattle.m51_graph.specs.Numbered.{AreNumbers, number_in};
+ghost use Rattle.m51_graph.specs.Numbered.{AreNumbers, number_by_name};
 ghost use Rattle.m51_graph.specs.Units.{named, unit_titles};
 
 use crate::units::unit_titles;
@@ -32,7 +32,7 @@ impl Model for UnitNames {
 
 // Gives the title this unit, unless it has one.
 fn note(numbers: &mut IndexMap<Name, u16>, title: &Name, unit: u16) -> Result<(), NoMemory>
-    ensures { let first = unwrap_or (number_in numbers.old.entries title.now) unit in
+    ensures { let first = unwrap_or (number_by_name numbers.old.entries title.now) unit in
         OnOk result (Updates bytes_eq numbers.old numbers.new title.now (Some first)) }
 {
     let first = numbers.get(title).copied().unwrap_or(unit);

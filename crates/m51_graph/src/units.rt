@@ -43,11 +43,11 @@ pub(crate) fn unit_titles(alloc: Global, segments: &[JoinedSegment]) -> Result<V
 }
 
 // An index among units or their titles, as the number of the unit.
-pub(crate) fn as_unit(place: Option<usize>) -> Option<u16>
-    requires { IfSome place (λ p. p < 65536) }
-    ensures { result ≡ place }
+pub(crate) fn as_unit(index: Option<usize>) -> Option<u16>
+    requires { IfSome index (λ p. p < 65536) }
+    ensures { result ≡ index }
 {
-    match place {
+    match index {
         Some(unit) => Some(unit as u16),
         None => None,
     }

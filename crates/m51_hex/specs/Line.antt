@@ -11,10 +11,10 @@ use Rattle.m51_hex.specs.declared.records.RecordType.TheVariants.{Data, EndOfFil
 use Rattle.m51_hex.specs.Record.{HexRecord, colon}
 
 -- the bytes that digits write, two digits each
-abbrev pub bytes_of : List ℕ → List ℕ
-bytes_of [] = []
-bytes_of (last ∷ []) = []
-bytes_of (high ∷ low ∷ more) = (16 * digit_value high + digit_value low) ∷ bytes_of more
+abbrev pub bytes_of_digits : List ℕ → List ℕ
+bytes_of_digits [] = []
+bytes_of_digits (last ∷ []) = []
+bytes_of_digits (high ∷ low ∷ more) = (16 * digit_value high + digit_value low) ∷ bytes_of_digits more
 
 -- The bytes of the line of this number. H1: it does not begin with a colon, nor does an empty line. H2: a character
 -- after the colon is no hexadecimal digit. H3: the digits are odd in number.
@@ -24,15 +24,15 @@ bytes_in number line =
     if not (slice_index line 0 == colon) then Err (H1 number)
     else if not (list_all is_hex_digit digits) then Err (H2 number)
     else if not (length digits % 2 == 0) then Err (H3 number)
-    else Ok (bytes_of digits)
+    else Ok (bytes_of_digits digits)
 
 -- the count that the bytes of a record say
 abbrev pub count_in : List ℕ → ℕ
 count_in bytes = slice_index bytes 0
 
 -- the address, its high byte first
-abbrev pub address_in : List ℕ → ℕ
-address_in bytes = 256 * slice_index bytes 1 + slice_index bytes 2
+abbrev pub record_address : List ℕ → ℕ
+record_address bytes = 256 * slice_index bytes 1 + slice_index bytes 2
 
 -- the byte of the type
 abbrev pub type_in : List ℕ → ℕ
@@ -43,14 +43,14 @@ type_in bytes = slice_index bytes 3
 unfoldable pub has_form : List ℕ → Bool
 has_form bytes =
     length bytes == count_in bytes + 5
-    && (if type_in bytes == 0 then nat_le (address_in bytes + count_in bytes) 0x10000
+    && (if type_in bytes == 0 then nat_le (record_address bytes + count_in bytes) 0x10000
     else type_in bytes == 1 && count_in bytes == 0)
 
 -- the record that such bytes write
 unfoldable pub record_from : List ℕ → HexRecord
 record_from bytes = record {
   kind = if type_in bytes == 0 then Data else EndOfFile;
-  address = address_in bytes;
+  address = record_address bytes;
   bytes = take (count_in bytes) (drop 4 bytes);
 }
 
@@ -63,7 +63,7 @@ record_in number bytes =
     else Ok (record_from bytes)
 
 -- the record of the line of this number, or the first test that it fails
-unfoldable pub record_of : ℕ → List ℕ → Result HexRecord HexError
-record_of number line = do
+unfoldable pub hex_record_of : ℕ → List ℕ → Result HexRecord HexError
+hex_record_of number line = do
   bytes ← bytes_in number line
   record_in number bytes

@@ -37,12 +37,12 @@ unfoldable pub checksum_of : List ℕ → ℕ
 checksum_of fields = (256 - sum fields % 256) % 256
 
 -- the text of a record: a colon, then two digits for each byte of the fields and for the checksum
-unfoldable pub text_of : HexRecord → List ℕ
-text_of r = colon ∷ flat_map hex2 (fields_of r ++ checksum_of (fields_of r) ∷ [])
+unfoldable pub hex_record_text : HexRecord → List ℕ
+hex_record_text r = colon ∷ flat_map hex2 (fields_of r ++ checksum_of (fields_of r) ∷ [])
 
 -- the line of a record
-abbrev pub line_of : HexRecord → List ℕ
-line_of r = text_of r ++ line_feed ∷ []
+abbrev pub line_of_record : HexRecord → List ℕ
+line_of_record r = hex_record_text r ++ line_feed ∷ []
 
 -- what data a type takes: those of type 00 end at 10000H or below, and type 01 has none
 abbrev pub TakesData : RecordType → ℕ → ℕ → Type 0

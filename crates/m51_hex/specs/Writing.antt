@@ -3,15 +3,15 @@ use Rattle.std.specs.Prelude.{ℕ, ◌+◌, ◌*◌, ◌/◌, ◌≤◌, min, Li
 use Rattle.std.specs.List.{range_with_len, slice_range}
 use Rattle.m51_module.specs.declared.linked.Run.{Run}
 use Rattle.m51_hex.specs.declared.records.RecordType.TheVariants.{Data, EndOfFile}
-use Rattle.m51_hex.specs.Record.{HexRecord, line_of}
+use Rattle.m51_hex.specs.Record.{HexRecord, line_of_record}
 
 -- the address after the last byte of a run
 abbrev pub end_of : Run → ℕ
 end_of run = run.first + run.len
 
 -- the run lies within program memory
-abbrev pub IsWithin : Run → Type 0
-IsWithin run = end_of run ≤ 0x10000
+abbrev pub IsRunWithin : Run → Type 0
+IsRunWithin run = end_of run ≤ 0x10000
 
 -- how many records a run has: one for each 16 bytes, and one for fewer that are left
 abbrev pub count_of_records : Run → ℕ
@@ -33,4 +33,4 @@ last_record = record { kind = EndOfFile; address = 0; bytes = [] }
 
 -- the lines of the runs, and the last one
 unfoldable pub hex_of : List ℕ → List Run → List ℕ
-hex_of image runs = flat_map (λ run. flat_map line_of (records_of image run)) runs ++ line_of last_record
+hex_of image runs = flat_map (λ run. flat_map line_of_record (records_of image run)) runs ++ line_of_record last_record

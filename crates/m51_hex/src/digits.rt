@@ -3,7 +3,7 @@ ghost use Rattle.std.specs.Prelude.{◌≡◌, ◌<◌, ◌++◌, flat_map, IsTr
 ghost use Rattle.std.specs.Char.{digit_value};
 ghost use Rattle.std.specs.List.{list_all};
 ghost use Rattle.m51_cells.specs.Hex.{hex2, is_hex_digit};
-ghost use Rattle.m51_hex.specs.Line.{bytes_of};
+ghost use Rattle.m51_hex.specs.Line.{bytes_of_digits};
 
 use m51_cells::{NoMemory, digit_value, hex2};
 use std::alloc::Global;
@@ -55,9 +55,9 @@ fn value_of(digit: u8) -> u8
 }
 
 // The bytes that digits write; a last one that is single writes none.
-pub(crate) fn bytes_of(alloc: Global, digits: &[u8]) -> Result<Vec<u8>, NoMemory>
+pub(crate) fn bytes_of_digits(alloc: Global, digits: &[u8]) -> Result<Vec<u8>, NoMemory>
     requires { IsTrue (list_all is_hex_digit digits.now) }
-    ensures { IfOk result (λ bytes. bytes.items ≡ bytes_of digits.now) }
+    ensures { IfOk result (λ bytes. bytes.items ≡ bytes_of_digits digits.now) }
 {
     let mut bytes = Vec::new(alloc);
     let mut rest = digits;

@@ -3,11 +3,11 @@ ghost use Rattle.std.specs.Prelude.{◌≡◌, ◌+◌, ◌≤◌, ◌<◌, ◌^
 ghost use Rattle.m51_cells.specs.Outcome.{Gives};
 ghost use Rattle.m51_hex.specs.Memory.{memory_in};
 ghost use Rattle.m51_hex.specs.Line.{bytes_in, record_in};
-ghost use Rattle.m51_hex.specs.Reading.{line_read, memory_from, refusal_of, with_memory};
+ghost use Rattle.m51_hex.specs.Reading.{line_read, memory_from, image_refusal, with_memory};
 ghost use Rattle.m51_hex.specs.Record.{seen};
 
 use crate::HexError;
-use crate::digits::{are_hex_digits, bytes_of};
+use crate::digits::{are_hex_digits, bytes_of_digits};
 use crate::records::{HexRecord, RecordType, has_form, low_sum, record_from};
 use crate::storing::store;
 use m51_cells::first_line;
@@ -17,7 +17,7 @@ use std::alloc::Global;
 // The bytes that a line writes.
 #[tactic(auto, unfolding(crate::specs::Line::bytes_in))]
 fn bytes_in(alloc: Global, line: u32, text: &[u8]) -> Result<Vec<u8>, HexError>
-    ensures { Gives (λ bytes. bytes.items) refusal_of result (bytes_in line text.now) }
+    ensures { Gives (λ bytes. bytes.items) image_refusal result (bytes_in line text.now) }
 {
     let [b':', digits @ ..] = text else {
         return Err(HexError::H1 { line });
@@ -28,13 +28,13 @@ fn bytes_in(alloc: Global, line: u32, text: &[u8]) -> Result<Vec<u8>, HexError>
     if digits.len() % 2 != 0 {
         return Err(HexError::H3 { line });
     }
-    Ok(bytes_of(alloc, digits)?)
+    Ok(bytes_of_digits(alloc, digits)?)
 }
 
 // The record that the bytes of a line write.
 #[tactic(auto, unfolding(crate::specs::Line::record_in))]
 fn record_in(line: u32, bytes: &[u8]) -> Result<HexRecord<'_>, HexError>
-    ensures gives { Gives seen refusal_of result (record_in line bytes.now) }
+    ensures gives { Gives seen image_refusal result (record_in line bytes.now) }
     ensures within { IfOk result (λ r. r.address + length r.bytes.now ≤ 0x10000) }
 {
     if !has_form(bytes) {
@@ -47,7 +47,7 @@ fn record_in(line: u32, bytes: &[u8]) -> Result<HexRecord<'_>, HexError>
 }
 
 // Reads a line, and puts the data of its record into the image. Returns the type of the record.
-#[tactic(auto, unfolding(crate::specs::Line::record_of, crate::specs::Reading::line_read))]
+#[tactic(auto, unfolding(crate::specs::Line::hex_record_of, crate::specs::Reading::line_read))]
 fn read_line(
     alloc: Global,
     image: &mut Image,
@@ -55,7 +55,7 @@ fn read_line(
     text: &[u8],
 ) -> Result<RecordType, HexError>
     requires { length image.old ≡ 0x10000 }
-    ensures gives { Gives (with_memory image.new) refusal_of result (line_read (memory_in image.old) line text.now) }
+    ensures gives { Gives (with_memory image.new) image_refusal result (line_read (memory_in image.old) line text.now) }
     ensures whole { length image.new ≡ 0x10000 }
 {
     let bytes = bytes_in(alloc, line, text)?;
@@ -76,7 +76,7 @@ fn read_line(
 /// Source: Intel HEX.
 pub fn read_hex(alloc: Global, bytes: &[u8]) -> Result<Image, HexError>
     requires { length bytes.now < 2 ^ 32 }
-    ensures { Gives memory_in refusal_of result (memory_from bytes.now) }
+    ensures { Gives memory_in image_refusal result (memory_from bytes.now) }
 {
     let mut image = Image::blank(alloc)?;
     let mut line = 0;

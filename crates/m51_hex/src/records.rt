@@ -1,7 +1,7 @@
 //! Records: what the bytes of one say, and the line of one.
 ghost use Rattle.std.specs.Prelude.{◌≡◌, ◌+◌, ◌<◌, ◌≤◌, ◌%◌, ◌++◌, length, sum, IsTrue, OnOk};
 ghost use Rattle.m51_hex.specs.Line.{has_form, record_from};
-ghost use Rattle.m51_hex.specs.Record.{type_byte, fields_of, checksum_of, line_of, seen};
+ghost use Rattle.m51_hex.specs.Record.{type_byte, fields_of, checksum_of, line_of_record, seen};
 
 use crate::digits::{push_byte, push_bytes};
 use m51_cells::NoMemory;
@@ -108,7 +108,7 @@ fn checksum_of(front: &[u8], bytes: &[u8]) -> u8
 // Appends the line of a record.
 pub(crate) fn push_record(text: &mut Vec<u8>, record: &HexRecord<'_>) -> Result<(), NoMemory>
     requires { length «record».now.bytes.now < 256 }
-    ensures { OnOk result (text.new.items ≡ text.old.items ++ line_of (seen «record».now)) }
+    ensures { OnOk result (text.new.items ≡ text.old.items ++ line_of_record (seen «record».now)) }
 {
     let front = front_of(record);
     let checksum = checksum_of(&front, record.bytes);

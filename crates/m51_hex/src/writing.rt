@@ -1,7 +1,7 @@
 //! Writes the HEX file of an image.
 ghost use Rattle.std.specs.Prelude.{◌≡◌, ◌<◌, ◌++◌, All, flat_map, length, IfOk, OnOk};
-ghost use Rattle.m51_hex.specs.Record.{line_of, seen};
-ghost use Rattle.m51_hex.specs.Writing.{IsWithin, count_of_records, record_at, records_of, hex_of};
+ghost use Rattle.m51_hex.specs.Record.{line_of_record, seen};
+ghost use Rattle.m51_hex.specs.Writing.{IsRunWithin, count_of_records, record_at, records_of, hex_of};
 
 use crate::records::{HexRecord, RecordType, push_record};
 use m51_cells::NoMemory;
@@ -12,7 +12,7 @@ use std::alloc::Global;
 #[tactic(auto, unfolding(crate::specs::Writing::record_at))]
 fn record_at<'a>(image: &'a [u8], run: &Run, number: u32) -> HexRecord<'a>
     requires whole { length image.now ≡ 0x10000 }
-    requires within { IsWithin run.now }
+    requires within { IsRunWithin run.now }
     requires number { number < count_of_records run.now }
     ensures is { seen result ≡ record_at image.now run.now number }
     ensures short { length result.bytes.now < 256 }
@@ -31,8 +31,8 @@ fn record_at<'a>(image: &'a [u8], run: &Run, number: u32) -> HexRecord<'a>
 #[tactic(auto, using(crate::proofs::RunLines::first_lines_more), unfolding(crate::specs::Writing::records_of))]
 fn push_run(text: &mut Vec<u8>, image: &[u8], run: &Run) -> Result<(), NoMemory>
     requires whole { length image.now ≡ 0x10000 }
-    requires within { IsWithin run.now }
-    ensures { OnOk result (text.new.items ≡ text.old.items ++ flat_map line_of (records_of image.now run.now)) }
+    requires within { IsRunWithin run.now }
+    ensures { OnOk result (text.new.items ≡ text.old.items ++ flat_map line_of_record (records_of image.now run.now)) }
 {
     for number in 0..run.len.div_ceil(16) {
         push_record(text, &record_at(image, run, number))?;
@@ -52,7 +52,7 @@ fn push_run(text: &mut Vec<u8>, image: &[u8], run: &Run) -> Result<(), NoMemory>
 /// Source: Intel HEX.
 #[tactic(auto, unfolding(crate::specs::Writing::hex_of))]
 pub fn write_hex(alloc: Global, image: &Image, written: &Runs) -> Result<Vec<u8>, NoMemory>
-    requires { All IsWithin written.now }
+    requires { All IsRunWithin written.now }
     ensures { IfOk result (λ text. text.items ≡ hex_of image.now written.now) }
 {
     let mut text = Vec::new(alloc);

@@ -7,7 +7,7 @@ use Rattle.m51_asm.specs.AnswerLaws.{OneAnswer as OneForText}
 use Rattle.m51_inputs.specs.Files.{sources_of, includes_of}
 use Rattle.m51_inputs.specs.Sources.{AreAnswers}
 use Rattle.m51_inputs.specs.Inputs.{inputs_of}
-use Rattle.m51_inputs.specs.Laws.{OneAnswer}
+use Rattle.m51_inputs.specs.Laws.{OneInputsAnswer}
 
 -- the answers of sources
 answers_of : OneForText → List SourceFile → List SourceFile → List AnswerTree
@@ -34,7 +34,7 @@ only_answers one includes [] (other ∷ others) are = absurd are
 only_answers one includes (source ∷ sources) [] are = absurd are
 
 -- the rest follows from the answers of the sources
-pub one_answer : OneForText → OneAnswer
+pub one_answer : OneForText → OneInputsAnswer
 one_answer one files contents control script =
     let includes = includes_of files contents in
     let sources = sources_of files contents in

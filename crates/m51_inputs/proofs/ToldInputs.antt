@@ -14,7 +14,8 @@ use Rattle.m51_inputs.specs.declared.sorting.Sorted.{Sorted}
 use Rattle.m51_inputs.specs.declared.sources.Answered.{Answered}
 use Rattle.m51_inputs.specs.Answered.{answers_of, words_of}
 use Rattle.m51_inputs.specs.Files.{source_words, sources_of}
-use Rattle.m51_inputs.specs.Inputs.{Answers, InputsTree, IsTold, controls_in, inputs_of, inputs_tree, refusal_of}
+use Rattle.m51_inputs.specs.Inputs.{IsInputsAnswer, InputsTree, IsInputsResult, controls_in, inputs_of, inputs_tree}
+use Rattle.m51_inputs.specs.Inputs.{input_refusal}
 use Rattle.m51_inputs.specs.Inputs.{script_in}
 use Rattle.m51_inputs.specs.Objects.{Linked, linked_from}
 use Rattle.m51_inputs.specs.Sorting.{IsSorted, files_in, words_in}
@@ -50,7 +51,7 @@ answered : (files contents : List (List ℕ)) (control script : Option (List ℕ
     → IsSorted files contents sorted → AreAnswers sorted.includes (files_in sorted.sources) (answers_of all)
     → words_of all ≡ words_in sorted.sources
     → inputs_by sorted.endings contents control script (words_of all) (answers_of all) ≡ answer
-    → Answers files contents control script answer
+    → IsInputsAnswer files contents control script answer
 answered files contents control script sorted all answer is are words given = record {
   answers = answers_of all;
   are = subst (λ (includes : List SourceFile). AreAnswers includes (sources_of files contents) (answers_of all))
@@ -68,9 +69,9 @@ pub told_inputs : (files contents : List (List ℕ)) (control script : Option (L
     (all : List Answered) (result : Result Inputs InputError)
     → IsSorted files contents sorted → AreAnswers sorted.includes (files_in sorted.sources) (answers_of all)
     → words_of all ≡ words_in sorted.sources
-    → Gives inputs_tree refusal_of result
+    → Gives inputs_tree input_refusal result
     (inputs_by sorted.endings contents control script (words_of all) (answers_of all))
-    → IsTold files contents control script result
+    → IsInputsResult files contents control script result
 told_inputs files contents control script sorted all (Ok inputs) is are words given =
     answered files contents control script sorted all _ is are words given
 told_inputs files contents control script sorted all (Err (error.Sources faults)) is are words given =

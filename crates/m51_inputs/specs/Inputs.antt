@@ -61,16 +61,16 @@ inputs_of files contents control script answers = do
   Ok (record { modules = linked.modules; libraries = linked.libraries; controls = controls; script = script })
 
 -- The answer for these files: each source is assembled with all includes, and the rest follows.
-pub record Answers (files contents : List (List ℕ)) (control script : Option (List ℕ))
+pub record IsInputsAnswer (files contents : List (List ℕ)) (control script : Option (List ℕ))
     (answer : Result InputsTree InputError) : Type 0 where
   pub answers : List AnswerTree
   pub are : AreAnswers (includes_of files contents) (sources_of files contents) answers
   pub is : answer ≡ inputs_of files contents control script answers
 
 -- what an error refuses; out of memory is no refusal
-abbrev pub refusal_of : InputError → Option InputError
-refusal_of error.Memory = None
-refusal_of refusal = Some refusal
+abbrev pub input_refusal : InputError → Option InputError
+input_refusal error.Memory = None
+input_refusal refusal = Some refusal
 
 -- what is specified of the result of a call: nothing if it runs out of memory
 abbrev pub told : Result Inputs InputError → Option (Result InputsTree InputError)
@@ -79,7 +79,7 @@ told (Err error.Memory) = None
 told (Err refusal) = Some (Err refusal)
 
 -- unless a call runs out of memory, its result is the answer for these files
-abbrev pub IsTold : List (List ℕ) → List (List ℕ) → Option (List ℕ) → Option (List ℕ) → Result Inputs InputError
+abbrev pub IsInputsResult : List (List ℕ) → List (List ℕ) → Option (List ℕ) → Option (List ℕ) → Result Inputs InputError
     → Type 0
-IsTold files contents control script result =
-    MatchOption (told result) (Unit {0}) (Answers files contents control script)
+IsInputsResult files contents control script result =
+    MatchOption (told result) (Unit {0}) (IsInputsAnswer files contents control script)

@@ -7,7 +7,7 @@ use Rattle.m51_module.specs.declared.parts.ModuleParts.{ModuleParts}
 use Rattle.m51_jobs.specs.declared.endings.Ending.{Ending}
 use Rattle.m51_inputs.specs.declared.error.InputError.{InputError}
 use Rattle.m51_inputs.specs.declared.objects.LinkInputs.{LinkInputs}
-use Rattle.m51_inputs.specs.Inputs.{InputsTree, controls_in, refusal_of, script_in}
+use Rattle.m51_inputs.specs.Inputs.{InputsTree, controls_in, input_refusal, script_in}
 use Rattle.m51_inputs.specs.Objects.{Linked, linked_by}
 use Rattle.m51_inputs.specs.Sources.{faults_in, modules_in, unless_faults}
 
@@ -26,7 +26,7 @@ files_before read after = linked_before read.modules read.libraries after
 abbrev pub Steps : {A : Type 0} → LinkInputs → LinkInputs → Result A InputError → Result Linked InputError
     → Result Linked InputError → Type 0
 Steps old new (Ok done) rest whole = files_before new rest ≡ files_before old whole
-Steps old new (Err error) rest whole = RefusesWith (refusal_of error) whole
+Steps old new (Err error) rest whole = RefusesWith (input_refusal error) whole
 
 -- what arguments of these endings give, as linked_from says it by their names
 abbrev pub linked_kinds : ℕ → List (Option Ending) → List (List ℕ) → List ModuleParts → Result Linked InputError

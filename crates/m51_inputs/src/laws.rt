@@ -1,5 +1,5 @@
 //! What is promised of the answers for files. Each law is the contract of a function that does nothing.
-ghost use Rattle.m51_inputs.specs.Laws.{OneAnswer};
+ghost use Rattle.m51_inputs.specs.Laws.{OneInputsAnswer};
 
 use m51_asm::each_text_has_one_answer;
 
@@ -7,7 +7,7 @@ use m51_asm::each_text_has_one_answer;
 ///
 /// Source: own choice ("Inputs").
 pub fn each_program_has_one_answer()
-    ensures { OneAnswer }
+    ensures { OneInputsAnswer }
 {
     each_text_has_one_answer();
 }

@@ -3,7 +3,7 @@ ghost use Rattle.std.specs.Prelude.{◌≡◌, ◌≤◌, List, Result, length, 
 ghost use Rattle.m51_cells.specs.declared.limits.TheConstants.{MOST_FILE_BYTES};
 ghost use Rattle.m51_cells.specs.Outcome.{Gives};
 ghost use Rattle.m51_library.specs.Reading.{library_of, module_in};
-ghost use Rattle.m51_inputs.specs.Inputs.{refusal_of};
+ghost use Rattle.m51_inputs.specs.Inputs.{input_refusal};
 ghost use Rattle.m51_inputs.specs.declared.error.InputError.{InputError as Error};
 ghost use Rattle.m51_inputs.specs.Objects.{Linked, or_object, or_library, linked_by, linked};
 ghost use Rattle.m51_inputs.specs.Objects.{with_source, with_object, with_archive};
@@ -21,7 +21,7 @@ use std::collections::VecDeque;
 // The module of the object of this argument.
 fn object_at(alloc: Global, file: usize, bytes: &Bytes) -> Result<Module, InputError>
     requires { length bytes.now ≤ MOST_FILE_BYTES }
-    ensures { Gives (λ m. m) refusal_of result (or_object file (module_in bytes.now)) }
+    ensures { Gives (λ m. m) input_refusal result (or_object file (module_in bytes.now)) }
 {
     match read_object(alloc, bytes.as_slice()) {
         Ok(module) => Ok(module),
@@ -33,7 +33,7 @@ fn object_at(alloc: Global, file: usize, bytes: &Bytes) -> Result<Module, InputE
 // The library of this argument.
 fn library_at(alloc: Global, file: usize, bytes: &Bytes) -> Result<Library, InputError>
     requires { length bytes.now ≤ MOST_FILE_BYTES }
-    ensures { Gives (λ l. l) refusal_of result (or_library file (library_of bytes.now)) }
+    ensures { Gives (λ l. l) input_refusal result (or_library file (library_of bytes.now)) }
 {
     match read_library(alloc, bytes.as_slice()) {
         Ok(library) => Ok(library),
@@ -124,7 +124,7 @@ pub(crate) fn linked_files(
 ) -> Result<LinkInputs, InputError>
     requires count { length contents.now ≡ length endings.now }
     requires within { All (λ bytes. length bytes ≤ MOST_FILE_BYTES) contents.now }
-    ensures { Gives linked refusal_of result (linked_kinds 0 endings.now contents.now sources.items) }
+    ensures { Gives linked input_refusal result (linked_kinds 0 endings.now contents.now sources.items) }
 {
     let mut linked = LinkInputs {
         modules: ListOf::new(alloc),

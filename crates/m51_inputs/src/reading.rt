@@ -4,7 +4,7 @@ ghost use Rattle.std.specs.Option.{option_copied};
 ghost use Rattle.m51_cells.specs.declared.limits.TheConstants.{MOST_FILE_BYTES};
 ghost use Rattle.m51_cells.specs.Outcome.{Gives};
 ghost use Rattle.m51_inputs.specs.Answered.{answers_of, words_of};
-ghost use Rattle.m51_inputs.specs.Inputs.{IsTold, inputs_tree, refusal_of, controls_in, script_in};
+ghost use Rattle.m51_inputs.specs.Inputs.{IsInputsResult, inputs_tree, input_refusal, controls_in, script_in};
 ghost use Rattle.m51_inputs.specs.Steps.{inputs_by};
 
 use crate::error::InputError;
@@ -20,7 +20,7 @@ use std::alloc::Global;
 
 // The control lines of a file, if there is one.
 fn controls_in(alloc: Global, file: Option<&Bytes>) -> Result<Controls, InputError>
-    ensures { Gives (λ controls. controls) refusal_of result (controls_in (option_copied file.entry)) }
+    ensures { Gives (λ controls. controls) input_refusal result (controls_in (option_copied file.entry)) }
 {
     let Some(bytes) = file else {
         return Ok(Controls::none(alloc));
@@ -34,7 +34,7 @@ fn controls_in(alloc: Global, file: Option<&Bytes>) -> Result<Controls, InputErr
 
 // The script of a file, or the one without lines.
 fn script_in(alloc: Global, file: Option<&Bytes>) -> Result<Script, InputError>
-    ensures { Gives (λ script. script) refusal_of result (script_in (option_copied file.entry)) }
+    ensures { Gives (λ script. script) input_refusal result (script_in (option_copied file.entry)) }
 {
     let Some(bytes) = file else {
         return Ok(Script::plain(alloc)?);
@@ -58,7 +58,7 @@ fn inputs_with(
 ) -> Result<Inputs, InputError>
     requires count { length contents.now ≡ length sorted.now.endings }
     requires within { All (λ bytes. length bytes ≤ MOST_FILE_BYTES) contents.now }
-    ensures { Gives inputs_tree refusal_of result
+    ensures { Gives inputs_tree input_refusal result
         (inputs_by sorted.now.endings contents.now (option_copied control.entry)
         (option_copied script.entry) (words_of answers) (answers_of answers)) }
 {
@@ -102,7 +102,7 @@ pub fn read_inputs(
     requires count { length contents.now ≡ length files.now }
     requires few { length files.now ≤ 65535 }
     requires within { All (λ bytes. length bytes ≤ MOST_FILE_BYTES) contents.now }
-    ensures { IsTold files.now contents.now (option_copied control.entry) (option_copied script.entry) result }
+    ensures { IsInputsResult files.now contents.now (option_copied control.entry) (option_copied script.entry) result }
 {
     let sorted = sort(alloc, files, contents)?;
     let answers = assemble_sources(alloc, &sorted)?;

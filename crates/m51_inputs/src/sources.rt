@@ -5,7 +5,7 @@ ghost use Rattle.m51_asm.specs.Answer.{IsAnswer, tree_of};
 ghost use Rattle.m51_jobs.specs.Endings.{is_source};
 ghost use Rattle.m51_inputs.specs.Answered.{answers_of, words_of};
 ghost use Rattle.m51_inputs.specs.Files.{sources_of, includes_of};
-ghost use Rattle.m51_inputs.specs.Inputs.{refusal_of};
+ghost use Rattle.m51_inputs.specs.Inputs.{input_refusal};
 ghost use Rattle.m51_inputs.specs.Sorting.{files_in, words_in};
 ghost use Rattle.m51_inputs.specs.Sources.{AreAnswers, module_or_faults, modules_in, faults_in, unless_faults};
 
@@ -91,7 +91,7 @@ fn unless_faults(
     modules: VecDeque<Module>,
     faults: Vec<SourceFaults>,
 ) -> Result<VecDeque<Module>, InputError>
-    ensures { Gives (λ all. all.items) refusal_of result (unless_faults faults.items modules.items) }
+    ensures { Gives (λ all. all.items) input_refusal result (unless_faults faults.items modules.items) }
 {
     if faults.is_empty() {
         Ok(modules)
@@ -105,7 +105,7 @@ pub(crate) fn modules_of(
     alloc: Global,
     answers: ListOf<Answered>,
 ) -> Result<VecDeque<Module>, InputError>
-    ensures { Gives (λ all. all.items) refusal_of result
+    ensures { Gives (λ all. all.items) input_refusal result
         (unless_faults (faults_in (words_of answers) (answers_of answers)) (modules_in (answers_of answers))) }
 {
     let mut left = VecDeque::from(answers.into_vec());

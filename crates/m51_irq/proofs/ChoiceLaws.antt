@@ -7,8 +7,9 @@ use Rattle.m51_flat.specs.declared.state.Cpu.{Cpu}
 use Rattle.m51_flat.specs.declared.state.Source.{Source}
 use Rattle.m51_flat.specs.declared.state.Level.{Level}
 use Rattle.m51_flat.specs.declared.state.Level.TheVariants.{Low, High}
-use Rattle.m51_irq.specs.Sources.{asks, level_of, number_of}
-use Rattle.m51_irq.specs.Choice.{IsReady, IsTaken, asks_at, chosen, first_asking, is_allowed, is_same_level, or_else}
+use Rattle.m51_irq.specs.Sources.{asks, level_of, enable_bit}
+use Rattle.m51_irq.specs.Choice.{MayInterrupt, IsTaken, asks_at, chosen, first_asking, is_allowed, is_same_level}
+use Rattle.m51_irq.specs.Choice.{or_else}
 use Rattle.m51_irq.specs.Choice.{turn_in, turn_of}
 use Rattle.m51_irq.specs.Laws.{FirstIsChosen, NoneOverHigh}
 use Rattle.m51_irq.proofs.Finding.{Found, IsFirst, below_6, found, same_source}
@@ -45,21 +46,21 @@ two_values false h k = absurd (cc)
 
 -- the order of a source of the high level, and of one of the low level where none of the high level asks
 high_first : (cpu : Cpu) (s t : Source) (l : Level) → IsFirst (asks_at cpu High) s → level_of cpu s ≡ High
-    → level_of cpu t ≡ l → IsReady cpu t → turn_of cpu s ≤ turn_of cpu t
+    → level_of cpu t ≡ l → MayInterrupt cpu t → turn_of cpu s ≤ turn_of cpu t
 high_first cpu s t High first is there ready =
     let order = first.least t (asks_in cpu High t ready.asking there) in
-    omega (arith, order, ap (λ l. turn_in l (number_of s)) is, ap (λ l. turn_in l (number_of t)) there)
+    omega (arith, order, ap (λ l. turn_in l (enable_bit s)) is, ap (λ l. turn_in l (enable_bit t)) there)
 high_first cpu s t Low first is there ready =
-    omega (arith, below_6 s, ap (λ l. turn_in l (number_of s)) is, ap (λ l. turn_in l (number_of t)) there)
+    omega (arith, below_6 s, ap (λ l. turn_in l (enable_bit s)) is, ap (λ l. turn_in l (enable_bit t)) there)
 
 low_first : (cpu : Cpu) (s t : Source) (l : Level) → ((u : Source) → asks_at cpu High u ≡ false)
-    → IsFirst (asks_at cpu Low) s → level_of cpu s ≡ Low → level_of cpu t ≡ l → IsReady cpu t
+    → IsFirst (asks_at cpu Low) s → level_of cpu s ≡ Low → level_of cpu t ≡ l → MayInterrupt cpu t
     → turn_of cpu s ≤ turn_of cpu t
 low_first cpu s t High none first is there ready =
     two_values (asks_at cpu High t) (asks_in cpu High t ready.asking there) (none t)
 low_first cpu s t Low none first is there ready =
     let order = first.least t (asks_in cpu Low t ready.asking there) in
-    omega (arith, order, ap (λ l. turn_in l (number_of s)) is, ap (λ l. turn_in l (number_of t)) there)
+    omega (arith, order, ap (λ l. turn_in l (enable_bit s)) is, ap (λ l. turn_in l (enable_bit t)) there)
 
 high_taken : (cpu : Cpu) (s : Source) → cpu.held ≡ false → cpu.high ≡ false → IsFirst (asks_at cpu High) s
     → IsTaken cpu s
@@ -107,7 +108,7 @@ is_taken cpu s h = taken cpu s cpu.held cpu.high cpu.low (first_asking cpu High)
 -- where nothing is chosen though interrupts are not held off, no source is ready
 low_unready : {X : Type 0} (cpu : Cpu) (s : Source) (l : Level) (low : Bool) (b : Option Source) → cpu.low ≡ low
     → ((u : Source) → asks_at cpu High u ≡ false) → Found (asks_at cpu Low) b → cond low None b ≡ None
-    → level_of cpu s ≡ l → IsReady cpu s → X
+    → level_of cpu s ≡ l → MayInterrupt cpu s → X
 low_unready cpu s High low b g none q h is ready =
     two_values (asks_at cpu High s) (asks_in cpu High s ready.asking is) (none s)
 low_unready cpu s Low true b g none q h is ready =
@@ -118,7 +119,7 @@ low_unready cpu s Low false (Some u) g none q h is ready = absurd (cc)
 
 unready : {X : Type 0} (cpu : Cpu) (s : Source) (held high low : Bool) (a b : Option Source) → cpu.held ≡ held
     → cpu.high ≡ high → cpu.low ≡ low → Found (asks_at cpu High) a → Found (asks_at cpu Low) b
-    → choice held high low a b ≡ None → cpu.held ≡ false → IsReady cpu s → X
+    → choice held high low a b ≡ None → cpu.held ≡ false → MayInterrupt cpu s → X
 unready cpu s true high low a b e f g p q h free ready = two_values cpu.held e free
 unready cpu s false true low a b e f g p q h free ready =
     two_values (is_allowed cpu (level_of cpu s)) ready.allowed (none_over_high cpu (level_of cpu s) f)
@@ -127,7 +128,7 @@ unready cpu s false false low None b e f g p q h free ready =
     low_unready cpu s (level_of cpu s) low b g p q h refl ready
 
 -- two sources with the same turn are the same
-same_turn : (s t : Source) (l m : Level) → turn_in l (number_of s) ≡ turn_in m (number_of t) → s ≡ t
+same_turn : (s t : Source) (l m : Level) → turn_in l (enable_bit s) ≡ turn_in m (enable_bit t) → s ≡ t
 same_turn s t Low Low h = same_source s t (omega (arith, h))
 same_turn s t High High h = same_source s t h
 same_turn s t Low High h = absurd (omega (arith, h, below_6 t))

@@ -7,7 +7,7 @@ use Rattle.m51_flat.specs.declared.state.Source.{Source}
 use Rattle.m51_flat.specs.declared.state.Level.{Level}
 use Rattle.m51_flat.specs.declared.state.Level.TheVariants.{Low, High}
 use Rattle.m51_flat.specs.Sfr.{flag}
-use Rattle.m51_irq.specs.Sources.{asks, has_flag, level_of, number_of, sources}
+use Rattle.m51_irq.specs.Sources.{asks, has_flag, level_of, enable_bit, sources}
 use Rattle.m51_irq.specs.Choice.{asks_at, chosen, first_asking, is_same_level, or_else}
 
 never : (a b c : Bool) → (a && (false && b)) && c ≡ false
@@ -17,8 +17,8 @@ never false b c = refl
 none_asks : (cpu : Cpu) → flag cpu 168 7 ≡ false → (l : Level) (s : Source) → asks_at cpu l s ≡ false
 unfolding asks
 none_asks cpu h l s =
-    ap (λ e. (has_flag cpu s && (e && flag cpu 168 (number_of s))) && is_same_level (level_of cpu s) l) h
-    ∙ never (has_flag cpu s) (flag cpu 168 (number_of s)) (is_same_level (level_of cpu s) l)
+    ap (λ e. (has_flag cpu s && (e && flag cpu 168 (enable_bit s))) && is_same_level (level_of cpu s) l) h
+    ∙ never (has_flag cpu s) (flag cpu 168 (enable_bit s)) (is_same_level (level_of cpu s) l)
 
 none_found : (p : Source → Bool) → ((s : Source) → p s ≡ false) → (xs : List Source) → find p xs ≡ None
 none_found p h [] = refl

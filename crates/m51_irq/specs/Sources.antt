@@ -13,13 +13,13 @@ abbrev pub sources : List Source
 sources = Ie0 ∷ Tf0 ∷ Ie1 ∷ Tf1 ∷ Serial ∷ Timer2 ∷ []
 
 -- the bit of IE that enables a source, and of IP that gives it the high level
-abbrev pub number_of : Source → ℕ
-number_of Ie0 = 0
-number_of Tf0 = 1
-number_of Ie1 = 2
-number_of Tf1 = 3
-number_of Serial = 4
-number_of Timer2 = 5
+abbrev pub enable_bit : Source → ℕ
+enable_bit Ie0 = 0
+enable_bit Tf0 = 1
+enable_bit Ie1 = 2
+enable_bit Tf1 = 3
+enable_bit Serial = 4
+enable_bit Timer2 = 5
 
 -- its flag is 1: IE0, TF0, IE1, TF1, RI or TI, TF2 or EXF2
 unfoldable pub has_flag : Cpu → Source → Bool
@@ -32,7 +32,7 @@ has_flag cpu Timer2 = flag cpu t2con tf2 || flag cpu t2con exf2
 
 -- EA and its own enable are 1
 abbrev pub is_enabled : Cpu → Source → Bool
-is_enabled cpu s = flag cpu ie ea && flag cpu ie (number_of s)
+is_enabled cpu s = flag cpu ie ea && flag cpu ie (enable_bit s)
 
 -- it asks: its flag, its enable and EA are 1
 unfoldable pub asks : Cpu → Source → Bool
@@ -40,4 +40,4 @@ asks cpu s = has_flag cpu s && is_enabled cpu s
 
 -- it has the high level where its bit of IP is 1
 unfoldable pub level_of : Cpu → Source → Level
-level_of cpu s = if flag cpu ip (number_of s) then High else Low
+level_of cpu s = if flag cpu ip (enable_bit s) then High else Low

@@ -17,7 +17,7 @@ pub fn none_is_taken_at_once()
 {}
 
 /// A source is chosen exactly if interrupts are not held off, it asks and the levels in progress allow it, and no other
-/// such source has a higher level, or the same level and an earlier place in the order.
+/// such source has a higher level, or the same level and an earlier index in the order.
 ///
 /// Source: family manual.
 pub fn the_first_that_may_be_taken_is_chosen()

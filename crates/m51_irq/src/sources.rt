@@ -1,6 +1,6 @@
 //! The sources of interrupts.
 ghost use Rattle.std.specs.Prelude.{◌≡◌, ◌<◌};
-ghost use Rattle.m51_irq.specs.Sources.{asks, has_flag, is_enabled, level_of, number_of};
+ghost use Rattle.m51_irq.specs.Sources.{asks, has_flag, is_enabled, level_of, enable_bit};
 
 use m51_flat::{Cpu, Level, Source};
 use m51_sfr::addresses::{IE, IP, SCON, T2CON, TCON};
@@ -8,7 +8,7 @@ use m51_sfr::bits::{EA, EXF2, IE0, IE1, RI, TF0, TF1, TF2, TI};
 
 // The bit of IE that enables a source, and of IP that gives it the high level.
 fn number(source: Source) -> u8
-    ensures value { result ≡ number_of source }
+    ensures value { result ≡ enable_bit source }
     ensures bit { result < 6 }
 {
     match source {

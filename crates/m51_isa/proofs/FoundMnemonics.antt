@@ -14,7 +14,7 @@ use Rattle.m51_isa.specs.Spelling.{text_of}
 use Rattle.m51_isa.specs.Generic.{generic}
 use Rattle.m51_isa.specs.Search.{row_or, search, has_row, row_for}
 use Rattle.m51_isa.specs.Mnemonics.{is_mnemonic}
-use Rattle.m51_isa.specs.TextLaws.{IsWritten}
+use Rattle.m51_isa.specs.TextLaws.{HasRowText}
 use Rattle.m51_isa.proofs.RowsWritten.{found_rows_are_written}
 
 -- the mnemonic of a row is one
@@ -23,7 +23,7 @@ unfolding is_mnemonic
 row_has_mnemonic Nop = refl
 row_has_mnemonic i = refl
 
-found_has_mnemonic : (word : List ℕ) (a b c : Look) (o : Option Instr) → IfSome o (IsWritten word a b c)
+found_has_mnemonic : (word : List ℕ) (a b c : Look) (o : Option Instr) → IfSome o (HasRowText word a b c)
     → is_some o ≡ true → is_mnemonic word ≡ true
 found_has_mnemonic word a b c (Some i) h s = subst (λ w. is_mnemonic w ≡ true) h.mnemonic (row_has_mnemonic i)
 found_has_mnemonic word a b c None h s = absurd (cc s)

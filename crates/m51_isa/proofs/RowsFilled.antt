@@ -13,7 +13,7 @@ use Rattle.m51_isa.specs.Spelling.{look_of, text_of}
 use Rattle.m51_isa.specs.Filling.{with_numbers}
 use Rattle.m51_isa.specs.Generic.{generic, jump_row}
 use Rattle.m51_isa.specs.Search.{row_or, search, row_for}
-use Rattle.m51_isa.specs.TextLaws.{HasText, IsWritten, meant_by, TextsAreRows}
+use Rattle.m51_isa.specs.TextLaws.{HasText, HasRowText, meant_by, TextsAreRows}
 use Rattle.m51_isa.proofs.RowsFound.{rows_are_found}
 use Rattle.m51_isa.proofs.RowsWritten.{as_is, found_rows_are_written}
 
@@ -29,7 +29,7 @@ rows_are_apart Nop = refl
 rows_are_apart i = refl
 
 jump_written : (verb : Verb) (form : Jump)
-    → IsWritten (text_of (jump_row verb form)).mnemonic Plain Nothing Nothing (jump_row verb form)
+    → HasRowText (text_of (jump_row verb form)).mnemonic Plain Nothing Nothing (jump_row verb form)
 jump_written Jmp Short = as_is (jump_row Jmp Short)
 jump_written Jmp Block = as_is (jump_row Jmp Block)
 jump_written Jmp Long = as_is (jump_row Jmp Long)
@@ -38,19 +38,19 @@ jump_written Call Block = as_is (jump_row Call Block)
 jump_written Call Long = as_is (jump_row Call Long)
 
 by_verb : (word : List ℕ) (form : Jump) (a b c : Look) (v : Option Verb) (o : Option Instr)
-    → IfSome o (IsWritten word a b c)
-    → ((verb : Verb) → v ≡ Some verb → IsWritten (text_of (jump_row verb form)).mnemonic a b c (jump_row verb form))
-    → IfSome (row_or form v o) (IsWritten (meant_by word form v) a b c)
+    → IfSome o (HasRowText word a b c)
+    → ((verb : Verb) → v ≡ Some verb → HasRowText (text_of (jump_row verb form)).mnemonic a b c (jump_row verb form))
+    → IfSome (row_or form v o) (HasRowText (meant_by word form v) a b c)
 by_verb word form a b c None o h go = h
 by_verb word form a b c (Some verb) o h go = go verb refl
 
 generic_written : (word : List ℕ) (form : Jump) (a b c : Look) (verb : Verb) → generic word a b c ≡ Some verb
-    → IsWritten (text_of (jump_row verb form)).mnemonic a b c (jump_row verb form)
+    → HasRowText (text_of (jump_row verb form)).mnemonic a b c (jump_row verb form)
 generic_written word form Plain Nothing Nothing verb is = jump_written verb form
 generic_written word form a b c verb is = absurd (cc is)
 
 rows_are_meant : (word : List ℕ) (form : Jump) (a b c : Look)
-    → IfSome (row_for word form a b c) (IsWritten (meant_by word form (generic word a b c)) a b c)
+    → IfSome (row_for word form a b c) (HasRowText (meant_by word form (generic word a b c)) a b c)
 rows_are_meant word form a b c =
     by_verb word form a b c (generic word a b c) (search word a b c) (found_rows_are_written word a b c)
     (generic_written word form a b c)

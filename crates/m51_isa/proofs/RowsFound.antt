@@ -9,16 +9,16 @@ use Rattle.m51_isa.specs.Moves.{moves}
 use Rattle.m51_isa.specs.Branches.{branches}
 use Rattle.m51_isa.specs.Jumps.{jumps}
 use Rattle.m51_isa.specs.Spelling.{text_of}
-use Rattle.m51_isa.specs.TextLaws.{number_in, HasNumbers, read_text}
+use Rattle.m51_isa.specs.TextLaws.{number_of_slot, HasNumbers, read_text}
 
 -- a row with one field, and with two, is the same with the same numbers
-one : (f : ℕ → Instr) {s t : Slot} → s ≡ t → Some (f (number_in s)) ≡ Some (f (number_in t))
-one f e = ap (λ s. Some (f (number_in s))) e
+one : (f : ℕ → Instr) {s t : Slot} → s ≡ t → Some (f (number_of_slot s)) ≡ Some (f (number_of_slot t))
+one f e = ap (λ s. Some (f (number_of_slot s))) e
 
 two : (f : ℕ → ℕ → Instr) {s t u v : Slot} → s ≡ t → u ≡ v
-    → Some (f (number_in s) (number_in u)) ≡ Some (f (number_in t) (number_in v))
-two f {s} {t} {u} {v} e h = ap (λ n. Some (f (number_in n) (number_in u))) e
-    ∙ ap (λ n. Some (f (number_in t) (number_in n))) h
+    → Some (f (number_of_slot s) (number_of_slot u)) ≡ Some (f (number_of_slot t) (number_of_slot v))
+two f {s} {t} {u} {v} e h = ap (λ n. Some (f (number_of_slot n) (number_of_slot u))) e
+    ∙ ap (λ n. Some (f (number_of_slot t) (number_of_slot n))) h
 
 pub rows_are_found : (i : Instr) → HasNumbers (text_of i) → read_text (text_of i) ≡ Some i
 unfolding arithmetic logic moves branches jumps

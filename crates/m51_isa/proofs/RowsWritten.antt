@@ -9,7 +9,7 @@ use Rattle.m51_isa.specs.declared.instr.Instr.TheVariants as row
 use Rattle.m51_isa.specs.declared.look.Look.{Look}
 use Rattle.m51_isa.specs.declared.look.Look.TheVariants.{Nothing, A, Ab, C, Dptr, APc, ADptr, AtDptr, R, AtR, Imm}
 use Rattle.m51_isa.specs.declared.look.Look.TheVariants.{Plain, NotBit}
-use Rattle.m51_isa.specs.Looks.{alone, accumulator, both, address, bit_and_target}
+use Rattle.m51_isa.specs.Looks.{without_operands, accumulator, both, address, bit_and_target}
 use Rattle.m51_isa.specs.Arithmetic.{add, addc, subb, inc, dec, arithmetic}
 use Rattle.m51_isa.specs.Logic.{anl, orl, xrl, clr, cpl, setb, logic}
 use Rattle.m51_isa.specs.Moves.{mov, movc, movx, xch, xchd, moves}
@@ -17,35 +17,36 @@ use Rattle.m51_isa.specs.Branches.{cjne, djnz, branches}
 use Rattle.m51_isa.specs.Jumps.{jmp, jumps}
 use Rattle.m51_isa.specs.Spelling.{look_of, text_of}
 use Rattle.m51_isa.specs.Search.{search}
-use Rattle.m51_isa.specs.TextLaws.{IsWritten}
+use Rattle.m51_isa.specs.TextLaws.{HasRowText}
 
 -- what this search gives for a mnemonic is written so
 abbrev Writes : List ℕ → (Look → Look → Look → Option Instr) → Type 0
-Writes word row = (a b c : Look) → IfSome (row a b c) (IsWritten word a b c)
+Writes word row = (a b c : Look) → IfSome (row a b c) (HasRowText word a b c)
 
 -- a row is written as it is
 pub as_is : (i : Instr)
-    → IsWritten (text_of i).mnemonic (look_of (text_of i).first) (look_of (text_of i).second)
+    → HasRowText (text_of i).mnemonic (look_of (text_of i).first) (look_of (text_of i).second)
     (look_of (text_of i).third) i
 as_is i = record { mnemonic = refl; first = refl; second = refl; third = refl }
 
-alone_written : (word : List ℕ) (i : Instr) → IsWritten word Nothing Nothing Nothing i → Writes word (alone i)
+alone_written : (word : List ℕ) (i : Instr) → HasRowText word Nothing Nothing Nothing i
+    → Writes word (without_operands i)
 alone_written word i h Nothing Nothing Nothing = h
 alone_written word i h a b c = tt
 
-accumulator_written : (word : List ℕ) (i : Instr) → IsWritten word A Nothing Nothing i → Writes word (accumulator i)
+accumulator_written : (word : List ℕ) (i : Instr) → HasRowText word A Nothing Nothing i → Writes word (accumulator i)
 accumulator_written word i h A Nothing Nothing = h
 accumulator_written word i h a b c = tt
 
-both_written : (word : List ℕ) (i : Instr) → IsWritten word Ab Nothing Nothing i → Writes word (both i)
+both_written : (word : List ℕ) (i : Instr) → HasRowText word Ab Nothing Nothing i → Writes word (both i)
 both_written word i h Ab Nothing Nothing = h
 both_written word i h a b c = tt
 
-address_written : (word : List ℕ) (i : Instr) → IsWritten word Plain Nothing Nothing i → Writes word (address i)
+address_written : (word : List ℕ) (i : Instr) → HasRowText word Plain Nothing Nothing i → Writes word (address i)
 address_written word i h Plain Nothing Nothing = h
 address_written word i h a b c = tt
 
-bit_and_target_written : (word : List ℕ) (i : Instr) → IsWritten word Plain Plain Nothing i
+bit_and_target_written : (word : List ℕ) (i : Instr) → HasRowText word Plain Plain Nothing i
     → Writes word (bit_and_target i)
 bit_and_target_written word i h Plain Plain Nothing = h
 bit_and_target_written word i h a b c = tt
@@ -202,10 +203,10 @@ either : (P : Instr → Type 0) (x y : Option Instr) → IfSome x P → IfSome y
 either P None y h k = k
 either P (Some i) y h k = h
 
-arithmetic_written : (word : List ℕ) (a b c : Look) → IfSome (arithmetic word a b c) (IsWritten word a b c)
+arithmetic_written : (word : List ℕ) (a b c : Look) → IfSome (arithmetic word a b c) (HasRowText word a b c)
 unfolding arithmetic
 arithmetic_written word a b c =
-    let P : List ℕ → Instr → Type 0 = λ w. IsWritten w a b c in
+    let P : List ℕ → Instr → Type 0 = λ w. HasRowText w a b c in
     by_word (codes "ADD") word P (add a b c) _ (bytes_eq word (codes "ADD")) refl (add_written a b c) (
     by_word (codes "ADDC") word P (addc a b c) _ (bytes_eq word (codes "ADDC")) refl (addc_written a b c) (
     by_word (codes "SUBB") word P (subb a b c) _ (bytes_eq word (codes "SUBB")) refl (subb_written a b c) (
@@ -219,10 +220,10 @@ arithmetic_written word a b c =
     (accumulator_written (codes "DA") row.DaA (as_is row.DaA) a b c) (
     tt))))))))
 
-logic_written : (word : List ℕ) (a b c : Look) → IfSome (logic word a b c) (IsWritten word a b c)
+logic_written : (word : List ℕ) (a b c : Look) → IfSome (logic word a b c) (HasRowText word a b c)
 unfolding logic
 logic_written word a b c =
-    let P : List ℕ → Instr → Type 0 = λ w. IsWritten w a b c in
+    let P : List ℕ → Instr → Type 0 = λ w. HasRowText w a b c in
     by_word (codes "ANL") word P (anl a b c) _ (bytes_eq word (codes "ANL")) refl (anl_written a b c) (
     by_word (codes "ORL") word P (orl a b c) _ (bytes_eq word (codes "ORL")) refl (orl_written a b c) (
     by_word (codes "XRL") word P (xrl a b c) _ (bytes_eq word (codes "XRL")) refl (xrl_written a b c) (
@@ -241,10 +242,10 @@ logic_written word a b c =
     (accumulator_written (codes "SWAP") row.SwapA (as_is row.SwapA) a b c) (
     tt)))))))))))
 
-moves_written : (word : List ℕ) (a b c : Look) → IfSome (moves word a b c) (IsWritten word a b c)
+moves_written : (word : List ℕ) (a b c : Look) → IfSome (moves word a b c) (HasRowText word a b c)
 unfolding moves
 moves_written word a b c =
-    let P : List ℕ → Instr → Type 0 = λ w. IsWritten w a b c in
+    let P : List ℕ → Instr → Type 0 = λ w. HasRowText w a b c in
     by_word (codes "MOV") word P (mov a b c) _ (bytes_eq word (codes "MOV")) refl (mov_written a b c) (
     by_word (codes "MOVC") word P (movc a b c) _ (bytes_eq word (codes "MOVC")) refl (movc_written a b c) (
     by_word (codes "MOVX") word P (movx a b c) _ (bytes_eq word (codes "MOVX")) refl (movx_written a b c) (
@@ -256,10 +257,10 @@ moves_written word a b c =
     (address_written (codes "POP") (row.PopDirect 0) (as_is (row.PopDirect 0)) a b c) (
     tt)))))))
 
-branches_written : (word : List ℕ) (a b c : Look) → IfSome (branches word a b c) (IsWritten word a b c)
+branches_written : (word : List ℕ) (a b c : Look) → IfSome (branches word a b c) (HasRowText word a b c)
 unfolding branches
 branches_written word a b c =
-    let P : List ℕ → Instr → Type 0 = λ w. IsWritten w a b c in
+    let P : List ℕ → Instr → Type 0 = λ w. HasRowText w a b c in
     by_word (codes "CJNE") word P (cjne a b c) _ (bytes_eq word (codes "CJNE")) refl (cjne_written a b c) (
     by_word (codes "DJNZ") word P (djnz a b c) _ (bytes_eq word (codes "DJNZ")) refl (djnz_written a b c) (
     by_word (codes "JB") word P (bit_and_target (row.JbBitRel 0 0) a b c) _ (bytes_eq word (codes "JB")) refl
@@ -278,10 +279,10 @@ branches_written word a b c =
     (address_written (codes "JNZ") (row.JnzRel 0) (as_is (row.JnzRel 0)) a b c) (
     tt)))))))))
 
-jumps_written : (word : List ℕ) (a b c : Look) → IfSome (jumps word a b c) (IsWritten word a b c)
+jumps_written : (word : List ℕ) (a b c : Look) → IfSome (jumps word a b c) (HasRowText word a b c)
 unfolding jumps
 jumps_written word a b c =
-    let P : List ℕ → Instr → Type 0 = λ w. IsWritten w a b c in
+    let P : List ℕ → Instr → Type 0 = λ w. HasRowText w a b c in
     by_word (codes "ACALL") word P (address (row.AcallAddr11 0) a b c) _ (bytes_eq word (codes "ACALL")) refl
     (address_written (codes "ACALL") (row.AcallAddr11 0) (as_is (row.AcallAddr11 0)) a b c) (
     by_word (codes "AJMP") word P (address (row.AjmpAddr11 0) a b c) _ (bytes_eq word (codes "AJMP")) refl
@@ -293,17 +294,17 @@ jumps_written word a b c =
     by_word (codes "SJMP") word P (address (row.SjmpRel 0) a b c) _ (bytes_eq word (codes "SJMP")) refl
     (address_written (codes "SJMP") (row.SjmpRel 0) (as_is (row.SjmpRel 0)) a b c) (
     by_word (codes "JMP") word P (jmp a b c) _ (bytes_eq word (codes "JMP")) refl (jmp_written a b c) (
-    by_word (codes "RET") word P (alone row.Ret a b c) _ (bytes_eq word (codes "RET")) refl
+    by_word (codes "RET") word P (without_operands row.Ret a b c) _ (bytes_eq word (codes "RET")) refl
     (alone_written (codes "RET") row.Ret (as_is row.Ret) a b c) (
-    by_word (codes "RETI") word P (alone row.Reti a b c) _ (bytes_eq word (codes "RETI")) refl
+    by_word (codes "RETI") word P (without_operands row.Reti a b c) _ (bytes_eq word (codes "RETI")) refl
     (alone_written (codes "RETI") row.Reti (as_is row.Reti) a b c) (
-    by_word (codes "NOP") word P (alone row.Nop a b c) _ (bytes_eq word (codes "NOP")) refl
+    by_word (codes "NOP") word P (without_operands row.Nop a b c) _ (bytes_eq word (codes "NOP")) refl
     (alone_written (codes "NOP") row.Nop (as_is row.Nop) a b c) (
     tt)))))))))
 
-pub found_rows_are_written : (word : List ℕ) (a b c : Look) → IfSome (search word a b c) (IsWritten word a b c)
+pub found_rows_are_written : (word : List ℕ) (a b c : Look) → IfSome (search word a b c) (HasRowText word a b c)
 found_rows_are_written word a b c =
-    let P : Instr → Type 0 = IsWritten word a b c in
+    let P : Instr → Type 0 = HasRowText word a b c in
     either P (arithmetic word a b c) _ (arithmetic_written word a b c)
     (either P (logic word a b c) _ (logic_written word a b c)
     (either P (moves word a b c) _ (moves_written word a b c)

@@ -5,7 +5,7 @@ use Rattle.m51_isa.specs.declared.instr.Instr.{Instr}
 use Rattle.m51_isa.specs.declared.instr.Instr.TheVariants as row
 use Rattle.m51_isa.specs.declared.look.Look.{Look}
 use Rattle.m51_isa.specs.declared.look.Look.TheVariants.{Nothing, ADptr}
-use Rattle.m51_isa.specs.Looks.{alone, address}
+use Rattle.m51_isa.specs.Looks.{without_operands, address}
 
 -- the row of JMP
 abbrev pub jmp : Look → Look → Look → Option Instr
@@ -21,7 +21,7 @@ jumps word a b c =
     else if bytes_eq word (codes "LJMP") then address (row.LjmpAddr16 0) a b c
     else if bytes_eq word (codes "SJMP") then address (row.SjmpRel 0) a b c
     else if bytes_eq word (codes "JMP") then jmp a b c
-    else if bytes_eq word (codes "RET") then alone row.Ret a b c
-    else if bytes_eq word (codes "RETI") then alone row.Reti a b c
-    else if bytes_eq word (codes "NOP") then alone row.Nop a b c
+    else if bytes_eq word (codes "RET") then without_operands row.Ret a b c
+    else if bytes_eq word (codes "RETI") then without_operands row.Reti a b c
+    else if bytes_eq word (codes "NOP") then without_operands row.Nop a b c
     else None

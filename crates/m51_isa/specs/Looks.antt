@@ -5,9 +5,9 @@ use Rattle.m51_isa.specs.declared.look.Look.{Look}
 use Rattle.m51_isa.specs.declared.look.Look.TheVariants.{Nothing, A, Ab, Plain}
 
 -- this row where there are no operands
-abbrev pub alone : Instr → Look → Look → Look → Option Instr
-alone row Nothing Nothing Nothing = Some row
-alone row _ _ _ = None
+abbrev pub without_operands : Instr → Look → Look → Look → Option Instr
+without_operands row Nothing Nothing Nothing = Some row
+without_operands row _ _ _ = None
 
 -- where A is the only operand
 abbrev pub accumulator : Instr → Look → Look → Look → Option Instr

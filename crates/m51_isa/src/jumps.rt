@@ -3,7 +3,7 @@ ghost use Rattle.std.specs.Prelude.{◌≡◌};
 ghost use Rattle.m51_isa.specs.Jumps.{jmp, jumps};
 
 use crate::instr::Instr;
-use crate::look::{Look, address, alone};
+use crate::look::{Look, address, without_operands};
 use crate::operand::Address11;
 
 // `JMP`, to what A and DPTR name.
@@ -34,11 +34,11 @@ pub(crate) fn jumps(word: &[u8], a: &Look, b: &Look, c: &Look) -> Option<Instr>
     } else if word == b"JMP".as_slice() {
         jmp(a, b, c)
     } else if word == b"RET".as_slice() {
-        alone(Instr::Ret, a, b, c)
+        without_operands(Instr::Ret, a, b, c)
     } else if word == b"RETI".as_slice() {
-        alone(Instr::Reti, a, b, c)
+        without_operands(Instr::Reti, a, b, c)
     } else if word == b"NOP".as_slice() {
-        alone(Instr::Nop, a, b, c)
+        without_operands(Instr::Nop, a, b, c)
     } else {
         None
     }

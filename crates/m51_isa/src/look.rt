@@ -1,6 +1,6 @@
 //! What operands look like.
 ghost use Rattle.std.specs.Prelude.{◌≡◌};
-ghost use Rattle.m51_isa.specs.Looks.{alone, accumulator, both, address, bit_and_target};
+ghost use Rattle.m51_isa.specs.Looks.{without_operands, accumulator, both, address, bit_and_target};
 
 use crate::instr::Instr;
 use crate::operand::{Pointer, Register};
@@ -41,8 +41,8 @@ pub enum Look {
 }
 
 // This row, where there are no operands.
-pub(crate) fn alone(row: Instr, a: &Look, b: &Look, c: &Look) -> Option<Instr>
-    ensures { result ≡ alone row a.now b.now c.now }
+pub(crate) fn without_operands(row: Instr, a: &Look, b: &Look, c: &Look) -> Option<Instr>
+    ensures { result ≡ without_operands row a.now b.now c.now }
 {
     match (a, b, c) {
         (Look::Nothing, Look::Nothing, Look::Nothing) => Some(row),

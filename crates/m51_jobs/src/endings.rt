@@ -3,7 +3,7 @@ ghost use Rattle.std.specs.Prelude.{◌≡◌, map};
 ghost use Rattle.std.specs.Char.{to_ascii_lowercase};
 ghost use Rattle.std.specs.List.{list_all};
 ghost use Rattle.std.specs.Str.{bytes_eq};
-ghost use Rattle.m51_jobs.specs.Endings.{ending_of, last_four, is_source, is_include, is_text, has_ending};
+ghost use Rattle.m51_jobs.specs.Endings.{ending_of, last_four, is_source, is_include, is_text_file, has_ending};
 ghost use Rattle.m51_jobs.specs.Endings.{are_built, are_assembled, is_not_empty, are_objects, are_boards};
 ghost use Rattle.m51_jobs.specs.Texts.{lent};
 
@@ -86,8 +86,8 @@ pub fn is_include(name: &str) -> bool
 }
 
 // Whether the file is a source or an include.
-fn is_text(name: &str) -> bool
-    ensures { result ≡ is_text name.now }
+fn is_text_file(name: &str) -> bool
+    ensures { result ≡ is_text_file name.now }
 {
     match ending_of(name) {
         Some(Ending::Source) | Some(Ending::Include) => true,
@@ -126,7 +126,7 @@ pub fn are_assembled(files: &[&str]) -> bool
 {
     let mut sources: usize = 0;
     for name in files {
-        if !is_text(name) {
+        if !is_text_file(name) {
             return false;
         }
         if is_source(name) {

@@ -4,7 +4,7 @@ ghost use Rattle.std.specs.Char.{is_ascii_digit};
 ghost use Rattle.std.specs.List.{list_all};
 ghost use Rattle.m51_cells.specs.declared.limits.TheConstants.{MOST_STEPS};
 ghost use Rattle.m51_jobs.specs.declared.numbers.TheConstants.{MOST_GENERATED_UNITS};
-ghost use Rattle.m51_jobs.specs.Numbers.{number_of, steps_of, start_of, units_of};
+ghost use Rattle.m51_jobs.specs.Numbers.{decimal_within, steps_of, start_of, units_of};
 
 use m51_cells::MOST_STEPS;
 use std::marker::Model;
@@ -72,9 +72,9 @@ fn is_digits(text: &[u8]) -> bool
 }
 
 // A number in decimal: 1 to `most` digits, and a value from `low` to `high`.
-#[tactic(auto, unfolding(crate::specs::Numbers::number_of))]
-fn number_of(text: &str, most: usize, low: u32, high: u32) -> Option<u32>
-    ensures value { result ≡ number_of most low high text.now }
+#[tactic(auto, unfolding(crate::specs::Numbers::decimal_within))]
+fn decimal_within(text: &str, most: usize, low: u32, high: u32) -> Option<u32>
+    ensures value { result ≡ decimal_within most low high text.now }
     ensures bounds { IfSome result (λ value. (low ≤ value) × (value ≤ high)) }
 {
     if text.len() > most || !is_digits(text.as_bytes()) {
@@ -92,7 +92,7 @@ fn number_of(text: &str, most: usize, low: u32, high: u32) -> Option<u32>
 pub fn steps_of(text: &str) -> Option<Steps>
     ensures { result ≡ steps_of text.now }
 {
-    Some(Steps::of(number_of(text, STEPS_DIGITS, 1, MOST_STEPS)?))
+    Some(Steps::of(decimal_within(text, STEPS_DIGITS, 1, MOST_STEPS)?))
 }
 
 /// The start of the generator: 1 to 10 digits, of a value below 4,294,967,296; `None` for any other text.
@@ -101,7 +101,7 @@ pub fn steps_of(text: &str) -> Option<Steps>
 pub fn start_of(text: &str) -> Option<u32>
     ensures { result ≡ start_of text.now }
 {
-    number_of(text, START_DIGITS, 0, u32::MAX)
+    decimal_within(text, START_DIGITS, 0, u32::MAX)
 }
 
 /// A number of units: digits with no leading zero, of a value from 1 to 100; `None` for any other text.
@@ -116,5 +116,5 @@ pub fn units_of(text: &str) -> Option<u32>
     if &bytes[..bytes.len().min(1)] == b"0".as_slice() {
         return None;
     }
-    number_of(text, UNITS_DIGITS, 1, MOST_GENERATED_UNITS)
+    decimal_within(text, UNITS_DIGITS, 1, MOST_GENERATED_UNITS)
 }

@@ -16,13 +16,13 @@ abbrev pub semicolon : ℕ
 semicolon = 59
 
 -- one of some characters
-abbrev pub is_among : ℕ → List ℕ → Bool
-is_among byte characters = list_any (λ c. c == byte) characters
+abbrev pub is_character_among : ℕ → List ℕ → Bool
+is_character_among byte characters = list_any (λ c. c == byte) characters
 
 -- a letter, a digit, ? or _
 abbrev pub is_name_byte : ℕ → Bool
-is_name_byte byte = is_ascii_alphanumeric byte || is_among byte (codes "?_")
+is_name_byte byte = is_ascii_alphanumeric byte || is_character_among byte (codes "?_")
 
 -- the twelve signs
 abbrev pub is_sign : ℕ → Bool
-is_sign byte = is_among byte (codes ",:+-*/()#@.$")
+is_sign byte = is_character_among byte (codes ",:+-*/()#@.$")

@@ -51,6 +51,6 @@ lexeme_of rest =
     else Fault BAD_CHARACTER
 
 -- a token has at least one byte, and no more than there are
-abbrev pub Fits : Lexeme → ℕ → Type 0
-Fits (Token what len) most = (0 < len) × (len ≤ most)
-Fits _ most = Unit {0}
+abbrev pub FitsLength : Lexeme → ℕ → Type 0
+FitsLength (Token what len) most = (0 < len) × (len ≤ most)
+FitsLength _ most = Unit {0}

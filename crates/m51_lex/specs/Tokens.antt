@@ -16,7 +16,7 @@ abbrev pub put_front : List Token → Cut → Cut
 put_front front (Ok ts) = Ok (front ++ ts)
 put_front front (Err k) = Err k
 
--- what a lexeme at this place gives; `rest n` is what follows n bytes further on
+-- what a lexeme at this index gives; `rest n` is what follows n bytes further on
 abbrev pub after_lexeme : ℕ → Lexeme → (ℕ → Cut) → Cut
 after_lexeme at lexeme.Blank rest = rest 0
 after_lexeme at lexeme.Comment rest = Ok []
@@ -24,7 +24,7 @@ after_lexeme at (lexeme.Token what len) rest =
     put_front (record { what = what; from = at; to = at + len } ∷ []) (rest (len - 1))
 after_lexeme at (lexeme.Fault k) rest = Err k
 
--- The tokens of the rest of a line, which begins at this place, or the first fault in it. The first bytes of the rest
+-- The tokens of the rest of a line, which begins at this index, or the first fault in it. The first bytes of the rest
 -- are passed over, as many as belong to the token before.
 abbrev pub tokens_at : ℕ → ℕ → List ℕ → Cut
 tokens_at passed at [] = Ok []
@@ -35,7 +35,7 @@ tokens_at zero at (b ∷ rest) = after_lexeme at (lexeme_of (b ∷ rest)) (λ pa
 abbrev pub tokens_of : List ℕ → Cut
 tokens_of line = if nat_lt 255 (length line) then Err LONG_LINE else tokens_at 0 0 line
 
--- Tokens are slices in order, none of them empty, from one place of the line up to another.
+-- Tokens are slices in order, none of them empty, from one index of the line up to another.
 abbrev pub AreSlices : ℕ → ℕ → List Token → Type 0
 AreSlices from to [] = from ≤ to
 AreSlices from to (t ∷ ts) = (from ≤ t.from) × (t.from < t.to) × AreSlices t.to to ts

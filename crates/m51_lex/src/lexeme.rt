@@ -3,7 +3,7 @@ ghost use Rattle.std.specs.Prelude.{◌≡◌, ◌≤◌, ◌<◌, length, slice
 ghost use Rattle.std.specs.Char.{is_ascii_alphanumeric};
 ghost use Rattle.std.specs.List.{prefix_len};
 ghost use Rattle.m51_lex.specs.Characters.{is_name_byte, is_sign};
-ghost use Rattle.m51_lex.specs.Lexeme.{text_len, number_lexeme, name_lexeme, text_lexeme, lexeme_of, Fits};
+ghost use Rattle.m51_lex.specs.Lexeme.{text_len, number_lexeme, name_lexeme, text_lexeme, lexeme_of, FitsLength};
 
 use crate::fault::{BAD_CHARACTER, BAD_NUMBER, LONG_NAME, UNCLOSED_TEXT};
 use crate::number::number_of;
@@ -69,7 +69,7 @@ fn text_len(rest: &[u8]) -> Option<usize>
 fn number_lexeme(rest: &[u8]) -> Lexeme
     requires { IsTrue (is_ascii_alphanumeric (slice_index rest.now 0)) }
     ensures lexeme { result ≡ number_lexeme rest.now }
-    ensures fits { Fits result (length rest.now) }
+    ensures fits { FitsLength result (length rest.now) }
 {
     let len = alphanumeric_len(rest);
     match number_of(&rest[..len]) {
@@ -81,7 +81,7 @@ fn number_lexeme(rest: &[u8]) -> Lexeme
 fn name_lexeme(rest: &[u8]) -> Lexeme
     requires { IsTrue (is_name_byte (slice_index rest.now 0)) }
     ensures lexeme { result ≡ name_lexeme rest.now }
-    ensures fits { Fits result (length rest.now) }
+    ensures fits { FitsLength result (length rest.now) }
 {
     let len = name_len(rest);
     if len > 31 {
@@ -93,7 +93,7 @@ fn name_lexeme(rest: &[u8]) -> Lexeme
 fn text_lexeme(rest: &[u8]) -> Lexeme
     requires { 0 < length rest.now }
     ensures lexeme { result ≡ text_lexeme rest.now }
-    ensures fits { Fits result (length rest.now) }
+    ensures fits { FitsLength result (length rest.now) }
 {
     match text_len(&rest[1..]) {
         Some(len) => Lexeme::Token(What::Text, 1 + len),
@@ -106,7 +106,7 @@ fn text_lexeme(rest: &[u8]) -> Lexeme
 pub(crate) fn lexeme_of(rest: &[u8]) -> Lexeme
     requires { 0 < length rest.now }
     ensures lexeme { result ≡ lexeme_of rest.now }
-    ensures fits { Fits result (length rest.now) }
+    ensures fits { FitsLength result (length rest.now) }
 {
     let byte = rest[0];
     if byte == b' ' || byte == b'\t' {

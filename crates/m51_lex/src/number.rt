@@ -1,10 +1,10 @@
 //! The number that a run of letters and digits writes.
 ghost use Rattle.std.specs.Prelude.{◌≡◌, ◌≤◌, ◌<◌, length};
-ghost use Rattle.m51_lex.specs.Number.{base_of, digits_of, of_16_bits, value_in, number_of};
+ghost use Rattle.m51_lex.specs.Number.{suffix_radix, digits_of, of_16_bits, value_in, number_of};
 
 // The base that the last character of a run names.
-fn base_of(last: u8) -> u32
-    ensures base { result ≡ base_of last }
+fn suffix_radix(last: u8) -> u32
+    ensures base { result ≡ suffix_radix last }
     ensures range { (2 ≤ result) × (result ≤ 16) }
 {
     match last {
@@ -49,5 +49,5 @@ pub(crate) fn number_of(run: &[u8]) -> Option<u16>
     requires { 0 < length run.now }
     ensures { result ≡ number_of run.now }
 {
-    value_in(base_of(run[run.len() - 1]), digits_of(run))
+    value_in(suffix_radix(run[run.len() - 1]), digits_of(run))
 }

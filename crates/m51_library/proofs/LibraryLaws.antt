@@ -1,5 +1,6 @@
 -- What is read of a library is spelled so, and what is spelled so is read.
-use Rattle.std.proofs.Common.{◌≡◌, ℕ, ◌+◌, ◌≤◌, nat_le, true, List, [], ◌∷◌, ◌++◌, length, Ok, refl, sym, ap, ◌∙◌, append-nil}
+use Rattle.std.proofs.Common.{◌≡◌, ℕ, ◌+◌, ◌≤◌, nat_le, true, List, [], ◌∷◌, ◌++◌, length, Ok, refl, sym, ap, ◌∙◌}
+use Rattle.std.proofs.Common.{append-nil}
 use Rattle.std.specs.List.{All, flat_map}
 use Rattle.std.proofs.lemmas.Bool.{le-leb}
 use Rattle.std.proofs.lemmas.List.Elements.{All-head, All-tail}
@@ -22,11 +23,13 @@ use Rattle.m51_library.proofs.Accepting.{accepted}
 
 -- the number of modules is the field that was written
 
-count_takes : (end : ℕ) (contents : List ℕ) (count : ℕ) → IsBytes contents → count_in end contents ≡ Ok count → (contents ≡ pair count) × Unit {0}
+count_takes : (end : ℕ) (contents : List ℕ) (count : ℕ) → IsBytes contents → count_in end contents ≡ Ok count
+    → (contents ≡ pair count) × Unit {0}
 unfolding count_in
 count_takes end contents count fits e =
     on_ok (pair_at end contents) _ count ((contents ≡ pair count) × Unit {0}) (λ found e1 h1.
-    on_ok (checked (nat_le found.0 MOST_MODULES) end contents found.0) _ count ((contents ≡ pair count) × Unit {0}) (λ few e2 h2.
+    on_ok (checked (nat_le found.0 MOST_MODULES) end contents found.0) _ count ((contents ≡ pair count) × Unit {0})
+    (λ few e2 h2.
     let p = pair_takes end contents found fits e1 in
     let c = checked_ok (nat_le found.0 MOST_MODULES) end contents found.0 few e2 in
     let d = ended_ok end found.1 few count h2 in
@@ -39,33 +42,45 @@ count_again end count few =
     rw (mod-add-div count 256, small) refl
 
 -- the first record
-pub first_takes : (total : ℕ) (bytes : List ℕ) (count : ℕ) (rest : List ℕ) → IsBytes bytes → one_at LIBRARY_HEADER count_in total 0 bytes ≡ Ok (count, rest) → bytes ≡ count_record count ++ rest
-first_takes total bytes count rest fits e = (one_takes LIBRARY_HEADER count_in pair (λ _. Unit {0}) total 0 bytes (count, rest) count_takes fits e).bytes_are
+pub first_takes : (total : ℕ) (bytes : List ℕ) (count : ℕ) (rest : List ℕ) → IsBytes bytes
+    → one_at LIBRARY_HEADER count_in total 0 bytes ≡ Ok (count, rest) → bytes ≡ count_record count ++ rest
+first_takes total bytes count rest fits e =
+    (one_takes LIBRARY_HEADER count_in pair (λ _. Unit {0}) total 0 bytes (count, rest) count_takes fits e).bytes_are
 
-first_again : (total count : ℕ) (rest : List ℕ) → count ≤ MOST_MODULES → one_at LIBRARY_HEADER count_in total 0 (count_record count ++ rest) ≡ Ok (count, rest)
-first_again total count rest few = one_again LIBRARY_HEADER count_in (pair count) count total 0 rest (count_again _ count few)
+first_again : (total count : ℕ) (rest : List ℕ) → count ≤ MOST_MODULES
+    → one_at LIBRARY_HEADER count_in total 0 (count_record count ++ rest) ≡ Ok (count, rest)
+first_again total count rest few =
+    one_again LIBRARY_HEADER count_in (pair count) count total 0 rest (count_again _ count few)
 
 -- that record, the modules and nothing else are a library
-pub whole : (bytes rest after : List ℕ) (count : ℕ) (ms kept : List ModuleParts) → bytes ≡ count_record count ++ rest → rest ≡ flat_map bytes_of ms ++ after → length ms ≡ count
+pub whole : (bytes rest after : List ℕ) (count : ℕ) (ms kept : List ModuleParts) → bytes ≡ count_record count ++ rest
+    → rest ≡ flat_map bytes_of ms ++ after → length ms ≡ count
     → (kept ≡ ms) × (after ≡ []) → bytes ≡ library_bytes kept
 whole bytes rest after count ms kept first others so_many same =
-    first ∙ ap (λ (r : List ℕ). count_record count ++ r) (others ∙ ap (λ (r : List ℕ). flat_map bytes_of ms ++ r) same.1 ∙ append-nil (flat_map bytes_of ms))
+    first ∙ ap (λ (r : List ℕ). count_record count ++ r)
+    (others ∙ ap (λ (r : List ℕ). flat_map bytes_of ms ++ r) same.1 ∙ append-nil (flat_map bytes_of ms))
     ∙ ap (λ (n : ℕ). count_record n ++ flat_map bytes_of ms) (sym so_many) ∙ ap library_bytes (sym same.0)
 
 -- the modules
-modules_again : (ms : List ModuleParts) (total number : ℕ) → All IsValid ms → modules_at (length ms) total number (flat_map bytes_of ms) ≡ Ok (ms, [])
+modules_again : (ms : List ModuleParts) (total number : ℕ) → All IsValid ms
+    → modules_at (length ms) total number (flat_map bytes_of ms) ≡ Ok (ms, [])
 unfolding modules_at
 modules_again [] total number valid = refl
 modules_again (m ∷ ms) total number valid =
-    let one : module_at total number (bytes_of m ++ flat_map bytes_of ms) ≡ Ok (m, flat_map bytes_of ms) = module_again m (flat_map bytes_of ms) total number (All-head IsValid m ms valid) in
-    let others : modules_at (length ms) total (number + records_in m) (flat_map bytes_of ms) ≡ Ok (ms, []) = modules_again ms total (number + records_in m) (All-tail IsValid m ms valid) in
+    let one : module_at total number (bytes_of m ++ flat_map bytes_of ms) ≡ Ok (m, flat_map bytes_of ms) =
+    module_again m (flat_map bytes_of ms) total number (All-head IsValid m ms valid) in
+    let others : modules_at (length ms) total (number + records_in m) (flat_map bytes_of ms) ≡ Ok (ms, []) =
+    modules_again ms total (number + records_in m) (All-tail IsValid m ms valid) in
     rw (one, others) refl
 
 -- a library that is spelled is read
-pub library_again : (ms : List ModuleParts) (bytes : List ℕ) → IsLibrary ms → All IsValid ms → bytes ≡ library_bytes ms → library_of bytes ≡ Ok ms
+pub library_again : (ms : List ModuleParts) (bytes : List ℕ) → IsLibrary ms → All IsValid ms → bytes ≡ library_bytes ms
+    → library_of bytes ≡ Ok ms
 unfolding modules_of
 library_again ms bytes library valid is =
     let first : one_at LIBRARY_HEADER count_in (length bytes) 0 bytes ≡ Ok (length ms, flat_map bytes_of ms) =
-    ap (one_at LIBRARY_HEADER count_in (length bytes) 0) is ∙ first_again (length bytes) (length ms) (flat_map bytes_of ms) library.few in
-    let others : modules_at (length ms) (length bytes) 1 (flat_map bytes_of ms) ≡ Ok (ms, []) = modules_again ms (length bytes) 1 valid in
+    ap (one_at LIBRARY_HEADER count_in (length bytes) 0) is
+    ∙ first_again (length bytes) (length ms) (flat_map bytes_of ms) library.few in
+    let others : modules_at (length ms) (length bytes) 1 (flat_map bytes_of ms) ≡ Ok (ms, []) =
+    modules_again ms (length bytes) 1 valid in
     rw (first, others) (accepted [] ms library)

@@ -9,7 +9,7 @@ use Rattle.m51_cells.specs.declared.limits.TheConstants.{MOST_MODULES}
 use Rattle.m51_cells.specs.Outcome.{and_then}
 use Rattle.m51_module.specs.Library.{built}
 use Rattle.m51_records.specs.declared.types.TheConstants.{LIBRARY_HEADER}
-use Rattle.m51_frame.specs.Fields.{◌>>=◌, place, pair_at, checked, ended}
+use Rattle.m51_frame.specs.Fields.{◌>>=◌, offset_of, pair_at, checked, ended}
 use Rattle.m51_records.specs.Reading.{one_at, module_at}
 use Rattle.m51_records.specs.Spelling.{records_in}
 
@@ -32,7 +32,7 @@ modules_at (suc more) total number bytes = do
 -- nothing follows: else O3 at the first byte that does
 abbrev pub at_end : {A : Type 0} → ℕ → List ℕ → A → Result A ObjError
 at_end total [] value = Ok value
-at_end total (byte ∷ rest) value = Err (O3 (place total (byte ∷ rest)))
+at_end total (byte ∷ rest) value = Err (O3 (offset_of total (byte ∷ rest)))
 
 abbrev pub nothing_after : ℕ → ModuleParts × List ℕ → Result ModuleParts ObjError
 nothing_after total found = at_end total found.1 found.0

@@ -9,7 +9,9 @@ ghost use Rattle.m51_library.specs.Reading.{count_in, modules_at, at_end, module
 
 use m51_cells::MOST_MODULES;
 use m51_module::{Module, ObjError};
-use m51_records::{LIBRARY_HEADER, broken, checksum_place, module_at, pair_at, place, record_at};
+use m51_records::{
+    LIBRARY_HEADER, broken, checksum_place, module_at, offset_of, pair_at, record_at,
+};
 use std::alloc::Global;
 
 // The number of modules, from the contents of the first record: they end at that offset. O4 where it is over 255, or
@@ -56,7 +58,7 @@ fn modules_at(
     let mut modules = Vec::new(alloc);
     let mut next = number;
     let mut rest = bytes;
-    for _place in 0..count {
+    for _index in 0..count {
         let (member, after, following) = module_at(alloc, total, next, rest)?;
         modules.push(member)?;
         next = following;
@@ -73,7 +75,7 @@ fn at_end(total: u32, rest: &[u8], modules: Vec<Module>) -> Result<Vec<Module>, 
     match rest {
         [] => Ok(modules),
         _ => Err(ObjError::O3 {
-            at: place(total, rest),
+            at: offset_of(total, rest),
         }),
     }
 }

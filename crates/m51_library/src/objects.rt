@@ -4,7 +4,7 @@ ghost use Rattle.m51_frame.specs.Fields.{Reads};
 ghost use Rattle.m51_library.specs.Reading.{at_end, module_in};
 
 use m51_module::{Module, ObjError};
-use m51_records::{module_at, place};
+use m51_records::{module_at, offset_of};
 use std::alloc::Global;
 
 // The module, where nothing follows it; else O3 at the first byte that does.
@@ -14,7 +14,7 @@ fn at_end(total: u32, rest: &[u8], module: Module) -> Result<Module, ObjError>
     match rest {
         [] => Ok(module),
         _ => Err(ObjError::O3 {
-            at: place(total, rest),
+            at: offset_of(total, rest),
         }),
     }
 }

@@ -5,23 +5,23 @@ use Rattle.std.specs.Prelude.{flat_map, option_to_list}
 use Rattle.std.specs.List.{filter_map, range_with_len}
 use Rattle.std.proofs.lemmas.Bool.Decides.{nat_tests}
 use Rattle.m51_linker.specs.declared.checking.Spot.{Spot}
-use Rattle.m51_linker.specs.Broken.{earlier_of, first_of, least_of}
+use Rattle.m51_linker.specs.Broken.{earlier_of, earlier_spot, least_of}
 use Rattle.m51_linker.proofs.Steps.{modules_more, options_more}
 
 first_first : (one two : Spot) (other : Option Spot)
-    → first_of one (Some (first_of two other)) ≡ first_of (first_of one (Some two)) other
+    → earlier_spot one (Some (earlier_spot two other)) ≡ earlier_spot (earlier_spot one (Some two)) other
 first_first one two None = refl
 first_first one two (Some three) = grind (arith, nat_tests)
 
 earlier_first : (one : Spot) (two other : Option Spot)
-    → first_of one (earlier_of two other) ≡ first_of (first_of one two) other
+    → earlier_spot one (earlier_of two other) ≡ earlier_spot (earlier_spot one two) other
 earlier_first one None other = refl
 earlier_first one (Some two) other = first_first one two other
 
 pub least-append : (xs ys : List Spot) → least_of (xs ++ ys) ≡ earlier_of (least_of xs) (least_of ys)
 least-append [] ys = refl
 least-append (x ∷ xs) ys =
-    ap (λ (o : Option Spot). Some (first_of x o)) (least-append xs ys)
+    ap (λ (o : Option Spot). Some (earlier_spot x o)) (least-append xs ys)
     ∙ ap (λ (s : Spot). Some s) (earlier_first x (least_of xs) (least_of ys))
 
 -- one more spot, which may be missing

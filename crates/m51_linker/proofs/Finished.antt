@@ -12,8 +12,8 @@ use Rattle.m51_graph.specs.declared.parts.GraphParts.{GraphParts}
 use Rattle.m51_graph.specs.Graph.{AreRootBits}
 use Rattle.m51_place.specs.declared.placing.Placing.{Placing}
 use Rattle.m51_linker.specs.Image.{content_of, IsFilled}
-use Rattle.m51_linker.specs.Link.{AreRoots, IsInside}
-use Rattle.m51_linker.specs.Memory.{AreBytes, IsHeldBelow}
+use Rattle.m51_linker.specs.Link.{AreRoots, IsRunInMemory}
+use Rattle.m51_linker.specs.Memory.{HoldsStretches, IsHeldBelow}
 use Rattle.m51_linker.specs.Runs.{AreRuns}
 use Rattle.m51_linker.proofs.RunsGrow.{ends_below, same_runs}
 
@@ -41,7 +41,7 @@ roots_whole g count roots all is len whole each =
 
 -- the runs of the bytes of the content
 pub runs_are : (modules : List ModuleParts) (placing : Placing) (content : List (Option ℕ)) (runs : List Run)
-    → AreBytes (content_of modules placing) content
+    → HoldsStretches (content_of modules placing) content
     → AreRuns (IsHeldBelow content 65536) runs → AreRuns (IsFilled modules placing) runs
 runs_are modules placing content runs bytes =
     same_runs (IsHeldBelow content 65536) (IsFilled modules placing) runs
@@ -49,7 +49,7 @@ runs_are modules placing content runs bytes =
     (λ address h. record { below = h.inside; held = ap is_some (bytes.each address) ∙ h.filled })
 
 pub runs_inside : (content : List (Option ℕ)) (runs : List Run) → AreRuns (IsHeldBelow content 65536) runs
-    → All IsInside runs
+    → All IsRunInMemory runs
 runs_inside content runs h k d below = record {
   some = (h.whole k d below).some;
   inside = ends_below (IsHeldBelow content 65536) 65536 (λ address held. held.below) (get_or runs k d)

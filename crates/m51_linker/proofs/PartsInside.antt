@@ -83,8 +83,8 @@ module _ (before : List Segment) (s : Segment) (after : List Segment) where
         plus_none : (n : ℕ) → n ≡ n + 0
         plus_none n = omega arith
 
-  first_of : IsFirstOf (before ++ s ∷ after) before s
-  first_of = first_by (position (are_parts s) (firsts before)) refl
+  earlier_spot : IsFirstOf (before ++ s ∷ after) before s
+  earlier_spot = first_by (position (are_parts s) (firsts before)) refl
 
   -- it lies inside
   end_by : (r : Bool) (f : Segment) → is_relocatable s.reloc ≡ r → (f ≡ s) ⊎ (are_parts s f ≡ true)
@@ -179,7 +179,7 @@ module _ (modules : List ModuleParts) (resolved : AreResolved modules) (m : ℕ)
       → IsPartOf modules m s segment
   of_part segment s before after whole value =
       let all : List Segment = all_segments modules in
-      let first = first_of before segment after in
+      let first = earlier_spot before segment after in
       let f : Segment = first.f in
       let k : ℕ = (part_after before segment).number in
       let at : slice_get (firsts all) k ≡ Some f = ap (λ (xs : List Segment). slice_get (firsts xs) k) whole

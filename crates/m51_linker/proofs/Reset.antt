@@ -23,7 +23,7 @@ use Rattle.m51_graph.specs.Leading.{leads}
 use Rattle.m51_graph.specs.Units.{code_segments, unit_titles, units_of}
 use Rattle.m51_place.specs.declared.numbered.Numbered.{Numbered}
 use Rattle.m51_place.specs.declared.placing.Placing.{Placing}
-use Rattle.m51_place.specs.Placement.{located_of, place_of, placing_from, placing_of, placing_with}
+use Rattle.m51_place.specs.Placement.{located_of, joined_index, placing_from, placing_of, placing_with}
 use Rattle.m51_place.specs.Places.{ArePlaces}
 use Rattle.m51_place.proofs.Ranks.{from_start}
 use Rattle.m51_place.proofs.Segments.{graph_is}
@@ -74,23 +74,23 @@ located_by modules controls g placing (Ok located) h =
 located_by modules controls g placing (Err refusal) h = absurd (cc h)
 
 module _ (modules : List ModuleParts) (controls : List (ℕ × Control)) (g : GraphParts) (placing : Placing)
-    (graph : graph_of modules controls ≡ Ok g) (places : placing_of modules controls g ≡ Ok placing) where
+    (graph : graph_of modules controls ≡ Ok g) (placing_is : placing_of modules controls g ≡ Ok placing) where
   abbrev segments : List JoinedSegment
   segments = segments_of modules
 
   is_located : IsLocated modules controls g placing
-  is_located = located_by modules controls g placing (located_of modules controls g) places
+  is_located = located_by modules controls g placing (located_of modules controls g) placing_is
 
   -- the unit that is the joined segment of that number
   unit_is : (unit n : ℕ) → slice_get g.units unit ≡ Some n → n < length segments
-      → slice_get placing.layout.units unit ≡ Some (slice_index placing.places n)
+      → slice_get placing.layout.units unit ≡ Some (slice_index placing.indices n)
   unit_is unit n at below =
-      let place : ℕ → ℕ = place_of is_located.located in
-      let index : slice_index placing.places n ≡ place n =
-      ap (λ (p : Placing). slice_index p.places n) is_located.is
-      ∙ get_or-map-range_with_len place 0 (length segments) n n 0 below (omega arith) in
-      ap (λ (p : Placing). slice_get p.layout.units unit) is_located.is ∙ slice_get-map place g.units unit
-      ∙ ap (option_map place) at
+      let index_at : ℕ → ℕ = joined_index is_located.located in
+      let index : slice_index placing.indices n ≡ index_at n =
+      ap (λ (p : Placing). slice_index p.indices n) is_located.is
+      ∙ get_or-map-range_with_len index_at 0 (length segments) n n 0 below (omega arith) in
+      ap (λ (p : Placing). slice_get p.layout.units unit) is_located.is ∙ slice_get-map index_at g.units unit
+      ∙ ap (option_map index_at) at
       ∙ ap (λ (k : ℕ). Some k) (sym index)
 
   reset_at : ArePlaces segments placing → (unit : ℕ) → Contains g.roots (0, unit) → IsRootAt placing.layout 0 unit
@@ -110,7 +110,7 @@ module _ (modules : List ModuleParts) (controls : List (ℕ × Control)) (g : Gr
         vector_is = (0, omega arith, refl);
         is = at.placed;
         unit_is = record {
-          segment = slice_index placing.places n;
+          segment = slice_index placing.indices n;
           unit_is = unit_is unit n in_units (slice_get_within segments n root.j of.1.segment);
           placed = at.there;
         };

@@ -18,7 +18,7 @@ use Rattle.m51_resolve.specs.Joining.{part_of}
 use Rattle.m51_graph.proofs.Drawn.{field_there, fixup_target_there}
 use Rattle.m51_place.specs.declared.placing.Placing.{Placing}
 use Rattle.m51_linker.specs.Ready.{ArePlaced, IsFixupPlaced}
-use Rattle.m51_linker.specs.Targets.{address_of, base_of, start_of}
+use Rattle.m51_linker.specs.Targets.{address_of, joined_base, segment_address}
 use Rattle.m51_linker.proofs.PartsInside.{IsPartOf, part_inside}
 
 -- the number of the last byte of a field
@@ -62,11 +62,11 @@ module _ (modules : List ModuleParts) (placing : Placing) (placed : ArePlaced mo
 
   -- a segment of program memory ends in it
   segment_room : (s : ℕ) (segment : Segment) → numbered parts.segments s ≡ Some segment → segment.kind ≡ Code
-      → start_of modules placing m s + segment.size ≤ 65536
+      → segment_address modules placing m s + segment.size ≤ 65536
   segment_room s segment is code =
       let part : IsPartOf modules m s segment = part_inside modules placed.resolved m parts here s segment is in
-      let at = placed.places.each (part_of modules m s).0 part.j part.at in
-      let base : base_of placing (part_of modules m s).0 ≡ at.placed.base =
+      let at = placed.indices.each (part_of modules m s).0 part.j part.at in
+      let base : joined_base placing (part_of modules m s).0 ≡ at.placed.base =
       ap (λ (o : Option Placed). option_map_or (λ (p : Placed). p.base) o 0) at.there in
       let room : at.placed.base + at.placed.size ≤ 65536 = at.is.room (at.is.kind ∙ part.kind ∙ code) in
       omega (arith, base, room, at.is.size, part.inside)

@@ -63,17 +63,18 @@ put_written at bytes count old new whole h = record {
       elim (cases_lt address at) as (λ _. new address ≡ option_or given (old address)) [
         | inl less ↦ h.before address less
             ∙ ap (λ (o : Option ℕ). option_or o (old address)) (sym (byte_below at bytes address less))
-        | inr from ↦ elim (cases_lt (address - at) (length bytes)) as (λ _. new address ≡ option_or given (old address)) [
-          | inl inside ↦
-              let k : ℕ = address - at in
-              let is : address ≡ at + k = omega (arith, from) in
-              ap new is ∙ h.put k (omega (arith, inside, whole))
-              ∙ ap (λ (o : Option ℕ). option_or o (old address))
-              (sym (byte_from at bytes address from ∙ slice_get-get_or bytes k 0 inside))
-          | inr past ↦
-              h.after address (omega (arith, from, past, whole))
-              ∙ ap (λ (o : Option ℕ). option_or o (old address))
-              (sym (byte_from at bytes address from ∙ slice_get_past bytes (address - at) past))
-        ]
+        | inr from ↦ elim (cases_lt (address - at) (length bytes)) as
+            (λ _. new address ≡ option_or given (old address)) [
+              | inl inside ↦
+                  let k : ℕ = address - at in
+                  let is : address ≡ at + k = omega (arith, from) in
+                  ap new is ∙ h.put k (omega (arith, inside, whole))
+                  ∙ ap (λ (o : Option ℕ). option_or o (old address))
+                  (sym (byte_from at bytes address from ∙ slice_get-get_or bytes k 0 inside))
+              | inr past ↦
+                  h.after address (omega (arith, from, past, whole))
+                  ∙ ap (λ (o : Option ℕ). option_or o (old address))
+                  (sym (byte_from at bytes address from ∙ slice_get_past bytes (address - at) past))
+            ]
       ];
 }

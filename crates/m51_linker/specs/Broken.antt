@@ -39,19 +39,19 @@ abbrev pub is_before : Spot → Spot → Bool
 is_before one two = nat_lt one.number two.number || (nat_eq one.number two.number && nat_le one.offset two.offset)
 
 -- the first of a spot and another one, if there is another
-abbrev pub first_of : Spot → Option Spot → Spot
-first_of spot None = spot
-first_of spot (Some other) = if is_before spot other then spot else other
+abbrev pub earlier_spot : Spot → Option Spot → Spot
+earlier_spot spot None = spot
+earlier_spot spot (Some other) = if is_before spot other then spot else other
 
 -- the same for two spots, each of which may be missing
 abbrev pub earlier_of : Option Spot → Option Spot → Option Spot
 earlier_of None other = other
-earlier_of (Some spot) other = Some (first_of spot other)
+earlier_of (Some spot) other = Some (earlier_spot spot other)
 
 -- the first of these
 abbrev pub least_of : List Spot → Option Spot
 least_of [] = None
-least_of (spot ∷ more) = Some (first_of spot (least_of more))
+least_of (spot ∷ more) = Some (earlier_spot spot (least_of more))
 
 -- the title of the joined segment of that number
 abbrev pub title_among : List JoinedSegment → ℕ → List ℕ

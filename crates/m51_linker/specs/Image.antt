@@ -11,7 +11,7 @@ use Rattle.m51_place.specs.declared.placing.Placing.{Placing}
 use Rattle.m51_fields.specs.declared.fields.FieldBytes.{FieldBytes}
 use Rattle.m51_fields.specs.Fields.{field_of}
 use Rattle.m51_linker.specs.Stretches.{Stretch, byte_among, stretch_at}
-use Rattle.m51_linker.specs.Targets.{address_of, target_of}
+use Rattle.m51_linker.specs.Targets.{address_of, fixup_target}
 
 -- what the modules have, each its own, in module order
 abbrev pub of_modules : {A : Type 0} → (ℕ → List A) → List ModuleParts → List A
@@ -36,8 +36,8 @@ content_byte modules placing address = unwrap_or (byte_among (content_of modules
 -- the field of a fixup of the module; none where its rule fails
 abbrev pub fixup_field : List ModuleParts → Placing → ℕ → Fixup → Option FieldBytes
 fixup_field modules placing m f =
-    let place : ℕ = address_of modules placing m f.segment f.offset in
-    field_of f.form f.bit (target_of modules placing m f) place (content_byte modules placing place)
+    let address : ℕ = address_of modules placing m f.segment f.offset in
+    field_of f.form f.bit (fixup_target modules placing m f) address (content_byte modules placing address)
 
 -- the same, where it is placed
 abbrev pub placed_field : List ModuleParts → Placing → ℕ → Fixup → Option Stretch

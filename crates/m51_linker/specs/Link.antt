@@ -56,12 +56,12 @@ pub record IsLinked (p : Program) (linked : Linked) : Type 0 where
 
 -- The result of linking, where `program` is the program or the rule that fails: the program linked, or that refusal.
 -- Out of memory says nothing.
-abbrev pub Answers : Result Program Refusal → Result Linked Refusal → Type 0
-Answers program (Ok linked) = (p : Program) × (program ≡ Ok p) × IsLinked p linked
-Answers program (Err error) = RefusesWith (but_memory error) program
+abbrev pub IsLinkResult : Result Program Refusal → Result Linked Refusal → Type 0
+IsLinkResult program (Ok linked) = (p : Program) × (program ≡ Ok p) × IsLinked p linked
+IsLinkResult program (Err error) = RefusesWith (but_memory error) program
 
 -- a run has bytes, all in program memory
-pub record IsInside (run : Run) : Type 0 where
+pub record IsRunInMemory (run : Run) : Type 0 where
   pub some : 0 < run.len
   pub inside : run.first + run.len ≤ 65536
 
@@ -70,5 +70,5 @@ pub record IsInside (run : Run) : Type 0 where
 pub record IsReady (linked : Linked) : Type 0 where
   pub reset : (unit : ℕ) × IsRootAt linked.layout 0 unit
   pub roots : length linked.roots ≡ length linked.layout.units
-  pub runs : All IsInside linked.written
+  pub runs : All IsRunInMemory linked.written
   pub ascending : AllPairs (λ one two. one.first + one.len < two.first) linked.written

@@ -25,7 +25,7 @@ pub record AreWritten (stretches : List Stretch) (old new : ℕ → Option ℕ) 
   pub each : (address : ℕ) → new address ≡ option_or (byte_among stretches address) (old address)
 
 -- the memory has the byte of the stretches for each address
-pub record AreBytes (stretches : List Stretch) (memory : List (Option ℕ)) : Type 0 where
+pub record HoldsStretches (stretches : List Stretch) (memory : List (Option ℕ)) : Type 0 where
   pub len : length memory ≡ 65536
   pub each : (address : ℕ) → held_at memory address ≡ byte_among stretches address
 

@@ -2,7 +2,7 @@
 use Rattle.std.specs.Prelude.{ℕ, ◌-◌, nat_le, if◌then◌else◌, List, [], ◌∷◌, slice_get, Option, None}
 use Rattle.std.specs.Option.{option_or}
 use Rattle.m51_fields.specs.declared.fields.FieldBytes.{FieldBytes}
-use Rattle.m51_fields.specs.Fields.{bytes_of}
+use Rattle.m51_fields.specs.Fields.{bytes_of_field}
 
 -- consecutive bytes, from an address on
 pub record Stretch : Type 0 where
@@ -21,4 +21,4 @@ byte_among (s ∷ more) address = option_or (byte_among more address) (byte_in s
 
 -- the bytes of a field at the address
 abbrev pub stretch_at : ℕ → FieldBytes → Stretch
-stretch_at address field = record { at = address; bytes = bytes_of field }
+stretch_at address field = record { at = address; bytes = bytes_of_field field }

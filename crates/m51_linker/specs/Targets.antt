@@ -13,51 +13,51 @@ use Rattle.m51_resolve.specs.Publics.{public_of}
 use Rattle.m51_place.specs.declared.placing.Placing.{Placing}
 
 -- the base of the placed extent of that index
-abbrev pub base_at : List Placed → ℕ → ℕ
-base_at placed index = option_map_or (λ (p : Placed). p.base) (slice_get placed index) 0
+abbrev pub placed_base : List Placed → ℕ → ℕ
+placed_base placed index = option_map_or (λ (p : Placed). p.base) (slice_get placed index) 0
 
 -- the base of the joined segment of that number
-abbrev pub base_of : Placing → ℕ → ℕ
-base_of placing number = base_at placing.layout.placed (slice_index placing.places number)
+abbrev pub joined_base : Placing → ℕ → ℕ
+joined_base placing number = placed_base placing.layout.placed (slice_index placing.indices number)
 
 -- Where a segment of a module begins: the base of its joined segment, and the offset of its part there. The part of an
 -- absolute segment is the whole, so that it begins at its own base.
-abbrev pub start_of : List ModuleParts → Placing → ℕ → ℕ → ℕ
-start_of modules placing m s = base_of placing (part_of modules m s).0 + (part_of modules m s).1
+abbrev pub segment_address : List ModuleParts → Placing → ℕ → ℕ → ℕ
+segment_address modules placing m s = joined_base placing (part_of modules m s).0 + (part_of modules m s).1
 
 -- the address of that offset in a segment of a module
 abbrev pub address_of : List ModuleParts → Placing → ℕ → ℕ → ℕ → ℕ
-address_of modules placing m s offset = start_of modules placing m s + offset
+address_of modules placing m s offset = segment_address modules placing m s + offset
 
 -- what the number of a public of the module counts from: its segment, or nothing
 abbrev pub origin_of : List ModuleParts → Placing → ℕ → Base → ℕ
 origin_of modules placing m NoBase = 0
-origin_of modules placing m (InSegment s) = start_of modules placing m s
+origin_of modules placing m (InSegment s) = segment_address modules placing m s
 origin_of modules placing m (OfExternal e) = 0
 
 -- the value of a public of the module
-abbrev pub value_of : List ModuleParts → Placing → ℕ → Public → ℕ
-value_of modules placing m p = origin_of modules placing m p.base + p.number
+abbrev pub public_value : List ModuleParts → Placing → ℕ → Public → ℕ
+public_value modules placing m p = origin_of modules placing m p.base + p.number
 
 -- the value of the public of that index among those of the module
 abbrev pub value_among : List ModuleParts → Placing → ℕ → List Public → ℕ → ℕ
-value_among modules placing m publics index = option_map_or (value_of modules placing m) (slice_get publics index) 0
+value_among modules placing m publics index = option_map_or (public_value modules placing m) (slice_get publics index) 0
 
-abbrev pub value_at : List ModuleParts → Placing → ℕ → ℕ → ℕ
-value_at modules placing m index =
+abbrev pub public_value_at : List ModuleParts → Placing → ℕ → ℕ → ℕ
+public_value_at modules placing m index =
     option_map_or (λ (parts : ModuleParts). value_among modules placing m parts.publics index) (slice_get modules m) 0
 
 -- the value of the public that resolves an external of the module
 abbrev pub external_value : List ModuleParts → Placing → ℕ → ℕ → ℕ
 external_value modules placing m e =
-    value_at modules placing (public_of modules m e).0 (public_of modules m e).1
+    public_value_at modules placing (public_of modules m e).0 (public_of modules m e).1
 
 -- what the addend of a fixup counts from: the start of the target segment, or the value of the target's public
 abbrev pub target_value : List ModuleParts → Placing → ℕ → Base → ℕ
 target_value modules placing m NoBase = 0
-target_value modules placing m (InSegment s) = start_of modules placing m s
+target_value modules placing m (InSegment s) = segment_address modules placing m s
 target_value modules placing m (OfExternal e) = external_value modules placing m e
 
 -- The address T to which a fixup of the module refers, modulo 65,536.
-abbrev pub target_of : List ModuleParts → Placing → ℕ → Fixup → ℕ
-target_of modules placing m f = (target_value modules placing m f.target + f.addend) % 65536
+abbrev pub fixup_target : List ModuleParts → Placing → ℕ → Fixup → ℕ
+fixup_target modules placing m f = (target_value modules placing m f.target + f.addend) % 65536

@@ -3,8 +3,9 @@ ghost use Rattle.std.specs.Prelude.{◌≡◌, ◌<◌, ◌≤◌, IsSome, Some,
 ghost use Rattle.m51_resolve.specs.Joining.{segment_at};
 ghost use Rattle.m51_resolve.specs.Publics.{external_at};
 ghost use Rattle.m51_graph.specs.Conditions.{IsBaseThere, IsTargetThere};
-ghost use Rattle.m51_linker.specs.Targets.{address_of, base_at, base_of, external_value, origin_of, start_of};
-ghost use Rattle.m51_linker.specs.Targets.{target_of, target_value, value_among, value_at, value_of};
+ghost use Rattle.m51_linker.specs.Targets.{address_of, placed_base, joined_base, external_value, origin_of};
+ghost use Rattle.m51_linker.specs.Targets.{segment_address};
+ghost use Rattle.m51_linker.specs.Targets.{fixup_target, target_value, value_among, public_value_at, public_value};
 
 use m51_cells::Base;
 use m51_module::{Fixup, Module, Placed, Public};
@@ -12,18 +13,18 @@ use m51_place::Placing;
 use m51_resolve::Joined;
 
 // The index of the joined segment of that number among the placed extents.
-fn index_of(places: &[u16], number: u16) -> u16
-    ensures { result ≡ slice_index places.now number }
+fn index_of(indices: &[u16], number: u16) -> u16
+    ensures { result ≡ slice_index indices.now number }
 {
-    match places.get(usize::from(number)) {
+    match indices.get(usize::from(number)) {
         Some(index) => *index,
         None => 0,
     }
 }
 
 // The base of the placed extent of that index.
-fn base_at(placed: &[Placed], index: u16) -> u16
-    ensures { result ≡ base_at placed.now index }
+fn placed_base(placed: &[Placed], index: u16) -> u16
+    ensures { result ≡ placed_base placed.now index }
 {
     match placed.get(usize::from(index)) {
         Some(extent) => extent.base,
@@ -32,23 +33,23 @@ fn base_at(placed: &[Placed], index: u16) -> u16
 }
 
 // The base of the joined segment of that number.
-fn base_of(placing: &Placing, number: u16) -> u16
-    ensures { result ≡ base_of placing.now number }
+fn joined_base(placing: &Placing, number: u16) -> u16
+    ensures { result ≡ joined_base placing.now number }
 {
-    base_at(
+    placed_base(
         placing.layout.placed(),
-        index_of(placing.places.as_slice(), number),
+        index_of(placing.indices.as_slice(), number),
     )
 }
 
 // Where the segment of the module begins.
-pub(crate) fn start_of(joined: &Joined, placing: &Placing, module: u8, segment: u8) -> u32
+pub(crate) fn segment_address(joined: &Joined, placing: &Placing, module: u8, segment: u8) -> u32
     requires { IsSome (segment_at joined.now «module» segment) }
-    ensures value { result ≡ start_of joined.now placing.now «module» segment }
+    ensures value { result ≡ segment_address joined.now placing.now «module» segment }
     ensures small { result ≤ 131070 }
 {
     let (number, offset) = joined.part(module, segment);
-    u32::from(base_of(placing, number)) + u32::from(offset)
+    u32::from(joined_base(placing, number)) + u32::from(offset)
 }
 
 // The address of that offset in the segment of the module.
@@ -62,7 +63,7 @@ pub(crate) fn address_of(
     requires { IsSome (segment_at joined.now «module» segment) }
     ensures { result ≡ address_of joined.now placing.now «module» segment offset }
 {
-    (start_of(joined, placing, module, segment) + u32::from(offset)) as usize
+    (segment_address(joined, placing, module, segment) + u32::from(offset)) as usize
 }
 
 // What the number of a public of the module counts from.
@@ -73,14 +74,14 @@ fn origin_of(joined: &Joined, placing: &Placing, module: u8, base: Base) -> u32
 {
     match base {
         Base::None | Base::External(_) => 0,
-        Base::Segment(segment) => start_of(joined, placing, module, segment),
+        Base::Segment(segment) => segment_address(joined, placing, module, segment),
     }
 }
 
 // The value of a public of the module.
-fn value_of(joined: &Joined, placing: &Placing, module: u8, public: &Public) -> u32
+fn public_value(joined: &Joined, placing: &Placing, module: u8, public: &Public) -> u32
     requires { IsBaseThere joined.now «module» public.now.base }
-    ensures value { result ≡ value_of joined.now placing.now «module» public.now }
+    ensures value { result ≡ public_value joined.now placing.now «module» public.now }
     ensures small { result ≤ 196605 }
 {
     origin_of(joined, placing, module, public.base) + u32::from(public.number)
@@ -93,14 +94,14 @@ fn value_in(joined: &Joined, placing: &Placing, module: u8, parts: &Module, inde
     ensures small { result ≤ 196605 }
 {
     match parts.publics().get(index) {
-        Some(public) => value_of(joined, placing, module, public),
+        Some(public) => public_value(joined, placing, module, public),
         None => 0,
     }
 }
 
 // The value of the public of that index of the module.
-fn value_at(joined: &Joined, placing: &Placing, module: u8, index: usize) -> u32
-    ensures value { result ≡ value_at joined.now placing.now «module» index }
+fn public_value_at(joined: &Joined, placing: &Placing, module: u8, index: usize) -> u32
+    ensures value { result ≡ public_value_at joined.now placing.now «module» index }
     ensures small { result ≤ 196605 }
 {
     match joined.modules().get(usize::from(module)) {
@@ -116,7 +117,7 @@ fn external_value(joined: &Joined, placing: &Placing, module: u8, external: u8) 
     ensures small { result ≤ 196605 }
 {
     let (home, index) = joined.public_of(module, external);
-    value_at(joined, placing, home, index)
+    public_value_at(joined, placing, home, index)
 }
 
 // What the addend of a fixup of the module counts from.
@@ -127,15 +128,15 @@ fn target_value(joined: &Joined, placing: &Placing, module: u8, target: Base) ->
 {
     match target {
         Base::None => 0,
-        Base::Segment(segment) => start_of(joined, placing, module, segment),
+        Base::Segment(segment) => segment_address(joined, placing, module, segment),
         Base::External(external) => external_value(joined, placing, module, external),
     }
 }
 
 // The address to which the fixup of the module refers.
-pub(crate) fn target_of(joined: &Joined, placing: &Placing, module: u8, fixup: &Fixup) -> u16
+pub(crate) fn fixup_target(joined: &Joined, placing: &Placing, module: u8, fixup: &Fixup) -> u16
     requires { IsTargetThere joined.now «module» fixup.now.target }
-    ensures { result ≡ target_of joined.now placing.now «module» fixup.now }
+    ensures { result ≡ fixup_target joined.now placing.now «module» fixup.now }
 {
     let value = target_value(joined, placing, module, fixup.target);
     ((value + u32::from(fixup.addend)) % 65536) as u16

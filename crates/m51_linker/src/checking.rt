@@ -1,7 +1,7 @@
 //! L13: the first fixup whose rule fails, by joined segment and offset.
 ghost use Rattle.std.specs.Prelude.{◌≡◌, ◌+◌, ◌<◌, IsSome, option_map};
 ghost use Rattle.m51_resolve.specs.Joining.{part_of, segment_at};
-ghost use Rattle.m51_linker.specs.Broken.{broken_at, earlier_of, first_of, is_before, spot_of, title_among};
+ghost use Rattle.m51_linker.specs.Broken.{broken_at, earlier_of, earlier_spot, is_before, spot_of, title_among};
 ghost use Rattle.m51_linker.specs.Ready.{Checks};
 
 use m51_cells::Name;
@@ -40,8 +40,8 @@ fn is_before(one: Spot, two: Spot) -> bool
 }
 
 // The first of a spot and another one, if there is another.
-fn first_of(spot: Spot, other: Option<Spot>) -> Spot
-    ensures { result ≡ first_of spot other }
+fn earlier_spot(spot: Spot, other: Option<Spot>) -> Spot
+    ensures { result ≡ earlier_spot spot other }
 {
     match other {
         Some(other) => { if is_before(spot, other) { spot } else { other } }
@@ -54,7 +54,7 @@ pub(crate) fn earlier_of(one: Option<Spot>, other: Option<Spot>) -> Option<Spot>
     ensures { result ≡ earlier_of one other }
 {
     match one {
-        Some(spot) => Some(first_of(spot, other)),
+        Some(spot) => Some(earlier_spot(spot, other)),
         None => other,
     }
 }

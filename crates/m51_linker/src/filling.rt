@@ -1,7 +1,7 @@
 //! Puts the content of modules where it is placed.
 ghost use Rattle.std.specs.Prelude.{◌≡◌, IfOk, Some, length, slice_get};
 ghost use Rattle.m51_linker.specs.Image.{content_of, module_content};
-ghost use Rattle.m51_linker.specs.Memory.{AreBytes, AreWritten, held_at};
+ghost use Rattle.m51_linker.specs.Memory.{HoldsStretches, AreWritten, held_at};
 ghost use Rattle.m51_linker.specs.Ready.{ArePlaced};
 
 use crate::addresses::address_of;
@@ -50,7 +50,7 @@ pub(crate) fn content_of(
     placing: &Placing,
 ) -> Result<Vec<Option<u8>>, NoMemory>
     requires { ArePlaced joined.now placing.now }
-    ensures { IfOk result (λ memory. AreBytes (content_of joined.now placing.now) memory.items) }
+    ensures { IfOk result (λ memory. HoldsStretches (content_of joined.now placing.now) memory.items) }
 {
     let mut memory = empty_memory(alloc)?;
     fill(&mut memory, joined, placing);

@@ -3,8 +3,8 @@ ghost use Rattle.std.specs.Prelude.{◌≡◌, ℕ, IfOk, Ok, length};
 ghost use Rattle.m51_module.specs.Plan.{IsRootAt};
 ghost use Rattle.m51_graph.specs.Graphs.{graph_of};
 ghost use Rattle.m51_linker.specs.Image.{IsImage, content_of};
-ghost use Rattle.m51_linker.specs.Link.{Answers, AreRoots, IsLinked, IsReady, joined_of, placed_of, program_of};
-ghost use Rattle.m51_linker.specs.Memory.{AreBytes};
+ghost use Rattle.m51_linker.specs.Link.{IsLinkResult, AreRoots, IsLinked, IsReady, joined_of, placed_of, program_of};
+ghost use Rattle.m51_linker.specs.Memory.{HoldsStretches};
 
 use crate::Linked;
 use crate::filling::content_of;
@@ -41,14 +41,14 @@ fn linked(
     requires image { IsImage joined.now placing image }
     requires reset { (unit : ℕ) × IsRootAt placing.layout 0 unit }
     requires units { length placing.layout.units ≡ length graph.now.units }
-    requires content { AreBytes (content_of joined.now placing) content.now }
+    requires content { HoldsStretches (content_of joined.now placing) content.now }
     ensures linked { IfOk result (λ linked.
         IsLinked (record { modules = joined.now; graph = graph.now; placing = placing }) linked) }
     ensures ready { IfOk result IsReady }
 {
     let written = runs_of(alloc, content)?;
     let roots = roots_of(alloc, graph)?;
-    let Placing { layout, places: _ } = placing;
+    let Placing { layout, indices: _ } = placing;
     Ok(Linked {
         layout,
         image,
@@ -65,7 +65,7 @@ fn link_graph(
     controls: &Controls,
 ) -> Result<Linked, Refusal>
     requires { graph_of joined.now controls.now ≡ Ok graph.now }
-    ensures answer { Answers (placed_of joined.now controls.now graph.now) result }
+    ensures answer { IsLinkResult (placed_of joined.now controls.now graph.now) result }
     ensures ready { IfOk result IsReady }
 {
     // For the proof only: reading the modules exposes their invariant.
@@ -78,7 +78,7 @@ fn link_graph(
 
 // The program of chosen modules.
 fn link_joined(alloc: Global, joined: &Joined, controls: &Controls) -> Result<Linked, Refusal>
-    ensures answer { Answers (joined_of controls.now joined.now) result }
+    ensures answer { IsLinkResult (joined_of controls.now joined.now) result }
     ensures ready { IfOk result IsReady }
 {
     let graph = graph(alloc, joined, controls)?;
@@ -102,7 +102,7 @@ pub fn link(
     libraries: &[Library],
     controls: &Controls,
 ) -> Result<Linked, Refusal>
-    ensures answer { Answers (program_of modules.items libraries.now controls.now) result }
+    ensures answer { IsLinkResult (program_of modules.items libraries.now controls.now) result }
     ensures ready { IfOk result IsReady }
 {
     let joined = resolve(alloc, modules, libraries)?;

@@ -1,8 +1,8 @@
 //! Program memory while it is filled: the bytes of content, which some addresses lack, and the image.
 ghost use Rattle.std.specs.Prelude.{◌≡◌, ◌+◌, ◌≤◌, ℕ, [], ◌∷◌, IfOk, None, length, slice_index_or, unwrap_or, vec_len};
-ghost use Rattle.m51_fields.specs.Fields.{bytes_of};
+ghost use Rattle.m51_fields.specs.Fields.{bytes_of_field};
 ghost use Rattle.m51_linker.specs.Stretches.{stretch_at};
-ghost use Rattle.m51_linker.specs.Memory.{AreBytes, AreWritten, IsErasedBut, held_at, image_at};
+ghost use Rattle.m51_linker.specs.Memory.{HoldsStretches, AreWritten, IsErasedBut, held_at, image_at};
 
 use m51_cells::NoMemory;
 use m51_fields::FieldBytes;
@@ -19,7 +19,7 @@ fn nothing(alloc: Global, count: usize) -> Result<Vec<Option<u8>>, AllocError>
 
 // Program memory with no byte in it.
 pub(crate) fn empty_memory(alloc: Global) -> Result<Vec<Option<u8>>, NoMemory>
-    ensures { IfOk result (λ memory. AreBytes [] memory.items) }
+    ensures { IfOk result (λ memory. HoldsStretches [] memory.items) }
 {
     Ok(nothing(alloc, IMAGE_LEN)?)
 }
@@ -70,7 +70,7 @@ fn put_bytes(image: &mut Image, at: usize, bytes: &[u8])
 
 // Puts the bytes of a field into the image at the address.
 pub(crate) fn put_field(image: &mut Image, at: usize, field: FieldBytes)
-    requires { at + length (bytes_of field) ≤ IMAGE_LEN }
+    requires { at + length (bytes_of_field field) ≤ IMAGE_LEN }
     ensures { AreWritten (stretch_at at field ∷ []) (image_at image.old) (image_at image.new) }
 {
     match field {

@@ -2,10 +2,10 @@
 ghost use Rattle.std.specs.Prelude.{◌≡◌, IfOk, Some, option_to_list, slice_get};
 ghost use Rattle.m51_linker.specs.Broken.{broken_of, broken_rule, broken_spot, least_of, module_broken};
 ghost use Rattle.m51_linker.specs.Image.{IsImage, content_of, fields_of, module_fields, placed_field};
-ghost use Rattle.m51_linker.specs.Memory.{AreBytes, AreWritten, image_at};
+ghost use Rattle.m51_linker.specs.Memory.{HoldsStretches, AreWritten, image_at};
 ghost use Rattle.m51_linker.specs.Ready.{ArePlaced, Checks, IsFixupPlaced};
 
-use crate::addresses::{address_of, target_of};
+use crate::addresses::{address_of, fixup_target};
 use crate::checking::{Spot, earlier_of, refuse, spot_of};
 use crate::memory::{byte_or_erased, image_of, put_field};
 use m51_fields::field_of;
@@ -24,17 +24,17 @@ fn patch_fixup(
     fixup: &Fixup,
 ) -> Option<Spot>
     requires placed { IsFixupPlaced joined.now placing.now «module» fixup.now }
-    requires content { AreBytes (content_of joined.now placing.now) content.now }
+    requires content { HoldsStretches (content_of joined.now placing.now) content.now }
     ensures put { AreWritten (option_to_list (placed_field joined.now placing.now «module» fixup.now))
         (image_at image.old) (image_at image.new) }
     ensures broken { result ≡ broken_spot joined.now placing.now «module» fixup.now }
 {
-    let place = address_of(joined, placing, module, fixup.segment, fixup.offset);
-    let target = target_of(joined, placing, module, fixup);
-    let first = byte_or_erased(content, place);
-    match field_of(fixup.form, fixup.bit, target, place as u16, first) {
+    let address = address_of(joined, placing, module, fixup.segment, fixup.offset);
+    let target = fixup_target(joined, placing, module, fixup);
+    let first = byte_or_erased(content, address);
+    match field_of(fixup.form, fixup.bit, target, address as u16, first) {
         Some(field) => {
-            put_field(image, place, field);
+            put_field(image, address, field);
             None
         }
         None => Some(spot_of(joined, module, fixup)),
@@ -52,7 +52,7 @@ fn patch_module(
 ) -> Option<Spot>
     requires placed { ArePlaced joined.now placing.now }
     requires there { slice_get joined.now «module» ≡ Some parts.now }
-    requires content { AreBytes (content_of joined.now placing.now) content.now }
+    requires content { HoldsStretches (content_of joined.now placing.now) content.now }
     ensures put { AreWritten (module_fields joined.now placing.now «module»)
         (image_at image.old) (image_at image.new) }
     ensures broken { result ≡ least_of (module_broken joined.now placing.now «module») }
@@ -73,7 +73,7 @@ fn patch(
     content: &[Option<u8>],
 ) -> Option<Spot>
     requires placed { ArePlaced joined.now placing.now }
-    requires content { AreBytes (content_of joined.now placing.now) content.now }
+    requires content { HoldsStretches (content_of joined.now placing.now) content.now }
     ensures put { AreWritten (fields_of joined.now placing.now) (image_at image.old) (image_at image.new) }
     ensures broken { result ≡ least_of (broken_of joined.now placing.now) }
 {
@@ -93,7 +93,7 @@ pub(crate) fn patched(
     content: &[Option<u8>],
 ) -> Result<Image, Refusal>
     requires placed { ArePlaced joined.now placing.now }
-    requires content { AreBytes (content_of joined.now placing.now) content.now }
+    requires content { HoldsStretches (content_of joined.now placing.now) content.now }
     ensures checked { Checks (broken_rule joined.now placing.now) result }
     ensures image { IfOk result (λ image. IsImage joined.now placing.now image) }
 {

@@ -1,5 +1,7 @@
 -- The names of publics without those of one module.
-use Rattle.std.proofs.Common.{◌≡◌, inl, inr, ℕ, zero, suc, ◌+◌, ◌<◌, ◌≤◌, Bool, true, false, cond, not, ◌&&◌, ◌||◌, List, [], ◌∷◌, ◌++◌, length, take, get_or, Option, Some, None, refl, sym, ap, subst, ◌∙◌, arith}
+use Rattle.std.proofs.Common.{◌≡◌, inl, inr, ℕ, zero, suc, ◌+◌, ◌<◌, ◌≤◌, Bool, true, false, cond, not, ◌&&◌, ◌||◌}
+use Rattle.std.proofs.Common.{List, [], ◌∷◌, ◌++◌, length, take, get_or, Option, Some, None, refl, sym, ap, subst, ◌∙◌}
+use Rattle.std.proofs.Common.{arith}
 use Rattle.std.proofs.Math.Bool.{or_assoc, or_comm, or-false}
 use Rattle.std.specs.Prelude.{option_map, remove, slice_set}
 use Rattle.std.specs.List.{Any, list_any}
@@ -33,21 +35,28 @@ module _ {X : Type 0} (name_of : X → List ℕ) where
   pub lacks_none : (old : List (List ℕ)) (items : List X) → LacksNames name_of old (take 0 items) old
   lacks_none old items = record { each = λ name. and_true (is_in old name) }
 
-  pub lacks_more : (old now new : List (List ℕ)) (items : List X) (index : ℕ) (x : X) → LacksNames name_of old (take index items) now → index < length items
-      → x ≡ get_or items index x → ((name : List ℕ) → is_in new name ≡ cond (bytes_eq (name_of x) name) false (is_in now name)) → LacksNames name_of old (take (index + 1) items) new
+  pub lacks_more : (old now new : List (List ℕ)) (items : List X) (index : ℕ) (x : X)
+      → LacksNames name_of old (take index items) now → index < length items
+      → x ≡ get_or items index x
+      → ((name : List ℕ) → is_in new name ≡ cond (bytes_eq (name_of x) name) false (is_in now name))
+      → LacksNames name_of old (take (index + 1) items) new
   lacks_more old now new items index x lacks below is puts =
-      let more : take (index + 1) items ≡ take index items ++ x ∷ [] = take_more items index x below ∙ ap (λ y. take index items ++ y ∷ []) (sym is) in
+      let more : take (index + 1) items ≡ take index items ++ x ∷ [] = take_more items index x below
+      ∙ ap (λ y. take index items ++ y ∷ []) (sym is) in
       record {
         each = λ name.
             let test : X → Bool = λ y. bytes_eq (name_of y) name in
             puts name ∙ ap (λ b. cond (bytes_eq (name_of x) name) false b) (lacks.each name)
             ∙ less_one (bytes_eq (name_of x) name) (list_any test (take index items)) (is_in old name)
-            ∙ ap (λ b. is_in old name && not b) (sym (list_any-append test (take index items) (x ∷ [])) ∙ ap (list_any test) (sym more));
+            ∙ ap (λ b. is_in old name && not b)
+            (sym (list_any-append test (take index items) (x ∷ [])) ∙ ap (list_any test) (sym more));
       }
 
-  pub lacks_all : (old now : List (List ℕ)) (items : List X) (index : ℕ) → LacksNames name_of old (take index items) now → length items ≤ index → LacksNames name_of old items now
+  pub lacks_all : (old now : List (List ℕ)) (items : List X) (index : ℕ) → LacksNames name_of old (take index items) now
+      → length items ≤ index → LacksNames name_of old items now
   lacks_all old now items index lacks past = record {
-    each = λ name. lacks.each name ∙ ap (λ xs. is_in old name && not (list_any (λ x. bytes_eq (name_of x) name) xs)) (take_all index items past);
+    each = λ name. lacks.each name
+        ∙ ap (λ xs. is_in old name && not (list_any (λ x. bytes_eq (name_of x) name) xs)) (take_all index items past);
   }
 
 -- what the others define, where the module has none of it
@@ -57,7 +66,8 @@ others_by true false apart = refl
 others_by false true apart = refl
 others_by false false apart = refl
 
-names_lack : (modules others : List ModuleParts) (m : ModuleParts) (old new : List (List ℕ)) (publics : List Public) → IsBeside modules others m → AreNamesOf modules old
+names_lack : (modules others : List ModuleParts) (m : ModuleParts) (old new : List (List ℕ)) (publics : List Public)
+    → IsBeside modules others m → AreNamesOf modules old
     → LacksNames (λ (p : Public). p.name) old publics new → publics ≡ m.publics → AreNamesOf others new
 names_lack modules others m old new publics beside are lacks is = record {
   each = λ name.
@@ -68,54 +78,76 @@ names_lack modules others m old new publics beside are lacks is = record {
 }
 
 -- the same where a table of names is kept
-pub names_less : {S : Type 0} (keys : S → List (List ℕ)) (modules others : List ModuleParts) (m : ModuleParts) (before : Option (List (List ℕ))) (old : List (List ℕ)) (publics : List Public) (found : S)
-    → before ≡ Some old → LacksNames (λ (p : Public). p.name) old publics (keys found) → publics ≡ m.publics → IsBeside modules others m → AreNames modules before
+pub names_less : {S : Type 0} (keys : S → List (List ℕ)) (modules others : List ModuleParts) (m : ModuleParts)
+    (before : Option (List (List ℕ))) (old : List (List ℕ)) (publics : List Public) (found : S)
+    → before ≡ Some old → LacksNames (λ (p : Public). p.name) old publics (keys found) → publics ≡ m.publics
+    → IsBeside modules others m → AreNames modules before
     → AreNames others (option_map keys (Some found))
 names_less keys modules others m before old publics found is lacks publics_are beside are =
-    names_lack modules others m old (keys found) publics beside (subst (λ (o : Option (List (List ℕ))). AreNames modules o) is are) lacks publics_are
+    names_lack modules others m old (keys found) publics beside
+    (subst (λ (o : Option (List (List ℕ))). AreNames modules o) is are) lacks publics_are
 
 -- modules that define what the others and one more define
-pub names_back : (modules others : List ModuleParts) (m : ModuleParts) (names : Option (List (List ℕ))) → ((name : List ℕ) → defines modules name ≡ (defines others name || has_public name m))
+pub names_back : (modules others : List ModuleParts) (m : ModuleParts) (names : Option (List (List ℕ)))
+    → ((name : List ℕ) → defines modules name ≡ (defines others name || has_public name m))
     → AreNames (others ++ m ∷ []) names → AreNames modules names
 names_back modules others m None each are = tt
 names_back modules others m (Some names) each are = record {
   each = λ name.
-      are.each name ∙ list_any-append (has_public name) others (m ∷ []) ∙ ap (λ b. defines others name || b) (or-false (has_public name m)) ∙ sym (each name);
+      are.each name ∙ list_any-append (has_public name) others (m ∷ [])
+      ∙ ap (λ b. defines others name || b) (or-false (has_public name m)) ∙ sym (each name);
 }
 
 -- a test over a list without one item, and with another in its place
-pub any_removed : {X : Type 0} (p : X → Bool) (xs : List X) (i : ℕ) (x : X) → i < length xs → x ≡ get_or xs i x → list_any p xs ≡ (list_any p (remove xs i) || p x)
+pub any_removed : {X : Type 0} (p : X → Bool) (xs : List X) (i : ℕ) (x : X) → i < length xs → x ≡ get_or xs i x
+    → list_any p xs ≡ (list_any p (remove xs i) || p x)
 any_removed p [] i x below is = absurd (omega (arith, below))
 any_removed p (y ∷ ys) zero x below is = or_comm (p y) (list_any p ys) ∙ ap (λ z. list_any p ys || p z) (sym is)
-any_removed p (y ∷ ys) (suc i) x below is = ap (λ b. p y || b) (any_removed p ys i x (omega (arith, below)) is) ∙ sym (or_assoc (p y) (list_any p (remove ys i)) (p x))
+any_removed p (y ∷ ys) (suc i) x below is = ap (λ b. p y || b) (any_removed p ys i x (omega (arith, below)) is)
+    ∙ sym (or_assoc (p y) (list_any p (remove ys i)) (p x))
 
-pub any_set : {X : Type 0} (p : X → Bool) (xs : List X) (i : ℕ) (x : X) → i < length xs → list_any p (slice_set xs i x) ≡ (list_any p (remove xs i) || p x)
+pub any_set : {X : Type 0} (p : X → Bool) (xs : List X) (i : ℕ) (x : X) → i < length xs → list_any p (slice_set xs i x)
+    ≡ (list_any p (remove xs i) || p x)
 any_set p [] i x below = absurd (omega (arith, below))
 any_set p (y ∷ ys) zero x below = or_comm (p x) (list_any p ys)
-any_set p (y ∷ ys) (suc i) x below = ap (λ b. p y || b) (any_set p ys i x (omega (arith, below))) ∙ sym (or_assoc (p y) (list_any p (remove ys i)) (p x))
+any_set p (y ∷ ys) (suc i) x below = ap (λ b. p y || b) (any_set p ys i x (omega (arith, below)))
+    ∙ sym (or_assoc (p y) (list_any p (remove ys i)) (p x))
 
 -- two modules that share no public
-no_both : (m n : ModuleParts) (name : List ℕ) → ShareNoPublic m n → has_public name m ≡ true → has_public name n ≡ true → ⊥
-no_both m n name apart in_m in_n = by (Any-from_list_any (λ (p : Public). bytes_eq p.name name) m.publics in_m) (Any-from_list_any (λ (p : Public). bytes_eq p.name name) n.publics in_n)
+no_both : (m n : ModuleParts) (name : List ℕ) → ShareNoPublic m n → has_public name m ≡ true → has_public name n ≡ true
+    → ⊥
+no_both m n name apart in_m in_n =
+    by (Any-from_list_any (λ (p : Public). bytes_eq p.name name) m.publics in_m)
+    (Any-from_list_any (λ (p : Public). bytes_eq p.name name) n.publics in_n)
   where
-    by : Any (λ (p : Public). bytes_eq p.name name ≡ true) m.publics → Any (λ (p : Public). bytes_eq p.name name ≡ true) n.publics → ⊥
+    by : Any (λ (p : Public). bytes_eq p.name name ≡ true) m.publics
+        → Any (λ (p : Public). bytes_eq p.name name ≡ true) n.publics → ⊥
     by (k, p, below, at, one) (j, q, inside, is, two) =
-        apart p q (k, below, at) (j, inside, is) ((bytes_eq-Decides p.name name).0 one ∙ sym ((bytes_eq-Decides q.name name).0 two))
+        apart p q (k, below, at) (j, inside, is)
+        ((bytes_eq-Decides p.name name).0 one ∙ sym ((bytes_eq-Decides q.name name).0 two))
 
 -- a module of a library beside the others
-pub beside_others : (ms : List ModuleParts) (i : ℕ) (m : ModuleParts) → IsLibrary ms → i < length ms → m ≡ get_or ms i m → IsBeside ms (remove ms i) m
+pub beside_others : (ms : List ModuleParts) (i : ℕ) (m : ModuleParts) → IsLibrary ms → i < length ms → m ≡ get_or ms i m
+    → IsBeside ms (remove ms i) m
 beside_others ms i m library below is = record {
   each = λ name. any_removed (has_public name) ms i m below is;
   apart = λ name has. none name has (defines (remove ms i) name) refl;
 }
   where
-    pair : (j : ℕ) (x : ModuleParts) (name : List ℕ) → j < length ms → x ≡ get_or ms j x → (j ≡ i → ⊥) → has_public name m ≡ true → has_public name x ≡ true → ⊥
+    pair : (j : ℕ) (x : ModuleParts) (name : List ℕ) → j < length ms → x ≡ get_or ms j x → (j ≡ i → ⊥)
+        → has_public name m ≡ true → has_public name x ≡ true → ⊥
     pair j x name inside at other in_m in_x =
         let own : get_or ms j m ≡ x = get_or_default ms j m x inside ∙ sym at in
         elim (cases_order j i) as (λ _. ⊥) [
           | inl same ↦ other same
-          | inr (inl less) ↦ no_both x m name (subst (λ (y : ModuleParts). ShareNoPublic y m) own (subst (λ (y : ModuleParts). ShareNoPublic (get_or ms j m) y) (sym is) (library.publics j i m less below))) in_x in_m
-          | inr (inr more) ↦ no_both m x name (subst (λ (y : ModuleParts). ShareNoPublic y x) (sym is) (subst (λ (y : ModuleParts). ShareNoPublic (get_or ms i m) y) own (library.publics i j m more inside))) in_m in_x
+          | inr (inl less) ↦ no_both x m name
+              (subst (λ (y : ModuleParts). ShareNoPublic y m) own
+              (subst (λ (y : ModuleParts). ShareNoPublic (get_or ms j m) y) (sym is)
+              (library.publics j i m less below))) in_x in_m
+          | inr (inr more) ↦ no_both m x name
+              (subst (λ (y : ModuleParts). ShareNoPublic y x) (sym is)
+              (subst (λ (y : ModuleParts). ShareNoPublic (get_or ms i m) y) own (library.publics i j m more inside)))
+              in_m in_x
         ]
 
     none : (name : List ℕ) → has_public name m ≡ true → (b : Bool) → defines (remove ms i) name ≡ b → b ≡ false
@@ -124,8 +156,10 @@ beside_others ms i m library below is = record {
       where
         by : Any (λ (x : ModuleParts). has_public name x ≡ true) (remove ms i) → ⊥
         by (k, x, low, at, has_x) = elim (cases_lt k i) as (λ _. ⊥) [
-          | inl less ↦ pair k x name (omega (arith, less, below)) (sym at ∙ get_or-remove_below ms i x k less below) (λ e. omega (arith, e, less)) has has_x
+          | inl less ↦ pair k x name (omega (arith, less, below)) (sym at ∙ get_or-remove_below ms i x k less below)
+              (λ e. omega (arith, e, less)) has has_x
           | inr more ↦
               let count = length-remove ms i below in
-              pair (k + 1) x name (omega (arith, low, count)) (sym at ∙ get_or-remove_above ms i x k more below) (λ e. omega (arith, e, more)) has has_x
+              pair (k + 1) x name (omega (arith, low, count)) (sym at ∙ get_or-remove_above ms i x k more below)
+              (λ e. omega (arith, e, more)) has has_x
         ]

@@ -1,7 +1,8 @@
 -- Conflicts of any programs: they are mutual, and are carried over where only segments get other numbers.
 use Rattle.std.proofs.Common.{◌≡◌, ◌⊎◌, inl, inr, ℕ, List, [], ◌∷◌, sym}
 use Rattle.std.specs.Prelude.{◌↔◌}
-use Rattle.m51_module.specs.Conflict.{AreRelated, Same, Before, After, FirstUnderNone, SecondUnderNone, UnderTwo, InConflict, FirstPlain, SecondPlain, Owners}
+use Rattle.m51_module.specs.Conflict.{AreRelated, Same, Before, After, FirstUnderNone, SecondUnderNone, UnderTwo}
+use Rattle.m51_module.specs.Conflict.{InConflict, FirstPlain, SecondPlain, Owners}
 use Rattle.m51_module.specs.Laws.{HaveSameUnits, IsSameSegment}
 use Rattle.m51_module.specs.Program.{ProgramGraph}
 use Rattle.m51_module.specs.Roots.{LiesUnder}
@@ -41,33 +42,40 @@ module _ (g h : ProgramGraph) (same : HaveSameUnits g h) where
   walk_there u (v ∷ vs) w = ((same.edges u v).0 w.0, walk_there v vs w.1)
 
   pub reach_there : (u v : ℕ) → Reaches g.edges u v → Reaches h.edges u v
-  reach_there u v r = record { next = r.next; more = r.more; walk = walk_there u (r.next ∷ r.more) r.walk; ends = r.ends }
+  reach_there u v r =
+      record { next = r.next; more = r.more; walk = walk_there u (r.next ∷ r.more) r.walk; ends = r.ends }
 
   leads_there : (u v : ℕ) → (u ≡ v) ⊎ Reaches g.edges u v → (u ≡ v) ⊎ Reaches h.edges u v
   leads_there u v (inl e) = inl e
   leads_there u v (inr r) = inr (reach_there u v r)
 
   pub under_there : (x u : ℕ) → LiesUnder g x u → LiesUnder h x u
-  under_there x u l = record { root = l.root; is_root = (same.roots x l.root).0 l.is_root; leads = leads_there l.root u l.leads }
+  under_there x u l =
+      record { root = l.root; is_root = (same.roots x l.root).0 l.is_root; leads = leads_there l.root u l.leads }
 
 -- what relates units of the one relates them in the other
 pub related_there : (g h : ProgramGraph) → HaveSameUnits g h → (u v : ℕ) → AreRelated g u v → AreRelated h u v
 related_there g h same u v (Same e) = Same e
 related_there g h same u v (Before r) = Before (reach_there g h same u v r)
 related_there g h same u v (After r) = After (reach_there g h same v u r)
-related_there g h same u v (FirstUnderNone none) = FirstUnderNone (λ x l. none x (under_there h g (same_back g h same) x u l))
-related_there g h same u v (SecondUnderNone none) = SecondUnderNone (λ x l. none x (under_there h g (same_back g h same) x v l))
-related_there g h same u v (UnderTwo x y differ first second) = UnderTwo x y differ (under_there g h same x u first) (under_there g h same y v second)
+related_there g h same u v (FirstUnderNone none) =
+    FirstUnderNone (λ x l. none x (under_there h g (same_back g h same) x u l))
+related_there g h same u v (SecondUnderNone none) =
+    SecondUnderNone (λ x l. none x (under_there h g (same_back g h same) x v l))
+related_there g h same u v (UnderTwo x y differ first second) =
+    UnderTwo x y differ (under_there g h same x u first) (under_there g h same y v second)
 
 -- segments of the one in conflict are in conflict in the other
-pub conflict_there : (g h : ProgramGraph) → HaveSameUnits g h → (s t s' t' : ℕ) → IsSameSegment g h s s' → IsSameSegment g h t t' → InConflict g s t → InConflict h s' t'
+pub conflict_there : (g h : ProgramGraph) → HaveSameUnits g h → (s t s' t' : ℕ) → IsSameSegment g h s s'
+    → IsSameSegment g h t t' → InConflict g s t → InConflict h s' t'
 conflict_there g h same s t s' t' one two (FirstPlain plain) = FirstPlain (λ o. plain (one.overlaid.1 o))
 conflict_there g h same s t s' t' one two (SecondPlain plain) = SecondPlain (λ o. plain (two.overlaid.1 o))
 conflict_there g h same s t s' t' one two (Owners u v owns_s owns_t related) =
     Owners u v ((one.owners u).0 owns_s) ((two.owners v).0 owns_t) (related_there g h same u v related)
 
 -- and the other way round
-pub conflict_carried : (g h : ProgramGraph) → HaveSameUnits g h → (s t s' t' : ℕ) → IsSameSegment g h s s' → IsSameSegment g h t t' → InConflict g s t ↔ InConflict h s' t'
+pub conflict_carried : (g h : ProgramGraph) → HaveSameUnits g h → (s t s' t' : ℕ) → IsSameSegment g h s s'
+    → IsSameSegment g h t t' → InConflict g s t ↔ InConflict h s' t'
 conflict_carried g h same s t s' t' one two = (
   conflict_there g h same s t s' t' one two,
   conflict_there h g (same_back g h same) s' t' s t (segment_back g h s s' one) (segment_back g h t t' two),

@@ -22,14 +22,20 @@ test_from_edge edges from to h =
     list_any-from_Any _ edges (h.0, (from, to), h.1, h.2, both_true (eq-eqb from from refl) (eq-eqb to to refl))
 
 -- so a result that is true exactly if the edge exists is that of the test
-pub same_edge_test : (answer : Bool) (edges : Edges) (from to : ℕ) → (IsTrue answer ↔ HasEdge edges from to) → answer ≡ has_edge edges from to
+pub same_edge_test : (answer : Bool) (edges : Edges) (from to : ℕ) → (IsTrue answer ↔ HasEdge edges from to) → answer
+    ≡ has_edge edges from to
 same_edge_test answer edges from to h =
-    same_from_decides {P = HasEdge edges from to} answer (has_edge edges from to) h (edge_from_test edges from to, test_from_edge edges from to)
+    same_from_decides {P = HasEdge edges from to} answer (has_edge edges from to) h
+    (edge_from_test edges from to, test_from_edge edges from to)
 
 -- the two cases of the test, each with what follows from it
 pub edge_tells : (edges : Edges) (from to : ℕ)
-    → ((has_edge edges from to ≡ true) × HasEdge edges from to) ⊎ ((has_edge edges from to ≡ false) × (HasEdge edges from to → ⊥))
-edge_tells edges from to = elim (cases_Bool (has_edge edges from to)) as (λ _. ((has_edge edges from to ≡ true) × HasEdge edges from to) ⊎ ((has_edge edges from to ≡ false) × (HasEdge edges from to → ⊥))) [
-  | inl is ↦ inl (is, edge_from_test edges from to is)
-  | inr is_not ↦ inr (is_not, λ h. false≢true (sym is_not ∙ test_from_edge edges from to h))
-]
+    → ((has_edge edges from to ≡ true) × HasEdge edges from to)
+    ⊎ ((has_edge edges from to ≡ false) × (HasEdge edges from to → ⊥))
+edge_tells edges from to =
+    elim (cases_Bool (has_edge edges from to)) as
+    (λ _. ((has_edge edges from to ≡ true) × HasEdge edges from to)
+    ⊎ ((has_edge edges from to ≡ false) × (HasEdge edges from to → ⊥))) [
+      | inl is ↦ inl (is, edge_from_test edges from to is)
+      | inr is_not ↦ inr (is_not, λ h. false≢true (sym is_not ∙ test_from_edge edges from to h))
+    ]

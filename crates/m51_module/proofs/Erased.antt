@@ -8,5 +8,5 @@ use Rattle.m51_module.specs.Image.{IsErased}
 pub erased : (count : ℕ) (bytes : List ℕ) → bytes ≡ replicate count 0xFF → IsErased count bytes
 erased count bytes e = record {
   len = rw e (length-replicate {A = ℕ} count 0xFF);
-  each = λ place below. rw e (grind (arith, common_steps));
+  each = λ index below. rw e (grind (arith, common_steps));
 }

@@ -1,5 +1,7 @@
 -- What edits of a library keep.
-use Rattle.std.proofs.Common.{◌≡◌, ◌≢◌, ℕ, ◌+◌, ◌-◌, ◌<◌, nat_le, Bool, true, false, cond, List, [], ◌∷◌, ◌++◌, length, get_or, take, drop, add-one, length-drop, Option, Some, None, refl, ap, sym, subst, ◌∙◌, arith, length-append}
+use Rattle.std.proofs.Common.{◌≡◌, ◌≢◌, ℕ, ◌+◌, ◌-◌, ◌<◌, nat_le, Bool, true, false, cond, List, [], ◌∷◌, ◌++◌, length}
+use Rattle.std.proofs.Common.{get_or, take, drop, add-one, length-drop, Option, Some, None, refl, ap, sym, subst, ◌∙◌}
+use Rattle.std.proofs.Common.{arith, length-append}
 use Rattle.std.specs.Prelude.{slice_set, position, remove, option_map}
 use Rattle.std.specs.List.{AllPairs, find}
 use Rattle.std.specs.Str.{bytes_eq}
@@ -29,9 +31,11 @@ equal_bytes : (one two : List ℕ) → bytes_eq one two ≡ true → one ≡ two
 equal_bytes one two h = (bytes_eq-Decides one two).0 h
 
 -- in a library, a name that a module has is the name of only that module
-pub named_alone : (name : List ℕ) (ms : List ModuleParts) (i : ℕ) (d : ModuleParts) → IsLibrary ms → position (is_named name) ms ≡ Some i → PassesAlone (is_named name) ms i
+pub named_alone : (name : List ℕ) (ms : List ModuleParts) (i : ℕ) (d : ModuleParts) → IsLibrary ms
+    → position (is_named name) ms ≡ Some i → PassesAlone (is_named name) ms i
 named_alone name ms i d h found =
-    let at : (e : ModuleParts) → (i < length ms) × (is_named name (get_or ms i e) ≡ true) × ((k : ℕ) → k < i → is_named name (get_or ms k e) ≡ false) =
+    let at : (e : ModuleParts) → (i < length ms) × (is_named name (get_or ms i e) ≡ true)
+    × ((k : ℕ) → k < i → is_named name (get_or ms k e) ≡ false) =
     λ e. position-Some (is_named name) ms i e found in
     record {
       within = (at d).0;
@@ -46,13 +50,16 @@ no_clash None h = refl
 no_clash (Some p) h = absurd (cc h)
 
 -- where nothing clashes, no module shares a public with the one that comes in
-pub apart : (ms : List ModuleParts) (new : ModuleParts) → clash ms new ≡ None → (k : ℕ) (d : ModuleParts) → k < length ms → ShareNoPublic (get_or ms k d) new
+pub apart : (ms : List ModuleParts) (new : ModuleParts) → clash ms new ≡ None → (k : ℕ) (d : ModuleParts)
+    → k < length ms → ShareNoPublic (get_or ms k d) new
 apart ms new free k d lt p q p_in q_in same =
     let found : find (λ (r : Public). defines ms r.name) new.publics ≡ None = no_clash _ free in
-    let none : defines ms (get_or new.publics q_in.0 q).name ≡ false = none_passes (λ (r : Public). defines ms r.name) new.publics found q_in.0 q q_in.1 in
+    let none : defines ms (get_or new.publics q_in.0 q).name ≡ false =
+    none_passes (λ (r : Public). defines ms r.name) new.publics found q_in.0 q q_in.1 in
     let named : bytes_eq (get_or (get_or ms k d).publics p_in.0 p).name q.name ≡ true =
     same_bytes _ _ (ap (λ (r : Public). r.name) p_in.2 ∙ same) in
-    let has : has_public q.name (get_or ms k d) ≡ true = list_any_at (λ (r : Public). bytes_eq r.name q.name) (get_or ms k d).publics p_in.0 p p_in.1 named in
+    let has : has_public q.name (get_or ms k d) ≡ true =
+    list_any_at (λ (r : Public). bytes_eq r.name q.name) (get_or ms k d).publics p_in.0 p p_in.1 named in
     let any : defines ms q.name ≡ true = list_any_at (has_public q.name) ms k d lt has in
     let none_q : defines ms q.name ≡ false = ap (λ (r : Public). defines ms r.name) (sym q_in.2) ∙ none in
     absurd (cc (any, none_q))
@@ -66,7 +73,8 @@ pub record IsFree (ms : List ModuleParts) (new : ModuleParts) : Type 0 where
   pub room : nat_le 255 (length ms) ≡ false
   pub publics : clash ms new ≡ None
 
-free_when : (b c : Bool) (x y : LibError) (z : Option LibError) → cond b (Some x) (cond c (Some y) z) ≡ None → (b ≡ false) × (c ≡ false) × (z ≡ None)
+free_when : (b c : Bool) (x y : LibError) (z : Option LibError) → cond b (Some x) (cond c (Some y) z) ≡ None
+    → (b ≡ false) × (c ≡ false) × (z ≡ None)
 free_when true c x y z h = absurd (cc h)
 free_when false true x y z h = absurd (cc h)
 free_when false false x y z h = (refl, refl, h)
@@ -76,13 +84,15 @@ is_free ms new h =
     let f = free_when (holds ms new.name) (nat_le 255 (length ms)) (B1 new.name) Full (clash ms new) h in
     record { name = f.0; room = f.1; publics = f.2 }
 
-other_name : (ms : List ModuleParts) (name : List ℕ) → holds ms name ≡ false → (k : ℕ) (d : ModuleParts) → k < length ms → (get_or ms k d).name ≢ name
+other_name : (ms : List ModuleParts) (name : List ℕ) → holds ms name ≡ false → (k : ℕ) (d : ModuleParts) → k < length ms
+    → (get_or ms k d).name ≢ name
 other_name ms name none k d lt e =
     let any : holds ms name ≡ true = list_any_at (is_named name) ms k d lt (same_bytes _ _ e) in
     absurd (cc (any, none))
 
 -- a module that nothing refuses makes a library with the others
-pub add_keeps : (ms : List ModuleParts) (new : ModuleParts) → IsLibrary ms → add_refusal ms new ≡ None → IsLibrary (ms ++ new ∷ [])
+pub add_keeps : (ms : List ModuleParts) (new : ModuleParts) → IsLibrary ms → add_refusal ms new ≡ None
+    → IsLibrary (ms ++ new ∷ [])
 add_keeps ms new h none =
     let f : IsFree ms new = is_free ms new none in
     let len : length (ms ++ new ∷ []) ≡ length ms + 1 = length-append ms (new ∷ []) in
@@ -107,13 +117,16 @@ others_apart ms i new in_it free k d lt ne =
     let P : ModuleParts → Type 0 = λ m. ShareNoPublic m new in
     let len : length (remove ms i) + 1 ≡ length ms = length-remove ms i in_it in
     one_less k i ne
-    (λ below. subst P (get_or-remove_below ms i d k below in_it) (apart (remove ms i) new free k d (omega (arith, len, in_it, below))))
+    (λ below. subst P (get_or-remove_below ms i d k below in_it)
+    (apart (remove ms i) new free k d (omega (arith, len, in_it, below))))
     (λ above.
     let e : (k - 1) + 1 ≡ k = omega arith in
-    let at : get_or (remove ms i) (k - 1) d ≡ get_or ms k d = get_or-remove_above ms i d (k - 1) (omega arith) in_it ∙ ap (λ (n : ℕ). get_or ms n d) e in
+    let at : get_or (remove ms i) (k - 1) d ≡ get_or ms k d = get_or-remove_above ms i d (k - 1) (omega arith) in_it
+    ∙ ap (λ (n : ℕ). get_or ms n d) e in
     subst P at (apart (remove ms i) new free (k - 1) d (omega (arith, len, lt, above))))
 
-pub replace_keeps : (ms : List ModuleParts) (i : ℕ) (new : ModuleParts) → IsLibrary ms → PassesAlone (is_named new.name) ms i → clash (remove ms i) new ≡ None
+pub replace_keeps : (ms : List ModuleParts) (i : ℕ) (new : ModuleParts) → IsLibrary ms
+    → PassesAlone (is_named new.name) ms i → clash (remove ms i) new ≡ None
     → IsLibrary (slice_set ms i new)
 replace_keeps ms i new h alone free =
     let len : length (slice_set ms i new) ≡ length ms = length-set ms i new in
@@ -121,30 +134,41 @@ replace_keeps ms i new h alone free =
     λ k d lt ne e. absurd (cc (alone.others k d lt ne, same_bytes (get_or ms k d).name new.name e)) in
     record {
       few = omega (arith, len, h.few);
-      names = pairs_set NamesDiffer ms i new alone.within h.names (λ k d lt ne. (differ k d lt ne, λ e. differ k d lt ne (sym e)));
+      names = pairs_set NamesDiffer ms i new alone.within h.names
+          (λ k d lt ne. (differ k d lt ne, λ e. differ k d lt ne (sym e)));
       publics = pairs_set ShareNoPublic ms i new alone.within h.publics (λ k d lt ne.
-          let r : ShareNoPublic (get_or ms k d) new = others_apart ms i new alone.within free k d lt ne in (r, swapped (get_or ms k d) new r));
+          let r : ShareNoPublic (get_or ms k d) new = others_apart ms i new alone.within free k d lt ne in
+          (r, swapped (get_or ms k d) new r));
     }
 
 -- the items before an index and those after it are the list without its item
 pub around : (ms : List ModuleParts) (i : ℕ) → take i ms ++ take (length ms - (i + 1)) (drop (i + 1) ms) ≡ remove ms i
 around ms i =
-    let all : take (length ms - (i + 1)) (drop (i + 1) ms) ≡ drop (i + 1) ms = take_all _ _ (omega (arith, length-drop (i + 1) ms)) in
+    let all : take (length ms - (i + 1)) (drop (i + 1) ms) ≡ drop (i + 1) ms =
+    take_all _ _ (omega (arith, length-drop (i + 1) ms)) in
     rw (all, add-one) refl
 
 -- a library stays one where a module of it is raised
-pub raise_keeps : (ms : List ModuleParts) (i : ℕ) (d : ModuleParts) → i < length ms → IsLibrary ms → IsLibrary (slice_set ms i (raised (get_or ms i d)))
+pub raise_keeps : (ms : List ModuleParts) (i : ℕ) (d : ModuleParts) → i < length ms → IsLibrary ms
+    → IsLibrary (slice_set ms i (raised (get_or ms i d)))
 raise_keeps ms i d within h = record {
   few = omega (arith, length-set ms i (raised (get_or ms i d)), h.few);
-  names = pairs_set NamesDiffer ms i (raised (get_or ms i d)) within h.names (with_it NamesDiffer (λ m n differ e. differ (sym e)) (λ m differ. differ) (λ m differ. differ) h.names);
-  publics = pairs_set ShareNoPublic ms i (raised (get_or ms i d)) within h.publics (with_it ShareNoPublic swapped (λ m apart. apart) (λ m apart. apart) h.publics);
+  names = pairs_set NamesDiffer ms i (raised (get_or ms i d)) within h.names
+      (with_it NamesDiffer (λ m n differ e. differ (sym e)) (λ m differ. differ) (λ m differ. differ) h.names);
+  publics =
+      pairs_set ShareNoPublic ms i (raised (get_or ms i d)) within h.publics
+      (with_it ShareNoPublic swapped (λ m apart. apart) (λ m apart. apart) h.publics);
 } where
   with_it : (R : ModuleParts → ModuleParts → Type 0) → ((m n : ModuleParts) → R m n → R n m)
-      → ((m : ModuleParts) → R m (get_or ms i d) → R m (raised (get_or ms i d))) → ((m : ModuleParts) → R (get_or ms i d) m → R (raised (get_or ms i d)) m)
+      → ((m : ModuleParts) → R m (get_or ms i d) → R m (raised (get_or ms i d)))
+      → ((m : ModuleParts) → R (get_or ms i d) m → R (raised (get_or ms i d)) m)
       → AllPairs R ms
-      → (k : ℕ) (e : ModuleParts) → k < length ms → k ≢ i → R (get_or ms k e) (raised (get_or ms i d)) × R (raised (get_or ms i d)) (get_or ms k e)
+      → (k : ℕ) (e : ModuleParts) → k < length ms → k ≢ i → R (get_or ms k e) (raised (get_or ms i d))
+      × R (raised (get_or ms i d)) (get_or ms k e)
   with_it R back into out all k e lt ne =
       let same : get_or ms i e ≡ get_or ms i d = get_or_default ms i e d within in
       one_less k i ne
-      (λ below. let r : R (get_or ms k e) (get_or ms i d) = subst (R (get_or ms k e)) same (all k i e below within) in (into _ r, out _ (back _ _ r)))
-      (λ above. let r : R (get_or ms i d) (get_or ms k e) = subst (λ m. R m (get_or ms k e)) same (all i k e above lt) in (into _ (back _ _ r), out _ r))
+      (λ below. let r : R (get_or ms k e) (get_or ms i d) = subst (R (get_or ms k e)) same (all k i e below within) in
+      (into _ r, out _ (back _ _ r)))
+      (λ above. let r : R (get_or ms i d) (get_or ms k e) = subst (λ m. R m (get_or ms k e)) same (all i k e above lt)
+      in (into _ (back _ _ r), out _ r))

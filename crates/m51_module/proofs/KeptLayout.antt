@@ -24,14 +24,16 @@ owners_differ : (owners : List ℕ) → HasOwners owners → AreDifferent owners
 owners_differ owners h = subst AreDifferent (sym h.are) all where
   all : AreDifferent (h.own ∷ h.others)
   all zero zero d less below = absurd (omega (arith, less))
-  all zero (suc j) d less below = λ e. h.different (j, omega (arith, below), get_or_default h.others j h.own d (omega (arith, below)) ∙ sym e)
+  all zero (suc j) d less below =
+      λ e. h.different (j, omega (arith, below), get_or_default h.others j h.own d (omega (arith, below)) ∙ sym e)
   all (suc i) zero d less below = absurd (omega (arith, less))
   all (suc i) (suc j) d less below = λ e. omega (arith, e, h.rising i j d (omega (arith, less)) (omega (arith, below)))
 
 -- the owners of any extent are different units
 row_of : (l : LayoutParts) → IsSound l → (s : ℕ) → IsRowAlong (length l.units) (owners_of l.owners s)
 row_of l sound s = record {
-  units = λ k d below. (sound.owned (slice_index_or (owners_of l.owners s) k d) s (Contains-get_or (owners_of l.owners s) k d below)).0;
+  units = λ k d below.
+      (sound.owned (slice_index_or (owners_of l.owners s) k d) s (Contains-get_or (owners_of l.owners s) k d below)).0;
   different = by_list (owners_of l.owners s) refl;
 } where
   by_list : (owners : List ℕ) → owners_of l.owners s ≡ owners → AreDifferent (owners_of l.owners s)
@@ -40,6 +42,8 @@ row_of l sound s = record {
       let owns : Owns l u s = subst (λ owners. Contains owners u) (sym e) (0, omega arith, refl) in
       owners_differ (owners_of l.owners s) (sound.owners s (sound.owned u s owns).1)
 
-pub rows_along : (l : LayoutParts) (rows : List (List ℕ)) → IsSound l → AreOwnerRows l.owners (length l.placed) rows → All (IsRowAlong (length l.units)) rows
+pub rows_along : (l : LayoutParts) (rows : List (List ℕ)) → IsSound l → AreOwnerRows l.owners (length l.placed) rows
+    → All (IsRowAlong (length l.units)) rows
 rows_along l rows sound h k d below =
-    subst (IsRowAlong (length l.units)) (sym (get_or_default rows k d [] below ∙ h.each k (omega (arith, h.len, below)))) (row_of l sound k)
+    subst (IsRowAlong (length l.units))
+    (sym (get_or_default rows k d [] below ∙ h.each k (omega (arith, h.len, below)))) (row_of l sound k)

@@ -1,5 +1,6 @@
 -- The tables of edges and of units by address, extended by one edge, one address and one unit at a time.
-use Rattle.std.proofs.Common.{◌≡◌, ◌≢◌, inl, inr, ℕ, zero, suc, ◌+◌, ◌<◌, ◌≤◌, Bool, true, false, List, [], ◌∷◌, ◌++◌, length, Option, Some, None, replicate, refl, sym, ap, subst, ◌∙◌, arith, length-append}
+use Rattle.std.proofs.Common.{◌≡◌, ◌≢◌, inl, inr, ℕ, zero, suc, ◌+◌, ◌<◌, ◌≤◌, Bool, true, false, List, [], ◌∷◌, ◌++◌}
+use Rattle.std.proofs.Common.{length, Option, Some, None, replicate, refl, sym, ap, subst, ◌∙◌, arith, length-append}
 use Rattle.std.specs.Prelude.{slice_index_or, slice_set}
 use Rattle.std.specs.List.{Contains}
 use Rattle.std.proofs.lemmas.Bool.{cases_lt}
@@ -22,14 +23,17 @@ use Rattle.m51_module.proofs.Owning.{none_in_empty}
 use Rattle.m51_module.proofs.Units.{same_or_not, at_from_covers, covers_from_at, one_unit}
 
 -- one more row
-clear_at : (wide : ℕ) (rows : List (List Bool)) → ((u : ℕ) → u < length rows → slice_index_or rows u [] ≡ replicate wide false)
+clear_at : (wide : ℕ) (rows : List (List Bool))
+    → ((u : ℕ) → u < length rows → slice_index_or rows u [] ≡ replicate wide false)
     → (u : ℕ) → u < length rows + 1 → slice_index_or (rows ++ replicate wide false ∷ []) u [] ≡ replicate wide false
 clear_at wide [] h zero below = refl
 clear_at wide [] h (suc u) below = absurd (omega (arith, below))
 clear_at wide (r ∷ rs) h zero below = h zero (omega arith)
-clear_at wide (r ∷ rs) h (suc u) below = clear_at wide rs (λ u low. h (suc u) (omega (arith, low))) u (omega (arith, below))
+clear_at wide (r ∷ rs) h (suc u) below =
+    clear_at wide rs (λ u low. h (suc u) (omega (arith, low))) u (omega (arith, below))
 
-pub clear_more : (units wide : ℕ) (rows : List (List Bool)) (row : List Bool) → AreClear units wide rows → row ≡ replicate wide false → AreClear (units + 1) wide (rows ++ row ∷ [])
+pub clear_more : (units wide : ℕ) (rows : List (List Bool)) (row : List Bool) → AreClear units wide rows → row
+    ≡ replicate wide false → AreClear (units + 1) wide (rows ++ row ∷ [])
 clear_more units wide rows row h is = rw is (record {
   len = omega (arith, h.len, length-append rows (replicate wide false ∷ []));
   each = λ u below. clear_at wide rows (λ u low. h.each u (omega (arith, h.len, low))) u (omega (arith, h.len, below));
@@ -41,13 +45,16 @@ edges_start units rows h = record {
   len = h.len;
   wide = λ u below. ap length (h.each u below) ∙ length-replicate units false;
   each = λ u v u_in v_in. (
-    (λ set. let clear : slice_index_or (slice_index_or rows u []) v false ≡ false = ap (λ row. slice_index_or row v false) (h.each u u_in) ∙ get_or-replicate units v false false v_in in absurd (cc (set, clear))),
+    (λ set. let clear : slice_index_or (slice_index_or rows u []) v false ≡ false =
+        ap (λ row. slice_index_or row v false) (h.each u u_in) ∙ get_or-replicate units v false false v_in in
+        absurd (cc (set, clear))),
     (λ edge. absurd (none_in_empty (u, v) edge)),
   );
 }
 
 -- what one more edge sets
-module _ (edges : Edges) (units : ℕ) (rows : List (List Bool)) (f t : ℕ) (h : AreEdgeRows edges units rows) (f_in : f < units) (t_in : t < units) where
+module _ (edges : Edges) (units : ℕ) (rows : List (List Bool)) (f t : ℕ) (h : AreEdgeRows edges units rows)
+    (f_in : f < units) (t_in : t < units) where
   abbrev row : List Bool
   row = slice_set (slice_index_or rows f []) t true
 
@@ -57,11 +64,14 @@ module _ (edges : Edges) (units : ℕ) (rows : List (List Bool)) (f t : ℕ) (h 
   other_row : (u : ℕ) → u ≢ f → slice_index_or (slice_set rows f row) u [] ≡ slice_index_or rows u []
   other_row u ne = get_or-set_other rows f u row [] ne
 
-  set_is : (u v : ℕ) → u < units → v < units → slice_index_or (slice_index_or (slice_set rows f row) u []) v false ≡ true → HasEdge (edges ++ (f, t) ∷ []) u v
+  set_is : (u v : ℕ) → u < units → v < units → slice_index_or (slice_index_or (slice_set rows f row) u []) v false
+      ≡ true → HasEdge (edges ++ (f, t) ∷ []) u v
   set_is u v u_in v_in set = elim (same_or_not u f) as (λ _. HasEdge (edges ++ (f, t) ∷ []) u v) [
-    | inr other ↦ Contains-append_left edges ((f, t) ∷ []) (u, v) ((h.each u v u_in v_in).0 (ap (λ r. slice_index_or r v false) (sym (other_row u other)) ∙ set))
+    | inr other ↦ Contains-append_left edges ((f, t) ∷ []) (u, v)
+        ((h.each u v u_in v_in).0 (ap (λ r. slice_index_or r v false) (sym (other_row u other)) ∙ set))
     | inl first ↦ elim (same_or_not v t) as (λ _. HasEdge (edges ++ (f, t) ∷ []) u v) [
-      | inl second ↦ subst (λ (p : ℕ × ℕ). Contains (edges ++ (f, t) ∷ []) p) (ap (λ (x : ℕ). (x, t)) (sym first) ∙ ap (λ (y : ℕ). (u, y)) (sym second)) (Contains-push edges (f, t))
+      | inl second ↦ subst (λ (p : ℕ × ℕ). Contains (edges ++ (f, t) ∷ []) p)
+          (ap (λ (x : ℕ). (x, t)) (sym first) ∙ ap (λ (y : ℕ). (u, y)) (sym second)) (Contains-push edges (f, t))
       | inr other ↦ Contains-append_left edges ((f, t) ∷ []) (u, v) ((h.each u v u_in v_in).0
           (ap (λ k. slice_index_or (slice_index_or rows k []) v false) first
           ∙ sym (get_or-set_other (slice_index_or rows f []) t v true false other)
@@ -75,24 +85,35 @@ module _ (edges : Edges) (units : ℕ) (rows : List (List Bool)) (f t : ℕ) (h 
   at_new v e = ap (λ r. slice_index_or r v false) same_row ∙ ap (λ k. slice_index_or row k false) e
       ∙ get_or-set_same (slice_index_or rows f []) t true false (omega (arith, h.wide f f_in, t_in))
 
-  edge_set : (u v : ℕ) → u < units → v < units → HasEdge (edges ++ (f, t) ∷ []) u v → slice_index_or (slice_index_or (slice_set rows f row) u []) v false ≡ true
-  edge_set u v u_in v_in edge = elim (Contains-push_cases edges (f, t) (u, v) edge) as (λ _. slice_index_or (slice_index_or (slice_set rows f row) u []) v false ≡ true) [
-    | inr last ↦ ap (λ k. slice_index_or (slice_index_or (slice_set rows f row) k []) v false) (sym (ap (λ (p : ℕ × ℕ). p.0) last)) ∙ at_new v (sym (ap (λ (p : ℕ × ℕ). p.1) last))
-    | inl before ↦ elim (same_or_not u f) as (λ _. slice_index_or (slice_index_or (slice_set rows f row) u []) v false ≡ true) [
-      | inr other ↦ ap (λ r. slice_index_or r v false) (other_row u other) ∙ (h.each u v u_in v_in).1 before
-      | inl first ↦ ap (λ k. slice_index_or (slice_index_or (slice_set rows f row) k []) v false) first ∙ elim (same_or_not v t) as (λ _. slice_index_or (slice_index_or (slice_set rows f row) f []) v false ≡ true) [
-        | inl second ↦ at_new v second
-        | inr apart ↦ ap (λ r. slice_index_or r v false) same_row ∙ get_or-set_other (slice_index_or rows f []) t v true false apart
-            ∙ ap (λ k. slice_index_or (slice_index_or rows k []) v false) (sym first) ∙ (h.each u v u_in v_in).1 before
+  edge_set : (u v : ℕ) → u < units → v < units → HasEdge (edges ++ (f, t) ∷ []) u v
+      → slice_index_or (slice_index_or (slice_set rows f row) u []) v false ≡ true
+  edge_set u v u_in v_in edge =
+      elim (Contains-push_cases edges (f, t) (u, v) edge) as
+      (λ _. slice_index_or (slice_index_or (slice_set rows f row) u []) v false ≡ true) [
+        | inr last ↦ ap (λ k. slice_index_or (slice_index_or (slice_set rows f row) k []) v false)
+            (sym (ap (λ (p : ℕ × ℕ). p.0) last)) ∙ at_new v (sym (ap (λ (p : ℕ × ℕ). p.1) last))
+        | inl before ↦ elim (same_or_not u f) as
+            (λ _. slice_index_or (slice_index_or (slice_set rows f row) u []) v false ≡ true) [
+              | inr other ↦ ap (λ r. slice_index_or r v false) (other_row u other) ∙ (h.each u v u_in v_in).1 before
+              | inl first ↦ ap (λ k. slice_index_or (slice_index_or (slice_set rows f row) k []) v false) first
+                  ∙ elim (same_or_not v t) as
+                  (λ _. slice_index_or (slice_index_or (slice_set rows f row) f []) v false ≡ true) [
+                    | inl second ↦ at_new v second
+                    | inr apart ↦ ap (λ r. slice_index_or r v false) same_row
+                        ∙ get_or-set_other (slice_index_or rows f []) t v true false apart
+                        ∙ ap (λ k. slice_index_or (slice_index_or rows k []) v false) (sym first)
+                        ∙ (h.each u v u_in v_in).1 before
+                  ]
+            ]
       ]
-    ]
-  ]
 
-  pub edges_more : AreEdgeRows (edges ++ (f, t) ∷ []) units (slice_set rows f (slice_set (slice_index_or rows f []) t true))
+  pub edges_more : AreEdgeRows (edges ++ (f, t) ∷ []) units
+      (slice_set rows f (slice_set (slice_index_or rows f []) t true))
   edges_more = record {
     len = length-set rows f row ∙ h.len;
     wide = λ u below. elim (same_or_not u f) as (λ _. length (slice_index_or (slice_set rows f row) u []) ≡ units) [
-      | inl same ↦ ap (λ k. length (slice_index_or (slice_set rows f row) k [])) same ∙ ap length same_row ∙ length-set (slice_index_or rows f []) t true ∙ h.wide f f_in
+      | inl same ↦ ap (λ k. length (slice_index_or (slice_set rows f row) k [])) same ∙ ap length same_row
+          ∙ length-set (slice_index_or rows f []) t true ∙ h.wide f f_in
       | inr other ↦ ap length (other_row u other) ∙ h.wide u below
     ];
     each = λ u v u_in v_in. (set_is u v u_in v_in, edge_set u v u_in v_in);
@@ -117,16 +138,22 @@ entered_start base unit table = record {
 }
 
 -- at one more address
-pub entered_more : (base size unit : ℕ) (old new : List (Option ℕ)) → IsEntered base size unit old new → base + size < length old
+pub entered_more : (base size unit : ℕ) (old new : List (Option ℕ)) → IsEntered base size unit old new
+    → base + size < length old
     → IsEntered base (size + 1) unit old (slice_set new (base + size) (Some unit))
 entered_more base size unit old new h there = record {
   len = length-set new (base + size) (Some unit) ∙ h.len;
-  within = λ address from below. elim (same_or_not address (base + size)) as (λ _. slice_index_or (slice_set new (base + size) (Some unit)) address None ≡ Some unit) [
-    | inl last ↦ ap (λ k. slice_index_or (slice_set new (base + size) (Some unit)) k None) last ∙ get_or-set_same new (base + size) (Some unit) None (omega (arith, h.len, there))
-    | inr other ↦ get_or-set_other new (base + size) address (Some unit) None other ∙ h.within address from (omega (arith, below, other))
-  ];
-  before = λ address low. get_or-set_other new (base + size) address (Some unit) None (λ e. omega (arith, e, low)) ∙ h.before address low;
-  after = λ address high. get_or-set_other new (base + size) address (Some unit) None (λ e. omega (arith, e, high)) ∙ h.after address (omega (arith, high));
+  within = λ address from below. elim (same_or_not address (base + size)) as
+      (λ _. slice_index_or (slice_set new (base + size) (Some unit)) address None ≡ Some unit) [
+        | inl last ↦ ap (λ k. slice_index_or (slice_set new (base + size) (Some unit)) k None) last
+            ∙ get_or-set_same new (base + size) (Some unit) None (omega (arith, h.len, there))
+        | inr other ↦ get_or-set_other new (base + size) address (Some unit) None other
+            ∙ h.within address from (omega (arith, below, other))
+      ];
+  before = λ address low. get_or-set_other new (base + size) address (Some unit) None (λ e. omega (arith, e, low))
+      ∙ h.before address low;
+  after = λ address high. get_or-set_other new (base + size) address (Some unit) None (λ e. omega (arith, e, high))
+      ∙ h.after address (omega (arith, high));
 }
 
 -- no unit yet
@@ -141,24 +168,30 @@ units_start l table h = record {
 
 -- a segment of program memory with a byte ends inside it
 code_end : (p : Placed) → p.kind ≡ Code → IsInside (extent_at p) → 0 < p.size → p.base + p.size ≤ 65536
-code_end p code inside some = inside_end (extent CodeSpace p.base p.size) (subst (λ k. IsInside (extent_of k p.base p.size)) code inside) some
+code_end p code inside some =
+    inside_end (extent CodeSpace p.base p.size) (subst (λ k. IsInside (extent_of k p.base p.size)) code inside) some
 
 -- a unit of program memory ends inside it
-pub unit_end : (l : LayoutParts) (unit : ℕ) (p : Placed) → IsSound l → IsUnit l unit p → p.kind ≡ Code → p.base ≤ 65536 → p.base + p.size ≤ 65536
+pub unit_end : (l : LayoutParts) (unit : ℕ) (p : Placed) → IsSound l → IsUnit l unit p → p.kind ≡ Code → p.base ≤ 65536
+    → p.base + p.size ≤ 65536
 unit_end l unit p sound is code low = by_size p.size refl where
   by_size : (size : ℕ) → p.size ≡ size → p.base + p.size ≤ 65536
   by_size zero e = omega (arith, e, low)
   by_size (suc more) e = code_end p code (sound.fit is.segment p is.placed).inside (omega (arith, e))
 
 -- an address that a unit covers lies between its base and its end
-covered : (l : LayoutParts) (address unit : ℕ) (p : Placed) → IsUnit l unit p → p.kind ≡ Code → IsUnitAt l address unit → (p.base ≤ address) × (address < p.base + p.size)
+covered : (l : LayoutParts) (address unit : ℕ) (p : Placed) → IsUnit l unit p → p.kind ≡ Code → IsUnitAt l address unit
+    → (p.base ≤ address) × (address < p.base + p.size)
 covered l address unit p is code at =
     let c = code_covers p (code_cell address) code (covers_from_at l address unit p is at) in (c.from, c.below)
 
 -- and it covers each of those
-covers : (l : LayoutParts) (address unit : ℕ) (p : Placed) → IsUnit l unit p → p.kind ≡ Code → p.base ≤ address → address < p.base + p.size → IsUnitAt l address unit
+covers : (l : LayoutParts) (address unit : ℕ) (p : Placed) → IsUnit l unit p → p.kind ≡ Code → p.base ≤ address
+    → address < p.base + p.size → IsUnitAt l address unit
 covers l address unit p is code from below =
-    at_from_covers l address unit p is (subst (λ k. Covers (extent_of k p.base p.size) (code_cell address)) (sym code) (record { space = refl; from = from; below = below }))
+    at_from_covers l address unit p is
+    (subst (λ k. Covers (extent_of k p.base p.size) (code_cell address)) (sym code)
+    (record { space = refl; from = from; below = below }))
 
 -- an address is before the extent, in it or after it
 data Lies (base size address : ℕ) : Type 0 where
@@ -167,28 +200,39 @@ data Lies (base size address : ℕ) : Type 0 where
   IsAfter : base + size ≤ address → Lies base size address
 
 lies : (base size address : ℕ) → Lies base size address
-lies base size address = by_order base address (λ low. IsBefore low) (λ from. by_order (base + size) address (λ below. IsWithin from below) (λ high. IsAfter high)) where
-  by_order : (a b : ℕ) → (b < a → Lies base size address) → (a ≤ b → Lies base size address) → Lies base size address
-  by_order a b below above = elim (cases_lt b a) as (λ _. Lies base size address) [ inl less ↦ below less | inr not_less ↦ above not_less ]
+lies base size address =
+    by_order base address (λ low. IsBefore low)
+    (λ from. by_order (base + size) address (λ below. IsWithin from below) (λ high. IsAfter high)) where
+      by_order : (a b : ℕ) → (b < a → Lies base size address) → (a ≤ b → Lies base size address)
+          → Lies base size address
+      by_order a b below above =
+          elim (cases_lt b a) as (λ _. Lies base size address) [ inl less ↦ below less | inr not_less ↦ above not_less ]
 
 -- one more unit
-pub units_more : (l : LayoutParts) (unit : ℕ) (p : Placed) (old new : List (Option ℕ)) → IsSound l → AreUnitsAt l unit old → IsUnit l unit p → p.kind ≡ Code
+pub units_more : (l : LayoutParts) (unit : ℕ) (p : Placed) (old new : List (Option ℕ)) → IsSound l
+    → AreUnitsAt l unit old → IsUnit l unit p → p.kind ≡ Code
     → IsEntered p.base p.size unit old new → AreUnitsAt l (unit + 1) new
 units_more l unit p old new sound h is code entered = record {
   len = entered.len ∙ h.len;
   some = λ address v inside e. elim (lies p.base p.size address) as (λ _. (v < unit + 1) × IsUnitAt l address v) [
     | IsBefore low ↦ before address v (h.some address v inside (sym (entered.before address low) ∙ e))
     | IsAfter high ↦ before address v (h.some address v inside (sym (entered.after address high) ∙ e))
-    | IsWithin from below ↦ at_unit address v (same_Some unit v (sym (entered.within address from below) ∙ e)) (covers l address unit p is code from below)
+    | IsWithin from below ↦ at_unit address v (same_Some unit v (sym (entered.within address from below) ∙ e))
+        (covers l address unit p is code from below)
   ];
-  only = λ address v inside below at. elim (below_or_last v unit below) as (λ _. slice_index_or new address None ≡ Some v) [
-    | inl less ↦ elim (lies p.base p.size address) as (λ _. slice_index_or new address None ≡ Some v) [
-      | IsBefore low ↦ entered.before address low ∙ h.only address v inside less at
-      | IsAfter high ↦ entered.after address high ∙ h.only address v inside less at
-      | IsWithin from under ↦ absurd (omega (arith, less, one_unit l sound address v unit at (covers l address unit p is code from under)))
-    ]
-    | inr last ↦ (let k = covered l address unit p is code (subst (IsUnitAt l address) last at) in entered.within address k.0 k.1 ∙ ap Some (sym last))
-  ];
+  only = λ address v inside below at. elim (below_or_last v unit below) as
+      (λ _. slice_index_or new address None ≡ Some v) [
+        | inl less ↦ elim (lies p.base p.size address) as (λ _. slice_index_or new address None ≡ Some v) [
+          | IsBefore low ↦ entered.before address low ∙ h.only address v inside less at
+          | IsAfter high ↦ entered.after address high ∙ h.only address v inside less at
+          | IsWithin from under ↦ absurd
+              (omega (arith, less, one_unit l sound address v unit at (covers l address unit p is code from under)))
+        ]
+        | inr last ↦
+            (let k = covered l address unit p is code (subst (IsUnitAt l address) last at) in
+            entered.within address k.0 k.1
+            ∙ ap Some (sym last))
+      ];
 } where
   before : (address v : ℕ) → (v < unit) × IsUnitAt l address v → (v < unit + 1) × IsUnitAt l address v
   before address v k = (omega (arith, k.0), k.1)

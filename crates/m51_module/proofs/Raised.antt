@@ -1,5 +1,6 @@
 -- A module stays valid when it is raised to version 2.
-use Rattle.std.proofs.Common.{◌≡◌, inl, inr, ℕ, zero, suc, ◌+◌, ◌<◌, true, ◌&&◌, List, [], ◌∷◌, ◌++◌, length, map, take, drop, get_or, Some, refl, sym, ap, subst, ◌∙◌, arith}
+use Rattle.std.proofs.Common.{◌≡◌, inl, inr, ℕ, zero, suc, ◌+◌, ◌<◌, true, ◌&&◌, List, [], ◌∷◌, ◌++◌, length, map, take}
+use Rattle.std.proofs.Common.{drop, get_or, Some, refl, sym, ap, subst, ◌∙◌, arith}
 use Rattle.std.specs.Prelude.{slice_set, option_map}
 use Rattle.std.specs.List.{AllPairs}
 use Rattle.std.proofs.lemmas.Bool.{and_parts, or_cases}
@@ -19,16 +20,19 @@ use Rattle.m51_module.specs.declared.segment.Segment.{Segment}
 use Rattle.m51_module.specs.declared.symbol.External.{External}
 use Rattle.m51_module.specs.declared.symbol.Public.{Public}
 use Rattle.m51_module.specs.Arguments.{is_argument_name, may_be_argument, marked, raised}
-use Rattle.m51_module.specs.Validity.{numbered, Differ, IsArgument, IsSegmentValid, IsPublicBase, IsPublicValid, IsPieceValid, IsTarget, IsFixupValid, IsValid}
+use Rattle.m51_module.specs.Validity.{numbered, Differ, IsArgument, IsSegmentValid, IsPublicBase, IsPublicValid}
+use Rattle.m51_module.specs.Validity.{IsPieceValid, IsTarget, IsFixupValid, IsValid}
 
 -- a list whose first elements are mapped in place, one more
-mapped_next : {X : Type 0} (f : X → X) (old : List X) (i : ℕ) (x : X) → i < length old → x ≡ get_or (map f (take i old) ++ drop i old) i x
+mapped_next : {X : Type 0} (f : X → X) (old : List X) (i : ℕ) (x : X) → i < length old → x
+    ≡ get_or (map f (take i old) ++ drop i old) i x
     → slice_set (map f (take i old) ++ drop i old) i (f x) ≡ map f (take (suc i) old) ++ drop (suc i) old
 mapped_next f [] i x below is = absurd (omega (arith, below))
 mapped_next f (y ∷ ys) zero x below is = ap (λ z. f z ∷ ys) is
 mapped_next f (y ∷ ys) (suc i) x below is = ap (λ zs. f y ∷ zs) (mapped_next f ys i x (omega (arith, below)) is)
 
-pub mapped_more : {X : Type 0} (f : X → X) (old now : List X) (i : ℕ) (x : X) → now ≡ map f (take i old) ++ drop i old → i < length old → x ≡ get_or now i x
+pub mapped_more : {X : Type 0} (f : X → X) (old now : List X) (i : ℕ) (x : X) → now ≡ map f (take i old) ++ drop i old
+    → i < length old → x ≡ get_or now i x
     → slice_set now i (f x) ≡ map f (take (i + 1) old) ++ drop (i + 1) old
 mapped_more f old now i x is below at =
     let next : suc i ≡ i + 1 = omega arith in
@@ -57,19 +61,23 @@ marked_valid s h = record {
 }
 
 -- the segment of a number, marked
-numbered_marked : (segments : List Segment) (number : ℕ) → numbered (map marked segments) number ≡ option_map marked (numbered segments number)
+numbered_marked : (segments : List Segment) (number : ℕ) → numbered (map marked segments) number
+    ≡ option_map marked (numbered segments number)
 numbered_marked segments zero = refl
 numbered_marked segments (suc before) = slice_get-map marked segments before
 
-found : (segments : List Segment) (number : ℕ) (s : Segment) → numbered segments number ≡ Some s → numbered (map marked segments) number ≡ Some (marked s)
+found : (segments : List Segment) (number : ℕ) (s : Segment) → numbered segments number ≡ Some s
+    → numbered (map marked segments) number ≡ Some (marked s)
 found segments number s e = numbered_marked segments number ∙ ap (option_map marked) e
 
-base_stays : (segments : List Segment) (kind : Kind) (base : Base) → IsPublicBase segments kind base → IsPublicBase (map marked segments) kind base
+base_stays : (segments : List Segment) (kind : Kind) (base : Base) → IsPublicBase segments kind base
+    → IsPublicBase (map marked segments) kind base
 base_stays segments kind NoBase h = tt
 base_stays segments kind (InSegment number) (s, is, same) = (marked s, found segments number s is, same)
 base_stays segments kind (OfExternal number) h = h
 
-target_stays : (segments : List Segment) (externals : List External) (base : Base) → IsTarget segments externals base → IsTarget (map marked segments) externals base
+target_stays : (segments : List Segment) (externals : List External) (base : Base) → IsTarget segments externals base
+    → IsTarget (map marked segments) externals base
 target_stays segments externals NoBase h = h
 target_stays segments externals (InSegment number) (s, is) = (marked s, found segments number s is)
 target_stays segments externals (OfExternal number) h = h
@@ -87,16 +95,21 @@ piece_stays segments p h = record {
   inside = h.inside;
 }
 
-fixup_stays : (segments : List Segment) (externals : List External) (pieces : List Piece) (f : Fixup) → IsFixupValid segments externals pieces f
+fixup_stays : (segments : List Segment) (externals : List External) (pieces : List Piece) (f : Fixup)
+    → IsFixupValid segments externals pieces f
     → IsFixupValid (map marked segments) externals pieces f
-fixup_stays segments externals pieces f h = record { bit = h.bit; target = target_stays segments externals f.target h.target; held = h.held }
+fixup_stays segments externals pieces f h =
+    record { bit = h.bit; target = target_stays segments externals f.target h.target; held = h.held }
 
 -- the names stay different
-names_stay : (segments : List Segment) → AllPairs (λ s t. Differ s.name t.name) segments → AllPairs (λ s t. Differ s.name t.name) (map marked segments)
+names_stay : (segments : List Segment) → AllPairs (λ s t. Differ s.name t.name) segments
+    → AllPairs (λ s t. Differ s.name t.name) (map marked segments)
 names_stay segments h i j d less below =
     let in_it : j < length segments = omega (arith, below, length-map segments marked) in
-    let one : get_or (map marked segments) i d ≡ marked (get_or segments i d) = get_or-map marked segments i d d (omega (arith, less, in_it)) in
-    let two : get_or (map marked segments) j d ≡ marked (get_or segments j d) = get_or-map marked segments j d d in_it in
+    let one : get_or (map marked segments) i d ≡ marked (get_or segments i d) =
+    get_or-map marked segments i d d (omega (arith, less, in_it)) in
+    let two : get_or (map marked segments) j d ≡ marked (get_or segments j d) =
+    get_or-map marked segments j d d in_it in
     subst (λ (s : Segment). Differ s.name (get_or (map marked segments) j d).name) (sym one)
     (subst (λ (t : Segment). Differ (get_or segments i d).name t.name) (sym two) (h i j d less in_it))
 
@@ -107,7 +120,9 @@ raised_valid m h = record {
   few_segments = omega (arith, h.few_segments, length-map m.segments marked);
   few_externals = h.few_externals;
   few_fixups = h.few_fixups;
-  segments = All-map IsSegmentValid marked m.segments (λ k d below. marked_valid (get_or m.segments k d) (h.segments k d below));
+  segments =
+      All-map IsSegmentValid marked m.segments
+      (λ k d below. marked_valid (get_or m.segments k d) (h.segments k d below));
   marks = λ k d below e. refl;
   segment_names = names_stay m.segments h.segment_names;
   publics = λ k d below. public_stays m.segments (get_or m.publics k d) (h.publics k d below);

@@ -5,7 +5,8 @@ use Rattle.m51_module.specs.Walks.{Edges, HasEdge, IsWalk, last_of, Reaches}
 use Rattle.m51_module.specs.Roots.{LiesUnder}
 
 -- a walk with one more edge at its end
-pub walk_on : (edges : Edges) (u : ℕ) (vs : List ℕ) (w : ℕ) → IsWalk edges u vs → HasEdge edges (last_of u vs) w → IsWalk edges u (vs ++ w ∷ [])
+pub walk_on : (edges : Edges) (u : ℕ) (vs : List ℕ) (w : ℕ) → IsWalk edges u vs → HasEdge edges (last_of u vs) w
+    → IsWalk edges u (vs ++ w ∷ [])
 walk_on edges u [] w p h = (h, tt)
 walk_on edges u (v ∷ vs) w p h = (p.0, walk_on edges v vs w p.1 h)
 

@@ -1,5 +1,6 @@
 -- Units of a sound layout: each is a segment of program memory, and no two are at one address or at one vector.
-use Rattle.std.proofs.Common.{◌≡◌, ◌≢◌, ◌⊎◌, inl, inr, ℕ, zero, suc, ◌<◌, Some, [], length, refl, sym, ap, subst, ◌∙◌, arith}
+use Rattle.std.proofs.Common.{◌≡◌, ◌≢◌, ◌⊎◌, inl, inr, ℕ, zero, suc, ◌<◌, Some, [], length, refl, sym, ap, subst, ◌∙◌}
+use Rattle.std.proofs.Common.{arith}
 use Rattle.std.specs.Prelude.{slice_index, slice_index_or}
 use Rattle.std.specs.List.{Contains}
 use Rattle.std.proofs.lemmas.Option.{slice_get_within, slice_get-get_or}
@@ -37,7 +38,8 @@ same_unit l unit p q h k = let e : h.segment ≡ k.segment = cc (h.unit_is, k.un
 module _ (l : LayoutParts) (sound : IsSound l) where
   -- its index is that of an extent
   pub unit_place : (unit : ℕ) → unit < length l.units → slice_index l.units unit < length l.placed
-  unit_place unit h = let k = sound.is_code unit (slice_index l.units unit) (slice_get-get_or l.units unit 0 h) in slice_get_within l.placed (slice_index l.units unit) k.0 k.1
+  unit_place unit h = let k = sound.is_code unit (slice_index l.units unit) (slice_get-get_or l.units unit 0 h) in
+      slice_get_within l.placed (slice_index l.units unit) k.0 k.1
 
   -- and is of program memory
   pub unit_kind : (unit : ℕ) (p : Placed) → IsUnit l unit p → p.kind ≡ Code
@@ -50,11 +52,14 @@ module _ (l : LayoutParts) (sound : IsSound l) where
   code_is_plain s p is k o = (sound.fit s p is).code k (cc (is, o.1, o.2))
 
   -- two units do not share a cell
-  one_cell : (u v : ℕ) (p q : Placed) (c : Cell) → IsUnit l u p → IsUnit l v q → Covers (extent_at p) c → Covers (extent_at q) c → u ≡ v
+  one_cell : (u v : ℕ) (p q : Placed) (c : Cell) → IsUnit l u p → IsUnit l v q → Covers (extent_at p) c
+      → Covers (extent_at q) c → u ≡ v
   one_cell u v p q c h k first second =
       elim (same_or_not h.segment k.segment) as (λ d. u ≡ v) [
         | inl e ↦ sound.once u v k.segment (h.unit_is ∙ ap Some e) k.unit_is
-        | inr ne ↦ absurd (sound.apart h.segment k.segment p q h.placed k.placed ne (FirstPlain (code_is_plain h.segment p h.placed (unit_kind u p h))) (c, first, second))
+        | inr ne ↦ absurd
+            (sound.apart h.segment k.segment p q h.placed k.placed ne
+            (FirstPlain (code_is_plain h.segment p h.placed (unit_kind u p h))) (c, first, second))
       ]
 
   pub one_unit : (address u v : ℕ) → IsUnitAt l address u → IsUnitAt l address v → u ≡ v
@@ -65,7 +70,8 @@ module _ (l : LayoutParts) (sound : IsSound l) where
   root_covers vector u h =
       let fit = sound.fit h.unit_is.segment h.is h.unit_is.placed in
       let some : 0 < h.is.size = fit.absolute h.absolute in
-      subst (λ k. Covers (extent_of k h.is.base h.is.size) (code_cell vector)) (sym h.code) (record { space = refl; from = omega (arith, h.base); below = omega (arith, h.base, some) })
+      subst (λ k. Covers (extent_of k h.is.base h.is.size) (code_cell vector)) (sym h.code)
+      (record { space = refl; from = omega (arith, h.base); below = omega (arith, h.base, some) })
 
   -- so it is the unit that covers the vector
   pub root_at : (vector u : ℕ) → IsRootAt l vector u → IsUnitAt l vector u
@@ -84,7 +90,8 @@ pub root_below : (l : LayoutParts) (vector u : ℕ) → IsRootAt l vector u → 
 root_below l vector u h = is_unit_below l u h.is h.unit_is
 
 -- a unit, by its index among the extents
-pub unit_at_place : (l : LayoutParts) (unit : ℕ) (p : Placed) → unit < length l.units → slice_index l.units unit < length l.placed
+pub unit_at_place : (l : LayoutParts) (unit : ℕ) (p : Placed) → unit < length l.units
+    → slice_index l.units unit < length l.placed
     → slice_index_or l.placed (slice_index l.units unit) p ≡ p → IsUnit l unit p
 unit_at_place l unit p h k e = record {
   segment = slice_index l.units unit;
@@ -93,15 +100,20 @@ unit_at_place l unit p h k e = record {
 }
 
 -- a unit covers an address where its extent does
-pub at_from_covers : (l : LayoutParts) (address unit : ℕ) (p : Placed) → IsUnit l unit p → Covers (extent_at p) (code_cell address) → IsUnitAt l address unit
+pub at_from_covers : (l : LayoutParts) (address unit : ℕ) (p : Placed) → IsUnit l unit p
+    → Covers (extent_at p) (code_cell address) → IsUnitAt l address unit
 at_from_covers l address unit p h c = record { is = p; unit_is = h; covers = c }
 
-pub covers_from_at : (l : LayoutParts) (address unit : ℕ) (p : Placed) → IsUnit l unit p → IsUnitAt l address unit → Covers (extent_at p) (code_cell address)
-covers_from_at l address unit p h at = subst (λ (q : Placed). Covers (extent_at q) (code_cell address)) (same_unit l unit at.is p at.unit_is h) at.covers
+pub covers_from_at : (l : LayoutParts) (address unit : ℕ) (p : Placed) → IsUnit l unit p → IsUnitAt l address unit
+    → Covers (extent_at p) (code_cell address)
+covers_from_at l address unit p h at =
+    subst (λ (q : Placed). Covers (extent_at q) (code_cell address)) (same_unit l unit at.is p at.unit_is h) at.covers
 
 -- a unit is a root where its extent is absolute and begins at the vector
-pub root_from_parts : (l : LayoutParts) (vector unit : ℕ) (p : Placed) → IsUnit l unit p → p.kind ≡ Code → Contains vectors vector → p.mark ≡ Absolute → p.base ≡ vector → IsRootAt l vector unit
-root_from_parts l vector unit p h code is absolute base = record { vector_is = is; is = p; unit_is = h; code = code; absolute = absolute; base = base }
+pub root_from_parts : (l : LayoutParts) (vector unit : ℕ) (p : Placed) → IsUnit l unit p → p.kind ≡ Code
+    → Contains vectors vector → p.mark ≡ Absolute → p.base ≡ vector → IsRootAt l vector unit
+root_from_parts l vector unit p h code is absolute base =
+    record { vector_is = is; is = p; unit_is = h; code = code; absolute = absolute; base = base }
 
 -- what a root is
 pub record Root (vector : ℕ) (p : Placed) : Type 0 where
@@ -109,11 +121,19 @@ pub record Root (vector : ℕ) (p : Placed) : Type 0 where
   pub absolute : p.mark ≡ Absolute
   pub base : p.base ≡ vector
 
-pub parts_from_root : (l : LayoutParts) (vector unit : ℕ) (p : Placed) → IsUnit l unit p → IsRootAt l vector unit → Root vector p
+pub parts_from_root : (l : LayoutParts) (vector unit : ℕ) (p : Placed) → IsUnit l unit p → IsRootAt l vector unit
+    → Root vector p
 parts_from_root l vector unit p h r =
     let e : r.is ≡ p = same_unit l unit r.is p r.unit_is h in
-    record { vector_is = r.vector_is; absolute = sym (ap (λ (q : Placed). q.mark) e) ∙ r.absolute; base = sym (ap (λ (q : Placed). q.base) e) ∙ r.base }
+    record {
+      vector_is = r.vector_is;
+      absolute = sym (ap (λ (q : Placed). q.mark) e) ∙ r.absolute;
+      base =
+          sym (ap (λ (q : Placed). q.base) e) ∙ r.base;
+    }
 
 -- what is not overlaid has no owners
-pub plain_has_none : (l : LayoutParts) (segment : ℕ) → IsSound l → (IsOverlaid l segment → ⊥) → owners_of l.owners segment ≡ []
-plain_has_none l segment sound plain = empty_of_none (owners_of l.owners segment) (λ unit owns. plain (sound.owned unit segment owns).1)
+pub plain_has_none : (l : LayoutParts) (segment : ℕ) → IsSound l → (IsOverlaid l segment → ⊥)
+    → owners_of l.owners segment ≡ []
+plain_has_none l segment sound plain =
+    empty_of_none (owners_of l.owners segment) (λ unit owns. plain (sound.owned unit segment owns).1)

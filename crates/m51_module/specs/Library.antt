@@ -50,9 +50,9 @@ abbrev pub with_replaced : ModuleParts → List ModuleParts → List ModuleParts
 with_replaced new modules = map (λ m. if is_named new.name m then new else m) modules
 
 -- the value, where there is nothing to refuse
-abbrev pub unless : {A : Type 0} → Option LibError → A → Result A LibError
-unless None value = Ok value
-unless (Some refusal) value = Err refusal
+abbrev pub value_unless : {A : Type 0} → Option LibError → A → Result A LibError
+value_unless None value = Ok value
+value_unless (Some refusal) value = Err refusal
 
 -- what refuses a module beside these: B3 with its first public that one of them has
 abbrev pub clash : List ModuleParts → ModuleParts → Option LibError
@@ -67,7 +67,7 @@ add_refusal modules new =
 
 -- add: the module at the end
 abbrev pub added : List ModuleParts → ModuleParts → Result (List ModuleParts) LibError
-added modules new = unless (add_refusal modules new) (modules ++ new ∷ [])
+added modules new = value_unless (add_refusal modules new) (modules ++ new ∷ [])
 
 -- extract: the module of that name; B2 where there is none
 abbrev pub extracted : List ModuleParts → List ℕ → Result ModuleParts LibError
@@ -81,7 +81,7 @@ deleted modules name = and_then (extracted modules name) (λ m. Ok (m, others_th
 abbrev pub replaced : List ModuleParts → ModuleParts → Result (List ModuleParts) LibError
 replaced modules new =
     and_then (extracted modules new.name)
-    (λ _. unless (clash (others_than new.name modules) new) (with_replaced new modules))
+    (λ _. value_unless (clash (others_than new.name modules) new) (with_replaced new modules))
 
 -- raise: the module of that name raised at its index, and the others as they are; B2 where there is none
 abbrev pub raised_in : List ModuleParts → List ℕ → Result (List ModuleParts) LibError

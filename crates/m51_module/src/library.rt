@@ -1,7 +1,8 @@
 //! Libraries of modules, and their edits.
 ghost use Rattle.std.specs.Prelude.{◌≡◌, [], Some, OnErr, position};
 ghost use Rattle.m51_cells.specs.Outcome.{Gives};
-ghost use Rattle.m51_module.specs.Library.{IsLibrary, is_named, refusal_of, clash, unless, others_than, with_replaced};
+ghost use Rattle.m51_module.specs.Library.{IsLibrary, is_named, refusal_of, clash, value_unless, others_than};
+ghost use Rattle.m51_module.specs.Library.{with_replaced};
 ghost use Rattle.m51_module.specs.Library.{added, deleted, replaced, raised_in, extracted, built};
 
 use crate::members::{add_refusal_by, clash_with_others, index_of, raise_at, take_out};
@@ -175,7 +176,7 @@ impl Library {
     fn replace_at(&mut self, index: usize, incoming: Module) -> Result<(), LibError>
         requires { position (is_named incoming.name) self.old ≡ Some index }
         ensures answer { Gives (λ _. self.new) Some result
-            (unless (clash (others_than incoming.name self.old) incoming) (with_replaced incoming self.old)) }
+            (value_unless (clash (others_than incoming.name self.old) incoming) (with_replaced incoming self.old)) }
         ensures kept { OnErr result (self.new ≡ self.old) }
     {
         let alloc = *self.members.allocator();

@@ -1,29 +1,20 @@
 -- The one memory still represents the separate stores after a put, and after segments became live or dead.
-use Rattle.std.proofs.Common.{◌≡◌, ◌≢◌, ◌⊎◌, inl, inr, ℕ, Bool, true, false, ◌&&◌, Option, Some, None, refl, sym, ap}
-use Rattle.std.proofs.Common.{subst, ◌∙◌}
+use Rattle.m51_monitor.proofs.Common.{◌≡◌, ◌≢◌, ◌⊎◌, inl, inr, ℕ, Bool, true, false, ◌&&◌, Option, Some, None, refl}
+use Rattle.m51_monitor.proofs.Common.{sym, ap, subst, ◌∙◌, slice_get, if◌then◌else◌, Cell, Space, Ram, Xram, Code}
+use Rattle.m51_monitor.proofs.Common.{Covers, LayoutParts, Overlaid, Placed, extent_at, IsPlaced, IsOverlaid, Put}
+use Rattle.m51_monitor.proofs.Common.{state_at, flat_cells, CellState, Holds, Absent, Fresh, IsDataCell, IsCellAt}
+use Rattle.m51_monitor.proofs.Common.{flag_in, flag_of, OneLive, Shared, shared_cells, shared_barred, cell_state}
+use Rattle.m51_monitor.proofs.Common.{masked, Stores, IsOver, Live, Resolves, InSegment, InCommon, Nowhere}
+use Rattle.m51_monitor.proofs.Common.{is_overlaid_at, has_cell, is_common, put_into, unset_dead, StandsFor, Turned}
+use Rattle.m51_monitor.proofs.Common.{Under, Beside, AreTurned, state_over}
 use Rattle.std.proofs.lemmas.Bool.{and_right}
-use Rattle.std.specs.Prelude.{slice_get, if◌then◌else◌}
-use Rattle.m51_cells.specs.declared.cell.Cell.{Cell}
-use Rattle.m51_cells.specs.declared.cell.Space.{Space}
-use Rattle.m51_cells.specs.declared.cell.Space.TheVariants.{Ram, Xram, Code}
-use Rattle.m51_cells.specs.Extent.{Covers}
-use Rattle.m51_module.specs.declared.parts.LayoutParts.{LayoutParts}
-use Rattle.m51_module.specs.declared.placed.Mark.TheVariants.{Overlaid}
-use Rattle.m51_module.specs.declared.placed.Placed.{Placed}
-use Rattle.m51_module.specs.Cells.{extent_at}
-use Rattle.m51_module.specs.Plan.{IsSegment, IsPlaced, IsOverlaid}
-use Rattle.m51_flat.specs.declared.state.Put.{Put}
-use Rattle.m51_flat.specs.Causes.{state_at}
-use Rattle.m51_flat.specs.Flat.{flat_cells}
-use Rattle.m51_flat.specs.States.{CellState, States, Holds, Absent, Fresh, states_after, shut_of}
-use Rattle.m51_cells.specs.Cells.{IsDataCell}
-use Rattle.m51_monitor.specs.Masks.{IsCellAt, flag_in, flag_of}
-use Rattle.m51_monitor.specs.Related.{OneLive}
-use Rattle.m51_monitor.specs.Shared.{Shared, shared_cells, shared_barred, cell_state, cells_put, masked}
-use Rattle.m51_monitor.specs.Stores.{Stores, IsOver, Live, Resolves, InSegment, InCommon, Nowhere, over, is_overlaid_at}
-use Rattle.m51_monitor.specs.Stores.{has_cell, is_common, put_into, unset_dead, IsSet, AreStores, StandsFor}
-use Rattle.m51_monitor.specs.Turning.{Turned, Under, Beside, AreTurned, AreBetween}
-use Rattle.m51_flat.specs.States.{written_in, written_to, state_over}
+use Rattle.m51_module.specs.Plan.{IsSegment}
+use Rattle.m51_flat.specs.States.{States, states_after, shut_of}
+use Rattle.m51_monitor.specs.Shared.{cells_put}
+use Rattle.m51_monitor.specs.Stores.{over}
+use Rattle.m51_monitor.specs.Stores.{IsSet, AreStores}
+use Rattle.m51_monitor.specs.Turning.{AreBetween}
+use Rattle.m51_flat.specs.States.{written_in, written_to}
 use Rattle.m51_monitor.proofs.Putting.{Tells, Inside, put_tells, put_lives}
 use Rattle.m51_monitor.proofs.Putting as putting
 use Rattle.m51_monitor.proofs.Reading.{flat_holds, flat_xholds}

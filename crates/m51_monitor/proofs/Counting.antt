@@ -1,27 +1,21 @@
 -- How many units the records name, and how often each.
-use Rattle.std.proofs.Common.{◌≡◌, ◌≢◌, ◌⊎◌, inl, inr, ℕ, suc, ◌+◌, ◌*◌, ◌<◌, ◌≤◌, Bool, true, false, List, [], ◌∷◌}
-use Rattle.std.proofs.Common.{◌++◌, refl, sym, ap, subst, ◌∙◌, ⊎_elim, arith, length, length-append, eqb, nat_eq}
-use Rattle.std.specs.List.{Contains, list_any, IsDistinct, AllByRecursion}
-use Rattle.std.proofs.lemmas.Bool.Decides.{eqb_tells}
+use Rattle.m51_monitor.proofs.Common.{◌≡◌, ◌≢◌, ◌⊎◌, inl, inr, ℕ, suc, ◌+◌, ◌*◌, ◌<◌, ◌≤◌, Bool, true, false, List, []}
+use Rattle.m51_monitor.proofs.Common.{◌∷◌, ◌++◌, refl, sym, ap, subst, ◌∙◌, ⊎_elim, arith, length, nat_eq, Contains}
+use Rattle.m51_monitor.proofs.Common.{list_any, eqb_tells, contains_first, LayoutParts, IsRootAt, IsSound, HasEdge}
+use Rattle.m51_monitor.proofs.Common.{none_in_empty, Cause, Call, Interrupt, times, AreActivations, ReturnRecord}
+use Rattle.m51_monitor.proofs.Common.{Records, one_more_where, is_unit_among, units_named, named_over, first_or}
+use Rattle.m51_monitor.proofs.Common.{running, BeginsAt, IsWalkAbove, AreWalksOver, AreWalks, AreRelatedAll, one_more}
+use Rattle.m51_monitor.proofs.Common.{interrupts}
+use Rattle.std.proofs.Common.{length-append, eqb}
+use Rattle.std.specs.List.{IsDistinct, AllByRecursion}
 use Rattle.std.proofs.lemmas.List.Elements.{Contains-append_cases}
 use Rattle.std.proofs.lemmas.Map.Steps.{length-le_from_distinct_below}
-use Rattle.m51_cells.proofs.Small.{contains_first}
-use Rattle.m51_module.specs.declared.parts.LayoutParts.{LayoutParts}
-use Rattle.m51_module.specs.Plan.{IsRootAt}
-use Rattle.m51_module.specs.Sound.{IsSound}
-use Rattle.m51_module.specs.Walks.{HasEdge, Reaches}
-use Rattle.m51_module.proofs.Owning.{none_in_empty}
+use Rattle.m51_module.specs.Walks.{Reaches}
 use Rattle.m51_module.proofs.Reach.{lead_on}
 use Rattle.m51_module.proofs.Units.{root_below}
-use Rattle.m51_monitor.specs.declared.cause.Cause.{Cause}
-use Rattle.m51_monitor.specs.declared.cause.Cause.TheVariants.{Call, Interrupt}
-use Rattle.m51_monitor.specs.Activity.{times, MayEnter}
-use Rattle.m51_monitor.specs.Monitored.{AreActivations}
-use Rattle.m51_monitor.specs.Records.{ReturnRecord, Records, one_more_where, is_among, naming, naming_over, units_named}
-use Rattle.m51_monitor.specs.Records.{named_over, first_or, running, BeginsAt, WalksOn, IsWalkAbove, AreWalksOver}
-use Rattle.m51_monitor.specs.Records.{AreWalks}
-use Rattle.m51_monitor.specs.Related.{AreRelatedAll}
-use Rattle.m51_monitor.specs.Rising.{one_more, interrupts}
+use Rattle.m51_monitor.specs.Activity.{MayEnter}
+use Rattle.m51_monitor.specs.Records.{naming, naming_over}
+use Rattle.m51_monitor.specs.Records.{WalksOn}
 use Rattle.m51_flat.specs.Vectors.{vector_of}
 use Rattle.m51_monitor.proofs.Entering.{times_same}
 use Rattle.m51_monitor.proofs.Lists.{Differ, contains_tail, contains_cases, differ_times, first_append, among_tells}
@@ -114,8 +108,8 @@ module _ (l : LayoutParts) (sound : IsSound l) where
   walked_rare c others us w u =
       let all : times us u ≡ times w.top u + times w.below u =
       ap (λ us. times us u) w.is ∙ times_append w.top w.below u in
-      let top : times w.top u ≡ one_more_where (is_among w.top u) 0 = differ_times w.top u w.differ in
-      omega (arith, all, top, most_one (is_among w.top u), w.rare u)
+      let top : times w.top u ≡ one_more_where (is_unit_among w.top u) 0 = differ_times w.top u w.differ in
+      omega (arith, all, top, most_one (is_unit_among w.top u), w.rare u)
 
   begin_few : (v others : ℕ) (below us : List ℕ) → length below ≤ 1000 * others → ((u : ℕ) → times below u ≤ others)
       → BeginsAt l v us → Walked l (first_or (us ++ below) 0) others (us ++ below)
@@ -184,8 +178,8 @@ module _ (l : LayoutParts) (sound : IsSound l) where
       → naming_over reset rs u ≡ times (named_over reset rs) u
   naming_is reset [] u h = sym (differ_times reset u (root_differs 0 reset h).0)
   naming_is reset (r ∷ rs) u h =
-      ap (one_more_where (is_among r.units u)) (naming_is reset rs u h.1)
-      ∙ no_plus (is_among r.units u) (times (named_over reset rs) u)
+      ap (one_more_where (is_unit_among r.units u)) (naming_is reset rs u h.1)
+      ∙ no_plus (is_unit_among r.units u) (times (named_over reset rs) u)
       ∙ ap (λ n. n + times (named_over reset rs) u)
       (sym (differ_times r.units u (record_differs (named_over reset rs) (running rs) r.cause r.units h.0)))
       ∙ sym (times_append r.units (named_over reset rs) u)

@@ -1,28 +1,18 @@
 -- The current unit covers PC, before a move and after it.
-use Rattle.std.proofs.Common.{nat_eq, ◌≡◌, ℕ, ◌<◌, Bool, true, false, not, Option, Some, None, Ok, List, [], ◌∷◌, refl}
-use Rattle.std.proofs.Common.{sym, subst, arith}
-use Rattle.std.proofs.lemmas.Bool.{not-false, eqb-true}
-use Rattle.std.specs.Prelude.{if◌then◌else◌}
-use Rattle.m51_cells.specs.Extent.{Covers, extent_of}
-use Rattle.m51_cells.specs.declared.event.Why.TheVariants.{NotCalled, WrongAddress, SpMoved, SpBelow, PastEnd, NoEdge}
-use Rattle.m51_cells.specs.declared.event.Why.TheVariants.{RootBusy}
-use Rattle.m51_flat.specs.declared.state.Effect.{Effect}
-use Rattle.m51_flat.specs.declared.state.Source.{Source}
-use Rattle.m51_flat.specs.declared.state.Transfer.{Transfer}
-use Rattle.m51_flat.specs.declared.state.Transfer.TheVariants.{Next, Jump, Call, Ret, Reti, Vector}
-use Rattle.m51_flat.specs.Sfr.{latch, sp}
-use Rattle.m51_module.specs.declared.parts.LayoutParts.{LayoutParts}
+use Rattle.m51_monitor.proofs.Common.{nat_eq, ◌≡◌, ℕ, ◌<◌, Bool, true, false, not, Option, Some, None, Ok, List, []}
+use Rattle.m51_monitor.proofs.Common.{◌∷◌, refl, sym, subst, arith, not-false, eqb-true, if◌then◌else◌, Covers}
+use Rattle.m51_monitor.proofs.Common.{NotCalled, WrongAddress, SpMoved, SpBelow, PastEnd, NoEdge, RootBusy, Effect}
+use Rattle.m51_monitor.proofs.Common.{Source, Transfer, Next, Jump, Ret, Reti, Vector, sp, LayoutParts, IsRootAt}
+use Rattle.m51_monitor.proofs.Common.{IsUnitAt, IsSound, Move, Stay, Return, InterruptTo, ReturnRecord, Records}
+use Rattle.m51_monitor.proofs.Common.{current, first_or, named_over, has_edge, IsFoundAt, IsRootFound, return_move}
+use Rattle.m51_monitor.proofs.Common.{jump_or_call, interrupts_to, is_at, is_busy, is_by, is_sp_below, judged_as}
+use Rattle.m51_monitor.proofs.Common.{jumped, move_to, moved, returns_to, refused_if, within, without_top}
+use Rattle.m51_cells.specs.Extent.{extent_of}
+use Rattle.m51_flat.specs.declared.state.Transfer.TheVariants.{Call}
+use Rattle.m51_flat.specs.Sfr.{latch}
 use Rattle.m51_module.specs.Cells.{code_cell}
-use Rattle.m51_module.specs.Plan.{IsRootAt, IsUnitAt}
-use Rattle.m51_module.specs.Sound.{IsSound}
-use Rattle.m51_monitor.specs.declared.step.Move.{Move}
-use Rattle.m51_monitor.specs.declared.step.Move.TheVariants.{Stay, Return, Interrupt as InterruptTo}
 use Rattle.m51_monitor.specs.Laws.{CoversIsKept, GoesToVector}
-use Rattle.m51_monitor.specs.Records.{ReturnRecord, Records, current, first_or, named_over}
-use Rattle.m51_module.specs.Walks.{has_edge}
-use Rattle.m51_monitor.specs.Transfers.{IsFoundAt, IsRootFound, IsRootWanted, return_move, jump_or_call, interrupts_to}
-use Rattle.m51_monitor.specs.Transfers.{is_at, is_busy, is_by, is_sp_below, judged_as, jumped, move_to, moved}
-use Rattle.m51_monitor.specs.Transfers.{returns_to, unless, within, without_top}
+use Rattle.m51_monitor.specs.Transfers.{IsRootWanted}
 use Rattle.m51_flat.specs.Vectors.{vector_of}
 use Rattle.m51_monitor.proofs.Moving.{ok_is, unless_ok}
 
@@ -50,13 +40,15 @@ moved_within l a e false h = h
 
 by_same : (l : LayoutParts) (a : Records) (e : Effect) (u : ℕ) (low call same : Bool) (m : Move) → IsUnitAt l e.cpu.pc u
     → (same ≡ true → u ≡ current a) →
-    Ok m ≡ (if same then unless low SpBelow (Ok (within call)) else unless (not (has_edge l.edges (current a) u)) NoEdge
-    (unless low SpBelow (Ok (move_to call u)))) → Is l a e m
+    Ok m ≡ (if same then refused_if low SpBelow (Ok (within call))
+    else refused_if (not (has_edge l.edges (current a) u)) NoEdge
+    (refused_if low SpBelow (Ok (move_to call u)))) → Is l a e m
 by_same l a e u low call true m h is k =
     subst (Is l a e) (sym (ok_is m (within call) (unless_ok low SpBelow (Ok (within call)) m k).1))
     (moved_within l a e call (subst (IsUnitAt l e.cpu.pc) (is refl) h))
 by_same l a e u low call false m h is k =
-    let p = unless_ok (not (has_edge l.edges (current a) u)) NoEdge (unless low SpBelow (Ok (move_to call u))) m k in
+    let p = unless_ok (not (has_edge l.edges (current a) u)) NoEdge
+    (refused_if low SpBelow (Ok (move_to call u))) m k in
     subst (Is l a e) (sym (ok_is m (move_to call u) (unless_ok low SpBelow (Ok (move_to call u)) m p.1).1))
     (moved_to l a e u call h)
 
@@ -74,8 +66,9 @@ ends_covers l a e call top to o (r ∷ rs) m are h k =
     let inside = is_at o (first_or (named_over a.reset rs) 0) in
     let p0 = unless_ok (not (is_by call r.cause)) NotCalled (returns_to r.sp r.return_address top to inside) m k in
     let p = unless_ok (not (nat_eq top r.sp)) SpMoved
-    (unless (not (nat_eq to r.return_address)) WrongAddress (unless (not inside) PastEnd (Ok Return))) m p0.1 in
-    let q = unless_ok (not (nat_eq to r.return_address)) WrongAddress (unless (not inside) PastEnd (Ok Return)) m p.1 in
+    (refused_if (not (nat_eq to r.return_address)) WrongAddress (refused_if (not inside) PastEnd (Ok Return))) m p0.1 in
+    let q = unless_ok (not (nat_eq to r.return_address)) WrongAddress
+    (refused_if (not inside) PastEnd (Ok Return)) m p.1 in
     let s = unless_ok (not inside) PastEnd (Ok Return) m q.1 in
     let here = found_here l e.cpu.pc o (first_or (named_over a.reset rs) 0) h (not-false inside s.0) in
     subst (Is l a e) (sym (ok_is m Return s.1))
@@ -97,7 +90,8 @@ vector_covers : (l : LayoutParts) (a : Records) (e : Effect) (source : Source) (
     → Is l a e m
 vector_covers l a e source low None m sound at h k = cc k
 vector_covers l a e source low (Some u) m sound at h k =
-    let p = unless_ok (is_busy a.returns (vector_of source)) RootBusy (unless low SpBelow (Ok (InterruptTo source u))) m
+    let p = unless_ok (is_busy a.returns (vector_of source)) RootBusy
+    (refused_if low SpBelow (Ok (InterruptTo source u))) m
     k in
     let q = unless_ok low SpBelow (Ok (InterruptTo source u)) m p.1 in
     subst (Is l a e) (sym (ok_is m (InterruptTo source u) q.1))
@@ -108,7 +102,7 @@ covers : (l : LayoutParts) (a : Records) (e : Effect) (top new to : ℕ) (t : Tr
     → Ok m ≡ judged_as l a top new to t o root → Is l a e m
 covers l a e top new to Next o root m sound at h w k =
     let low = is_sp_below a.returns 0 new in
-    let p = unless_ok (not (is_at o (current a))) PastEnd (unless low SpBelow (Ok Stay)) m k in
+    let p = unless_ok (not (is_at o (current a))) PastEnd (refused_if low SpBelow (Ok Stay)) m k in
     subst (Is l a e) (sym (ok_is m Stay (unless_ok low SpBelow (Ok Stay) m p.1).1))
     (found_here l e.cpu.pc o (current a) h (not-false (is_at o (current a)) p.0))
 covers l a e top new to Jump o root m sound at h w k = goes_covers l a e (is_sp_below a.returns 0 new) false o m h k

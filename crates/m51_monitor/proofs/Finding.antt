@@ -1,25 +1,17 @@
 -- The functions find the unit at an address and the root at a vector.
-use Rattle.std.proofs.Common.{◌≡◌, ◌≢◌, ℕ, zero, suc, ◌+◌, Bool, true, false, ◌&&◌, nat_eq, IfSome, Option, Some, None}
-use Rattle.std.proofs.Common.{List, [], ◌∷◌, refl, sym, ap, subst, ◌∙◌, ⊎_elim, arith}
-use Rattle.std.specs.Prelude.{slice_get, if◌then◌else◌}
-use Rattle.std.specs.List.{Contains}
-use Rattle.std.proofs.lemmas.Bool.Decides.{eqb_tells}
-use Rattle.std.proofs.lemmas.Bool.{and_parts, eqb-true}
-use Rattle.m51_flat.specs.declared.state.Source.{Source}
+use Rattle.m51_monitor.proofs.Common.{◌≡◌, ◌≢◌, ℕ, zero, suc, ◌+◌, Bool, true, false, ◌&&◌, nat_eq, IfSome, Option}
+use Rattle.m51_monitor.proofs.Common.{Some, None, List, [], ◌∷◌, refl, sym, ap, subst, ◌∙◌, ⊎_elim, arith, slice_get}
+use Rattle.m51_monitor.proofs.Common.{if◌then◌else◌, Contains, eqb_tells, and_parts, eqb-true, Source, Vector}
+use Rattle.m51_monitor.proofs.Common.{LayoutParts, Mark, Bank, Reserve, Absolute, Plain, Overlaid, Placed, extent_at}
+use Rattle.m51_monitor.proofs.Common.{IsUnitAt, IsRootAt, IsFoundAt, IsRootFound}
 use Rattle.m51_flat.specs.declared.state.Source.TheVariants.{Ie0, Tf0, Ie1, Tf1, Serial, Timer2}
-use Rattle.m51_flat.specs.declared.state.Transfer.TheVariants.{Vector}
-use Rattle.m51_module.specs.declared.parts.LayoutParts.{LayoutParts}
-use Rattle.m51_module.specs.declared.placed.Mark.{Mark}
-use Rattle.m51_module.specs.declared.placed.Mark.TheVariants.{Bank, Reserve, Absolute, Plain, Overlaid}
-use Rattle.m51_module.specs.declared.placed.Placed.{Placed}
-use Rattle.m51_module.specs.Cells.{extent_at, code_cell}
-use Rattle.m51_module.specs.Plan.{IsUnitAt, IsRootAt}
+use Rattle.m51_module.specs.Cells.{code_cell}
 use Rattle.m51_module.specs.Roots.{vectors}
 use Rattle.m51_cells.proofs.KindLaws.{code_is}
 use Rattle.m51_cells.specs.Kinds.{is_code}
-use Rattle.m51_monitor.specs.Found.{begins_at, covers_address, extent_passes, first_unit, is_absolute, passes}
+use Rattle.m51_monitor.specs.Found.{begins_at, covers_address, extent_passes, first_unit, is_absolute_mark}
+use Rattle.m51_monitor.specs.Found.{extent_meets}
 use Rattle.m51_monitor.specs.Found.{root_found, unit_found}
-use Rattle.m51_monitor.specs.Transfers.{IsFoundAt, IsRootFound}
 use Rattle.m51_flat.specs.Vectors.{vector_of}
 use Rattle.m51_monitor.proofs.Resolving.{covers_is, is_covered}
 
@@ -36,7 +28,7 @@ IsFirst placed test units n None = (k : ℕ) → Passing placed test units k →
 IsFirst placed test units n (Some u) = (k : ℕ) × (u ≡ n + k) × Passing placed test units k
 
 placed_passes : (placed : List Placed) (test : Placed → Bool) (s : ℕ) (o : Option Placed) → slice_get placed s ≡ o
-    → passes test o ≡ true → (p : Placed) × (slice_get placed s ≡ Some p) × (test p ≡ true)
+    → extent_meets test o ≡ true → (p : Placed) × (slice_get placed s ≡ Some p) × (test p ≡ true)
 placed_passes placed test s None e h = cc h
 placed_passes placed test s (Some p) e h = (p, e, h)
 
@@ -109,7 +101,7 @@ unit_found_is l address = by_found (unit_found l address) (first_is l.placed (co
           passes_it = is_covered (extent_at at.is) (code_cell address) at.covers;
         })
 
-absolute_is : (mark : Mark) → is_absolute mark ≡ true → mark ≡ Absolute
+absolute_is : (mark : Mark) → is_absolute_mark mark ≡ true → mark ≡ Absolute
 absolute_is Bank e = cc e
 absolute_is Reserve e = cc e
 absolute_is Absolute e = refl
@@ -140,8 +132,8 @@ root_at_is l vector is =
     by_found : (o : Option ℕ) → IsFirst l.placed (begins_at vector) l.units 0 o → IsRootFound l vector o
     by_found (Some u) h =
         let p = from_zero l.placed (begins_at vector) l.units u h in
-        let a = and_parts (is_code p.is.kind) (is_absolute p.is.mark && nat_eq p.is.base vector) p.passes_it in
-        let b = and_parts (is_absolute p.is.mark) (nat_eq p.is.base vector) a.1 in
+        let a = and_parts (is_code p.is.kind) (is_absolute_mark p.is.mark && nat_eq p.is.base vector) p.passes_it in
+        let b = and_parts (is_absolute_mark p.is.mark) (nat_eq p.is.base vector) a.1 in
         record {
           vector_is = is;
           is = p.is;
@@ -155,8 +147,8 @@ root_at_is l vector is =
       is = at.is;
       unit_is = at.unit_is.unit_is;
       placed_is = at.unit_is.placed;
-      passes_it = all_three (is_code at.is.kind) (is_absolute at.is.mark) (nat_eq at.is.base vector)
-          (ap is_code at.code) (ap is_absolute at.absolute) (is_number at.is.base vector at.base);
+      passes_it = all_three (is_code at.is.kind) (is_absolute_mark at.is.mark) (nat_eq at.is.base vector)
+          (ap is_code at.code) (ap is_absolute_mark at.absolute) (is_number at.is.base vector at.base);
     })
 
 -- what is found is the one answer

@@ -1,21 +1,16 @@
 -- Flags, eight to a byte.
-use Rattle.std.proofs.Common.{◌≡◌, ◌≢◌, ◌⊎◌, inl, inr, ℕ, zero, suc, ◌+◌, ◌*◌, ◌/◌, ◌%◌, ◌<◌, ◌≤◌, Bool, true, false}
-use Rattle.std.proofs.Common.{nat_eq, List, [], ◌∷◌, length, refl, sym, ap, subst, ◌∙◌, ⊎_elim, arith, get_or-set_same}
-use Rattle.std.proofs.Common.{get_or-set_other}
-use Rattle.std.specs.Prelude.{slice_index, slice_index_or, slice_set}
-use Rattle.std.specs.Int.{bit_at}
-use Rattle.std.proofs.lemmas.Bool.Decides.{eqb_tells}
-use Rattle.std.proofs.lemmas.Bool.{cases_lt}
-use Rattle.std.proofs.lemmas.List.{length-set}
+use Rattle.m51_monitor.proofs.Common.{◌≡◌, ◌≢◌, ◌⊎◌, inl, inr, ℕ, zero, suc, ◌+◌, ◌*◌, ◌/◌, ◌%◌, ◌<◌, ◌≤◌, Bool, true}
+use Rattle.m51_monitor.proofs.Common.{false, nat_eq, List, [], ◌∷◌, length, refl, sym, ap, subst, ◌∙◌, ⊎_elim, arith}
+use Rattle.m51_monitor.proofs.Common.{get_or-set_same, get_or-set_other, slice_index, slice_index_or, slice_set, bit_at}
+use Rattle.m51_monitor.proofs.Common.{eqb_tells, cases_lt, length-set, AreSet}
 use Rattle.std.proofs.lemmas.Nat.Bits.{bit_at-zero, bit_at_ones}
 use Rattle.m51_monitor.specs.Masks.{flag_at, flags_in}
-use Rattle.m51_monitor.specs.Rows.{AreSet}
 
 pub length_flags : (bs : List ℕ) → length (flags_in bs) ≡ 8 * length bs
 length_flags [] = refl
 length_flags (b ∷ bs) = let rest = length_flags bs in omega (arith, rest)
 
--- a flag is the bit at its place in its byte
+-- a flag is the bit at its index in its byte
 pub flag_is : (bs : List ℕ) (n : ℕ) → slice_index_or (flags_in bs) n false ≡ flag_at (slice_index bs (n / 8)) (n % 8)
 flag_is [] n = ap (λ bit. nat_eq bit 1) (sym (bit_at-zero (n % 8)))
 flag_is (b ∷ bs) zero = refl
@@ -84,34 +79,34 @@ bytes_set bs new from to b value each len here below above = record {
 }
 
 -- a bit is replaced
-pub bit_set : (bs : List ℕ) (place b : ℕ) (value : Bool) → place / 8 < length bs → flag_at b (place % 8) ≡ value
-    → ((k : ℕ) → k < 8 → k ≢ place % 8 → bit_at b k ≡ bit_at (slice_index bs (place / 8)) k)
-    → AreSet place (place + 1) value (flags_in bs) (flags_in (slice_set bs (place / 8) b))
-bit_set bs place b value inside here other = record {
-  len = set_length bs (place / 8) b;
-  inside = λ n low high. let same : place ≡ n = omega (arith, low, high) in
-      subst (λ n. slice_index_or (flags_in (slice_set bs (place / 8) b)) n false ≡ value) same
-      (set_here bs (place / 8) b inside place refl ∙ here);
+pub bit_set : (bs : List ℕ) (index b : ℕ) (value : Bool) → index / 8 < length bs → flag_at b (index % 8) ≡ value
+    → ((k : ℕ) → k < 8 → k ≢ index % 8 → bit_at b k ≡ bit_at (slice_index bs (index / 8)) k)
+    → AreSet index (index + 1) value (flags_in bs) (flags_in (slice_set bs (index / 8) b))
+bit_set bs index b value inside here other = record {
+  len = set_length bs (index / 8) b;
+  inside = λ n low high. let same : index ≡ n = omega (arith, low, high) in
+      subst (λ n. slice_index_or (flags_in (slice_set bs (index / 8) b)) n false ≡ value) same
+      (set_here bs (index / 8) b inside index refl ∙ here);
   outside = λ n out. by_byte n
-      (λ e. ⊎_elim (λ (low : n < place). omega (arith, low, e)) (λ (high : place + 1 ≤ n). omega (arith, high, e)) out)
-      (eqb_tells (n / 8) (place / 8));
+      (λ e. ⊎_elim (λ (low : n < index). omega (arith, low, e)) (λ (high : index + 1 ≤ n). omega (arith, high, e)) out)
+      (eqb_tells (n / 8) (index / 8));
 }
   where
-    by_byte : (n : ℕ) → (n ≡ place → ⊥)
-        → ((nat_eq (n / 8) (place / 8) ≡ true) × (n / 8 ≡ place / 8)) ⊎
-        ((nat_eq (n / 8) (place / 8) ≡ false) × (n / 8 ≢ place / 8))
-        → slice_index_or (flags_in (slice_set bs (place / 8) b)) n false ≡ slice_index_or (flags_in bs) n false
+    by_byte : (n : ℕ) → (n ≡ index → ⊥)
+        → ((nat_eq (n / 8) (index / 8) ≡ true) × (n / 8 ≡ index / 8)) ⊎
+        ((nat_eq (n / 8) (index / 8) ≡ false) × (n / 8 ≢ index / 8))
+        → slice_index_or (flags_in (slice_set bs (index / 8) b)) n false ≡ slice_index_or (flags_in bs) n false
     by_byte n ne (inl t) =
-        set_here bs (place / 8) b inside n t.1
+        set_here bs (index / 8) b inside n t.1
         ∙ ap (λ bit. nat_eq bit 1)
         (other (n % 8) (omega arith) (λ e. ne (omega (arith, e, t.1)))
         ∙ ap (λ k. bit_at (slice_index bs k) (n % 8)) (sym t.1))
         ∙ sym (flag_is bs n)
-    by_byte n ne (inr t) = set_beside bs (place / 8) b inside n t.1
+    by_byte n ne (inr t) = set_beside bs (index / 8) b inside n t.1
 
 -- nothing was set yet
-pub none_set : (place : ℕ) (value : Bool) (flags : List Bool) → AreSet place place value flags flags
-none_set place value flags =
+pub none_set : (index : ℕ) (value : Bool) (flags : List Bool) → AreSet index index value flags flags
+none_set index value flags =
     record { len = refl; inside = λ i low high. absurd (omega (arith, low, high)); outside = λ i h. refl }
 
 -- a row after a row

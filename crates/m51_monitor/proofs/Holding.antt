@@ -1,19 +1,14 @@
 -- How many of the named units own each segment.
-use Rattle.std.proofs.Common.{◌≡◌, ◌≢◌, ◌⊎◌, inl, inr, ℕ, suc, ◌+◌, ◌-◌, ◌<◌, ◌≤◌, Bool, true, false, nat_eq, List, []}
-use Rattle.std.proofs.Common.{◌∷◌, ◌++◌, length, drop, take, refl, sym, ap, subst, ◌∙◌, ⊎_elim, arith, get_or-set_same}
-use Rattle.std.proofs.Common.{get_or-set_other}
-use Rattle.std.specs.Prelude.{slice_index, slice_set}
-use Rattle.std.specs.List.{Contains}
+use Rattle.m51_monitor.proofs.Common.{◌≡◌, ◌≢◌, ◌⊎◌, inl, inr, ℕ, suc, ◌+◌, ◌-◌, ◌<◌, ◌≤◌, Bool, true, false, nat_eq}
+use Rattle.m51_monitor.proofs.Common.{List, [], ◌∷◌, ◌++◌, length, drop, take, refl, sym, ap, subst, ◌∙◌, ⊎_elim, arith}
+use Rattle.m51_monitor.proofs.Common.{get_or-set_same, get_or-set_other, slice_index, slice_set, Contains, eqb_tells}
+use Rattle.m51_monitor.proofs.Common.{contains_first, LayoutParts, Owns, owners_of, none_in_empty, AreHolders, times}
+use Rattle.m51_monitor.proofs.Common.{is_unit_among, one_more_where}
 use Rattle.std.proofs.Math.Seq.{take-append_seam}
-use Rattle.std.proofs.lemmas.Bool.Decides.{eqb_tells}
 use Rattle.std.proofs.lemmas.List.{drop_more}
-use Rattle.m51_cells.proofs.Small.{contains_first}
-use Rattle.m51_module.specs.declared.parts.LayoutParts.{LayoutParts}
-use Rattle.m51_module.specs.Plan.{AreLocals, Owns, owners_of}
+use Rattle.m51_module.specs.Plan.{AreLocals}
 use Rattle.m51_module.specs.Rising.{Rises}
-use Rattle.m51_module.proofs.Owning.{none_in_empty}
-use Rattle.m51_monitor.specs.Activity.{AreHolders, holding, times}
-use Rattle.m51_monitor.specs.Records.{is_among, one_more_where}
+use Rattle.m51_monitor.specs.Activity.{holding}
 use Rattle.m51_monitor.proofs.Lists.{Differ, among_tells, contains_cases, contains_tail, differ_times, most_one}
 use Rattle.m51_monitor.proofs.Lists.{no_plus}
 
@@ -23,9 +18,9 @@ pub holding_tells : (l : LayoutParts) (us : List ℕ) (t : ℕ)
     ((0 < holding l us t) × ((u : ℕ) × Owns l u t × Contains us u))
 holding_tells l [] t = inl (refl, λ u o k. none_in_empty u k)
 holding_tells l (v ∷ us) t = ⊎_elim
-    (λ (a : (is_among (owners_of l.owners t) v ≡ true) × Owns l v t). inr
+    (λ (a : (is_unit_among (owners_of l.owners t) v ≡ true) × Owns l v t). inr
     (rw a.0 (omega arith), (v, a.1, contains_first v us)))
-    (λ (a : (is_among (owners_of l.owners t) v ≡ false) × (Owns l v t → ⊥)). ⊎_elim
+    (λ (a : (is_unit_among (owners_of l.owners t) v ≡ false) × (Owns l v t → ⊥)). ⊎_elim
     (λ (q : (holding l us t ≡ 0) × ((u : ℕ) → Owns l u t → Contains us u → ⊥)). inl (
       rw a.0 q.0,
       λ u o k. ⊎_elim (λ (e : u ≡ v). a.1 (subst (λ u. Owns l u t) e o))
@@ -43,7 +38,7 @@ where_few false n k h = omega (arith, h)
 holding_few : (l : LayoutParts) (us : List ℕ) (t : ℕ) → holding l us t ≤ length us
 holding_few l [] t = omega arith
 holding_few l (u ∷ us) t = let few =
-    where_few (is_among (owners_of l.owners t) u) (holding l us t) (length us) (holding_few l us t) in
+    where_few (is_unit_among (owners_of l.owners t) u) (holding l us t) (length us) (holding_few l us t) in
     omega (arith, few)
 
 rises_differ : (xs : List ℕ) → Rises xs → Differ xs
@@ -55,24 +50,24 @@ rises_differ (x ∷ xs) h = (
 )
 
 module _ (l : LayoutParts) (u : ℕ) (locals : List ℕ) (are : AreLocals l u locals) where
-  same_among : (t : ℕ) → is_among locals t ≡ is_among (owners_of l.owners t) u
+  same_among : (t : ℕ) → is_unit_among locals t ≡ is_unit_among (owners_of l.owners t) u
   same_among t = ⊎_elim
-      (λ (a : (is_among locals t ≡ true) × Contains locals t). ⊎_elim
-      (λ (b : (is_among (owners_of l.owners t) u ≡ true) × Owns l u t). a.0 ∙ sym b.0)
-      (λ (b : (is_among (owners_of l.owners t) u ≡ false) × (Owns l u t → ⊥)). absurd (b.1 ((are.owned t).0 a.1)))
+      (λ (a : (is_unit_among locals t ≡ true) × Contains locals t). ⊎_elim
+      (λ (b : (is_unit_among (owners_of l.owners t) u ≡ true) × Owns l u t). a.0 ∙ sym b.0)
+      (λ (b : (is_unit_among (owners_of l.owners t) u ≡ false) × (Owns l u t → ⊥)). absurd (b.1 ((are.owned t).0 a.1)))
       (among_tells (owners_of l.owners t) u))
-      (λ (a : (is_among locals t ≡ false) × (Contains locals t → ⊥)). ⊎_elim
-      (λ (b : (is_among (owners_of l.owners t) u ≡ true) × Owns l u t). absurd (a.1 ((are.owned t).1 b.1)))
-      (λ (b : (is_among (owners_of l.owners t) u ≡ false) × (Owns l u t → ⊥)). a.0 ∙ sym b.0)
+      (λ (a : (is_unit_among locals t ≡ false) × (Contains locals t → ⊥)). ⊎_elim
+      (λ (b : (is_unit_among (owners_of l.owners t) u ≡ true) × Owns l u t). absurd (a.1 ((are.owned t).1 b.1)))
+      (λ (b : (is_unit_among (owners_of l.owners t) u ≡ false) × (Owns l u t → ⊥)). a.0 ∙ sym b.0)
       (among_tells (owners_of l.owners t) u))
       (among_tells locals t)
 
-  locals_times : (t : ℕ) → times locals t ≡ one_more_where (is_among locals t) 0
+  locals_times : (t : ℕ) → times locals t ≡ one_more_where (is_unit_among locals t) 0
   locals_times t = differ_times locals t (rises_differ locals are.rising)
 
   one_holder : (us : List ℕ) (t : ℕ) → holding l (u ∷ us) t ≡ times locals t + holding l us t
   one_holder us t =
-      no_plus (is_among (owners_of l.owners t) u) (holding l us t)
+      no_plus (is_unit_among (owners_of l.owners t) u) (holding l us t)
       ∙ ap (λ b. one_more_where b 0 + holding l us t) (sym (same_among t))
       ∙ ap (λ n. n + holding l us t) (sym (locals_times t))
 
@@ -94,7 +89,7 @@ module _ (l : LayoutParts) (u : ℕ) (locals : List ℕ) (are : AreLocals l u lo
       → slice_index old t + times locals t < 65536
   room_for us old are_old few t h =
       let n = are_old.number t (omega (arith, h, are_old.len)) in
-      let one = most_one (is_among locals t) in
+      let one = most_one (is_unit_among locals t) in
       omega (arith, few, n, one, locals_times t, holding_few l us t)
 
   pub some_held : (us old : List ℕ) → AreHolders l (u ∷ us) old → (t : ℕ) → t < length old
@@ -103,63 +98,63 @@ module _ (l : LayoutParts) (u : ℕ) (locals : List ℕ) (are : AreLocals l u lo
       let n = are_old.number t (omega (arith, h, are_old.len)) in
       omega (arith, n, one_holder us t)
 
--- what is left to be counted, from a place in the list
+-- what is left to be counted, from an index in the list
 abbrev pub left : List ℕ → ℕ → ℕ → ℕ
-left locals place t = times (drop place locals) t
+left locals index t = times (drop index locals) t
 
-left_same : (locals : List ℕ) (place : ℕ) → place < length locals
-    → left locals place (slice_index locals place) ≡ left locals (place + 1) (slice_index locals place) + 1
-left_same locals place inside = ap (λ xs. times xs (slice_index locals place)) (drop_more locals place 0 inside)
-    ∙ here (slice_index locals place) (drop (place + 1) locals)
+left_same : (locals : List ℕ) (index : ℕ) → index < length locals
+    → left locals index (slice_index locals index) ≡ left locals (index + 1) (slice_index locals index) + 1
+left_same locals index inside = ap (λ xs. times xs (slice_index locals index)) (drop_more locals index 0 inside)
+    ∙ here (slice_index locals index) (drop (index + 1) locals)
   where
     here : (u : ℕ) (us : List ℕ) → times (u ∷ us) u ≡ times us u + 1
     here u us = ⊎_elim (λ (t : (nat_eq u u ≡ true) × (u ≡ u)). rw t.0 refl)
         (λ (t : (nat_eq u u ≡ false) × (u ≢ u)). absurd (t.1 refl)) (eqb_tells u u)
 
-left_other : (locals : List ℕ) (place t : ℕ) → place < length locals → slice_index locals place ≢ t
-    → left locals place t ≡ left locals (place + 1) t
-left_other locals place t inside ne = ap (λ xs. times xs t) (drop_more locals place 0 inside) ∙ ⊎_elim
-    (λ (e : (nat_eq (slice_index locals place) t ≡ true) × (slice_index locals place ≡ t)). absurd (ne e.1))
-    (λ (e : (nat_eq (slice_index locals place) t ≡ false) × (slice_index locals place ≢ t)). rw e.0 refl)
-    (eqb_tells (slice_index locals place) t)
+left_other : (locals : List ℕ) (index t : ℕ) → index < length locals → slice_index locals index ≢ t
+    → left locals index t ≡ left locals (index + 1) t
+left_other locals index t inside ne = ap (λ xs. times xs t) (drop_more locals index 0 inside) ∙ ⊎_elim
+    (λ (e : (nat_eq (slice_index locals index) t ≡ true) × (slice_index locals index ≡ t)). absurd (ne e.1))
+    (λ (e : (nat_eq (slice_index locals index) t ≡ false) × (slice_index locals index ≢ t)). rw e.0 refl)
+    (eqb_tells (slice_index locals index) t)
 
-pub left_some : (locals : List ℕ) (place : ℕ) → place < length locals → 1 ≤ left locals place (slice_index locals place)
-left_some locals place inside = let e = left_same locals place inside in omega (arith, e)
+pub left_some : (locals : List ℕ) (index : ℕ) → index < length locals → 1 ≤ left locals index (slice_index locals index)
+left_some locals index inside = let e = left_same locals index inside in omega (arith, e)
 
-module _ (locals now old : List ℕ) (place : ℕ) (inside : place < length locals)
-    (here : slice_index locals place < length now) where
-  pub one_more : ((t : ℕ) → slice_index now t + left locals place t ≡ slice_index old t + times locals t)
+module _ (locals now old : List ℕ) (index : ℕ) (inside : index < length locals)
+    (here : slice_index locals index < length now) where
+  pub one_more : ((t : ℕ) → slice_index now t + left locals index t ≡ slice_index old t + times locals t)
       → (t : ℕ) → slice_index
-      (slice_set now (slice_index locals place) (slice_index now (slice_index locals place) + 1)) t + left locals
-      (place + 1) t ≡ slice_index old t + times locals t
+      (slice_set now (slice_index locals index) (slice_index now (slice_index locals index) + 1)) t + left locals
+      (index + 1) t ≡ slice_index old t + times locals t
   one_more all t = ⊎_elim
-      (λ (e : (nat_eq (slice_index locals place) t ≡ true) × (slice_index locals place ≡ t)). subst
-      (λ t. slice_index (slice_set now (slice_index locals place) (slice_index now (slice_index locals place) + 1))
-      t + left locals (place + 1) t ≡ slice_index old t + times locals t)
+      (λ (e : (nat_eq (slice_index locals index) t ≡ true) × (slice_index locals index ≡ t)). subst
+      (λ t. slice_index (slice_set now (slice_index locals index) (slice_index now (slice_index locals index) + 1))
+      t + left locals (index + 1) t ≡ slice_index old t + times locals t)
       e.1
-      (let set = get_or-set_same now (slice_index locals place) (slice_index now (slice_index locals place) + 1) 0
-      here in omega (arith, set, left_same locals place inside, all (slice_index locals place))))
-      (λ (e : (nat_eq (slice_index locals place) t ≡ false) × (slice_index locals place ≢ t)).
-      let set = get_or-set_other now (slice_index locals place) t (slice_index now (slice_index locals place) + 1) 0
-      (λ same. e.1 (sym same)) in omega (arith, set, left_other locals place t inside e.1, all t))
-      (eqb_tells (slice_index locals place) t)
+      (let set = get_or-set_same now (slice_index locals index) (slice_index now (slice_index locals index) + 1) 0
+      here in omega (arith, set, left_same locals index inside, all (slice_index locals index))))
+      (λ (e : (nat_eq (slice_index locals index) t ≡ false) × (slice_index locals index ≢ t)).
+      let set = get_or-set_other now (slice_index locals index) t (slice_index now (slice_index locals index) + 1) 0
+      (λ same. e.1 (sym same)) in omega (arith, set, left_other locals index t inside e.1, all t))
+      (eqb_tells (slice_index locals index) t)
 
-  pub one_less : 1 ≤ slice_index now (slice_index locals place)
-      → ((t : ℕ) → slice_index now t + times locals t ≡ slice_index old t + left locals place t)
+  pub one_less : 1 ≤ slice_index now (slice_index locals index)
+      → ((t : ℕ) → slice_index now t + times locals t ≡ slice_index old t + left locals index t)
       → (t : ℕ) → slice_index
-      (slice_set now (slice_index locals place) (slice_index now (slice_index locals place) - 1)) t + times locals t
-      ≡ slice_index old t + left locals (place + 1) t
+      (slice_set now (slice_index locals index) (slice_index now (slice_index locals index) - 1)) t + times locals t
+      ≡ slice_index old t + left locals (index + 1) t
   one_less some all t = ⊎_elim
-      (λ (e : (nat_eq (slice_index locals place) t ≡ true) × (slice_index locals place ≡ t)). subst
-      (λ t. slice_index (slice_set now (slice_index locals place) (slice_index now (slice_index locals place) - 1))
-      t + times locals t ≡ slice_index old t + left locals (place + 1) t)
+      (λ (e : (nat_eq (slice_index locals index) t ≡ true) × (slice_index locals index ≡ t)). subst
+      (λ t. slice_index (slice_set now (slice_index locals index) (slice_index now (slice_index locals index) - 1))
+      t + times locals t ≡ slice_index old t + left locals (index + 1) t)
       e.1
-      (let set = get_or-set_same now (slice_index locals place) (slice_index now (slice_index locals place) - 1) 0
-      here in omega (arith, some, set, left_same locals place inside, all (slice_index locals place))))
-      (λ (e : (nat_eq (slice_index locals place) t ≡ false) × (slice_index locals place ≢ t)).
-      let set = get_or-set_other now (slice_index locals place) t (slice_index now (slice_index locals place) - 1) 0
-      (λ same. e.1 (sym same)) in omega (arith, set, left_other locals place t inside e.1, all t))
-      (eqb_tells (slice_index locals place) t)
+      (let set = get_or-set_same now (slice_index locals index) (slice_index now (slice_index locals index) - 1) 0
+      here in omega (arith, some, set, left_same locals index inside, all (slice_index locals index))))
+      (λ (e : (nat_eq (slice_index locals index) t ≡ false) × (slice_index locals index ≢ t)).
+      let set = get_or-set_other now (slice_index locals index) t (slice_index now (slice_index locals index) - 1) 0
+      (λ same. e.1 (sym same)) in omega (arith, set, left_other locals index t inside e.1, all t))
+      (eqb_tells (slice_index locals index) t)
 
 -- at the end nothing is left
 pub none_left : (locals : List ℕ) (t : ℕ) → left locals (length locals) t ≡ 0

@@ -1,31 +1,23 @@
 -- Levels in progress and SP after a move.
-use Rattle.std.proofs.Common.{nat_eq, ◌≡◌, ◌⊎◌, inl, inr, ℕ, ◌+◌, ◌%◌, ◌<◌, Bool, true, false, not, Option, Some, None}
-use Rattle.std.proofs.Common.{Ok, List, [], ◌∷◌, ◌++◌, length, take, drop, refl, sym, ap, subst, ◌∙◌, ⊎_elim, arith}
-use Rattle.std.specs.Prelude.{if◌then◌else◌}
-use Rattle.std.proofs.lemmas.Bool.{not-true, not-false}
-use Rattle.m51_cells.specs.declared.event.Why.TheVariants.{NoEdge, NotCalled, WrongAddress, SpMoved, SpBelow, RootBusy}
-use Rattle.m51_cells.specs.declared.event.Why.TheVariants.{PastEnd}
-use Rattle.m51_flat.specs.declared.state.Effect.{Effect}
+use Rattle.m51_monitor.proofs.Common.{nat_eq, ◌≡◌, ◌⊎◌, inl, inr, ℕ, ◌+◌, ◌%◌, ◌<◌, Bool, true, false, not, Option}
+use Rattle.m51_monitor.proofs.Common.{Some, None, Ok, List, [], ◌∷◌, ◌++◌, length, take, drop, refl, sym, ap, subst}
+use Rattle.m51_monitor.proofs.Common.{◌∙◌, ⊎_elim, arith, if◌then◌else◌, not-false, NoEdge, NotCalled, WrongAddress}
+use Rattle.m51_monitor.proofs.Common.{SpMoved, SpBelow, RootBusy, PastEnd, Effect, Source, Transfer, Next, Jump, Ret}
+use Rattle.m51_monitor.proofs.Common.{Reti, Vector, sp, LayoutParts, Cause, Move, Stay, Local, Return, JumpTo, CallTo}
+use Rattle.m51_monitor.proofs.Common.{InterruptTo, ReturnRecord, Records, current, first_or, named_over, HeightsRise}
+use Rattle.m51_monitor.proofs.Common.{interrupts, one_more, has_edge, return_move, jump_or_call, interrupts_to, is_at}
+use Rattle.m51_monitor.proofs.Common.{is_busy, is_by, is_sp_below, judged_as, jumped, move_to, moved, returns_to}
+use Rattle.m51_monitor.proofs.Common.{refused_if, within, without_top}
+use Rattle.std.proofs.lemmas.Bool.{not-true}
 use Rattle.m51_flat.specs.declared.state.Level.{Level}
-use Rattle.m51_flat.specs.declared.state.Source.{Source}
-use Rattle.m51_flat.specs.declared.state.Transfer.{Transfer}
-use Rattle.m51_flat.specs.declared.state.Transfer.TheVariants.{Next, Jump, Call, Ret, Reti, Vector}
-use Rattle.m51_flat.specs.Sfr.{latch, sp}
-use Rattle.m51_module.specs.declared.parts.LayoutParts.{LayoutParts}
-use Rattle.m51_monitor.specs.declared.cause.Cause.{Cause}
+use Rattle.m51_flat.specs.declared.state.Transfer.TheVariants.{Call}
+use Rattle.m51_flat.specs.Sfr.{latch}
 use Rattle.m51_monitor.specs.declared.cause.Cause.TheVariants.{Call as ByCall, Interrupt as ByInterrupt}
-use Rattle.m51_monitor.specs.declared.step.Move.{Move}
-use Rattle.m51_monitor.specs.declared.step.Move.TheVariants.{Stay, Local, Return, Jump as JumpTo, Call as CallTo}
-use Rattle.m51_monitor.specs.declared.step.Move.TheVariants.{Interrupt as InterruptTo}
 use Rattle.m51_monitor.specs.Laws.{CountsInterrupts, FollowsLevels, InterruptsAreCounted, LevelsAreKept, Pops}
 use Rattle.m51_monitor.specs.Laws.{StackIsKept}
-use Rattle.m51_monitor.specs.Records.{ReturnRecord, Records, current, first_or, named_over}
-use Rattle.m51_monitor.specs.Rising.{HaveLevels, IsAbove, HeightsRise, ended, ended_by, interrupts, levels, one_more}
+use Rattle.m51_monitor.specs.Rising.{HaveLevels, IsAbove, levels_left, ended_by, levels}
 use Rattle.m51_monitor.specs.Rising.{taken_after}
-use Rattle.m51_module.specs.Walks.{has_edge}
-use Rattle.m51_monitor.specs.Transfers.{return_move, jump_or_call, interrupts_to, is_at, is_busy, is_by, is_call}
-use Rattle.m51_monitor.specs.Transfers.{is_sp_below, judged_as, jumped, move_to, moved, returns_to, unless, within}
-use Rattle.m51_monitor.specs.Transfers.{without_top}
+use Rattle.m51_monitor.specs.Transfers.{is_call}
 use Rattle.m51_flat.specs.Vectors.{vector_of}
 use Rattle.m51_monitor.proofs.Moving.{Allowed, IsStay, IsJump, IsLocal, IsCall, IsInterrupt, IsReturn, allowed, ok_is}
 use Rattle.m51_monitor.proofs.Moving.{unless_ok}
@@ -44,11 +36,12 @@ data TransferOf (a : Records) : Transfer → Move → Type 0 where
   Vectors : (source : Source) (u : ℕ) → TransferOf a (Vector source) (InterruptTo source u)
 
 goes_to : (l : LayoutParts) (from u : ℕ) (low call same : Bool) (m : Move) →
-    Ok m ≡ (if same then unless low SpBelow (Ok (within call)) else unless (not (has_edge l.edges from u)) NoEdge
-    (unless low SpBelow (Ok (move_to call u)))) → (m ≡ within call) ⊎ (m ≡ move_to call u)
+    Ok m ≡ (if same then refused_if low SpBelow (Ok (within call))
+    else refused_if (not (has_edge l.edges from u)) NoEdge
+    (refused_if low SpBelow (Ok (move_to call u)))) → (m ≡ within call) ⊎ (m ≡ move_to call u)
 goes_to l from u low call true m e = inl (ok_is m (within call) (unless_ok low SpBelow (Ok (within call)) m e).1)
 goes_to l from u low call false m e =
-    let p = unless_ok (not (has_edge l.edges from u)) NoEdge (unless low SpBelow (Ok (move_to call u))) m e in
+    let p = unless_ok (not (has_edge l.edges from u)) NoEdge (refused_if low SpBelow (Ok (move_to call u))) m e in
     inr (ok_is m (move_to call u) (unless_ok low SpBelow (Ok (move_to call u)) m p.1).1)
 
 jump_transfer : (l : LayoutParts) (a : Records) (low : Bool) (o : Option ℕ) (m : Move)
@@ -75,8 +68,9 @@ end_is reset (r ∷ rs) call top to at m e =
     let inside = is_at at (first_or (named_over reset rs) 0) in
     let o = unless_ok (not (is_by call r.cause)) NotCalled (returns_to r.sp r.return_address top to inside) m e in
     let p = unless_ok (not (nat_eq top r.sp)) SpMoved
-    (unless (not (nat_eq to r.return_address)) WrongAddress (unless (not inside) PastEnd (Ok Return))) m o.1 in
-    let q = unless_ok (not (nat_eq to r.return_address)) WrongAddress (unless (not inside) PastEnd (Ok Return)) m p.1 in
+    (refused_if (not (nat_eq to r.return_address)) WrongAddress (refused_if (not inside) PastEnd (Ok Return))) m o.1 in
+    let q = unless_ok (not (nat_eq to r.return_address)) WrongAddress
+    (refused_if (not inside) PastEnd (Ok Return)) m p.1 in
     let s = unless_ok (not inside) PastEnd (Ok Return) m q.1 in
     (ok_is m Return s.1, (r, rs, refl, not-false (is_by call r.cause) o.0))
 
@@ -84,7 +78,8 @@ vector_transfer : (a : Records) (source : Source) (low : Bool) (o : Option ℕ) 
     → Ok m ≡ interrupts_to a source low o → TransferOf a (Vector source) m
 vector_transfer a source low None m e = cc e
 vector_transfer a source low (Some u) m e =
-    let p = unless_ok (is_busy a.returns (vector_of source)) RootBusy (unless low SpBelow (Ok (InterruptTo source u))) m
+    let p = unless_ok (is_busy a.returns (vector_of source)) RootBusy
+    (refused_if low SpBelow (Ok (InterruptTo source u))) m
     e in
     let q = unless_ok low SpBelow (Ok (InterruptTo source u)) m p.1 in
     subst (TransferOf a (Vector source)) (sym (ok_is m (InterruptTo source u) q.1)) (Vectors source u)
@@ -93,7 +88,7 @@ transfer_of : (l : LayoutParts) (a : Records) (top new to : ℕ) (t : Transfer) 
     → Ok m ≡ judged_as l a top new to t at root → TransferOf a t m
 transfer_of l a top new to Next at root m e =
     let low = is_sp_below a.returns 0 new in
-    let p = unless_ok (not (is_at at (current a))) PastEnd (unless low SpBelow (Ok Stay)) m e in
+    let p = unless_ok (not (is_at at (current a))) PastEnd (refused_if low SpBelow (Ok Stay)) m e in
     subst (TransferOf a Next) (sym (ok_is m Stay (unless_ok low SpBelow (Ok Stay) m p.1).1)) StayNext
 transfer_of l a top new to Jump at root m e = jump_transfer l a (is_sp_below a.returns 0 new) at m e
 transfer_of l a top new to Call at root m e = call_transfer l a (is_sp_below a.returns 2 new) at m e
@@ -139,12 +134,13 @@ kept a e before after taken t m (GoJump u) f h =
 kept a e before after taken t m LocalCall f h = record { each = h.each; same = h.same ∙ sym f }
 kept a e before after taken t m (GoCall u) f h = record { each = h.each; same = h.same ∙ sym f }
 kept a e before after taken t m (EndRet r rs are call) f h =
-    let stay : ended a.returns taken ≡ taken = ap (λ rs. ended rs taken) are ∙ call_ended r.cause taken call in
+    let stay : levels_left a.returns taken ≡ taken = ap (λ rs. levels_left rs taken) are
+    ∙ call_ended r.cause taken call in
     let count : interrupts (without_top a.returns) ≡ interrupts a.returns =
     ap (λ rs. interrupts (without_top rs)) are ∙ sym (no_more r.cause (interrupts rs) call) ∙ sym (ap interrupts are) in
     record { each = ap length stay ∙ h.each ∙ sym count; same = stay ∙ h.same ∙ sym f }
 kept a e before after taken t m (EndReti r rs are call) f h =
-    let less : ended a.returns taken ≡ drop 1 taken = ap (λ rs. ended rs taken) are
+    let less : levels_left a.returns taken ≡ drop 1 taken = ap (λ rs. levels_left rs taken) are
     ∙ interrupt_ended r.cause taken call in
     let was : interrupts a.returns ≡ interrupts rs + 1 = ap interrupts are ∙ one_more_is r.cause (interrupts rs) call in
     let count : interrupts (without_top a.returns) ≡ interrupts rs = ap (λ rs. interrupts (without_top rs)) are in

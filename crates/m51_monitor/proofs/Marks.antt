@@ -1,18 +1,10 @@
 -- Masks after the cells of an extent are marked.
-use Rattle.std.proofs.Common.{◌≡◌, ◌≢◌, ◌⊎◌, inl, inr, ℕ, ◌+◌, ◌<◌, ◌≤◌, Bool, false, List, refl, sym, subst, ◌∙◌}
-use Rattle.std.proofs.Common.{⊎_elim, arith}
-use Rattle.std.specs.Prelude.{slice_index_or}
-use Rattle.std.proofs.lemmas.Bool.{cases_lt}
-use Rattle.m51_cells.specs.declared.cell.Cell.{Cell}
-use Rattle.m51_cells.specs.declared.cell.Space.{Space}
-use Rattle.m51_cells.specs.declared.cell.Space.TheVariants.{Ram, Xram, Code}
-use Rattle.m51_cells.specs.declared.extent.Extent.{Extent}
-use Rattle.m51_cells.specs.Extent.{Covers}
+use Rattle.m51_monitor.proofs.Common.{◌≡◌, ◌≢◌, ◌⊎◌, inl, inr, ℕ, ◌+◌, ◌<◌, ◌≤◌, Bool, false, List, refl, sym, subst}
+use Rattle.m51_monitor.proofs.Common.{◌∙◌, ⊎_elim, arith, slice_index_or, cases_lt, Cell, Space, Ram, Xram, Code}
+use Rattle.m51_monitor.proofs.Common.{Extent, Covers, IsDataCell, IsCellAt, Mask, flag_in, flag_of, IsMarked, AreSet}
 use Rattle.m51_module.specs.Sound.{IsInside}
 use Rattle.m51_module.proofs.CellLemmas.{inside_end}
-use Rattle.m51_cells.specs.Cells.{IsDataCell, cells_in}
-use Rattle.m51_monitor.specs.Masks.{IsCellAt, Mask, flag_in, flag_of, IsMarked}
-use Rattle.m51_monitor.specs.Rows.{AreSet}
+use Rattle.m51_cells.specs.Cells.{cells_in}
 
 -- a number is one of consecutive ones, or beside them
 pub between_or_beside : (first count i : ℕ) → ((first ≤ i) × (i < first + count)) ⊎ ((i < first) ⊎ (first + count ≤ i))

@@ -1,27 +1,16 @@
 -- A monitor is frames and the activity of units.
-use Rattle.std.proofs.Common.{◌≡◌, true, false, IfSome, IfNone, Option, Some, None, ℕ, ◌<◌, ◌≤◌, List, [], ◌∷◌, ◌++◌}
-use Rattle.std.proofs.Common.{length, refl, sym, ap, subst, ◌∙◌, arith}
-use Rattle.std.specs.Prelude.{slice_index}
-use Rattle.std.proofs.lemmas.Option.{slice_get_within}
-use Rattle.std.proofs.lemmas.Bool.{and_parts}
-use Rattle.m51_cells.specs.Cells.{IsDataCell}
-use Rattle.m51_cells.specs.declared.cell.Cell.{Cell}
-use Rattle.m51_module.specs.declared.parts.LayoutParts.{LayoutParts}
-use Rattle.m51_module.specs.Plan.{IsRootAt}
-use Rattle.m51_module.specs.Sound.{IsSound}
-use Rattle.m51_flat.specs.declared.state.Effect.{Effect}
-use Rattle.m51_flat.specs.declared.state.Put.{Put}
-use Rattle.m51_monitor.specs.declared.cause.Cause.{Cause}
-use Rattle.m51_monitor.specs.declared.cause.ReturnFrame.{ReturnFrame}
-use Rattle.m51_monitor.specs.Activity.{Activity, AreTimes, KeepsStores, MayEnter, answers_in, times}
-use Rattle.m51_monitor.specs.Frames.{AreFrames, records_of}
-use Rattle.m51_monitor.specs.Monitored.{AnswersAt, AreNumbers, IsStart, started, Monitored, AreActivations, StandsAfter}
+use Rattle.m51_monitor.proofs.Common.{◌≡◌, true, false, IfSome, Option, Some, None, ℕ, ◌<◌, ◌≤◌, List, [], ◌∷◌, ◌++◌}
+use Rattle.m51_monitor.proofs.Common.{length, refl, sym, ap, subst, ◌∙◌, arith, slice_index, slice_get_within}
+use Rattle.m51_monitor.proofs.Common.{and_parts, IsDataCell, Cell, LayoutParts, IsRootAt, IsSound, Effect, Put, Cause}
+use Rattle.m51_monitor.proofs.Common.{ReturnFrame, AreTimes, KeepsStores, answers_in, times, records_of, Monitored}
+use Rattle.m51_monitor.proofs.Common.{AreActivations, Records, units_named, shared_cells, IsOver, Stores, StandsFor}
+use Rattle.m51_monitor.proofs.Common.{filled_stores, has_cell, live_by, put_into, unset_dead, jumped, return_pushed}
+use Rattle.std.proofs.Common.{IfNone}
+use Rattle.m51_monitor.specs.Activity.{Activity, MayEnter}
+use Rattle.m51_monitor.specs.Frames.{AreFrames}
+use Rattle.m51_monitor.specs.Monitored.{AnswersAt, AreNumbers, IsStart, started, StandsAfter}
 use Rattle.m51_monitor.specs.Monitored.{MonitorStandsFor, live_in, stores_after, stores_changed}
-use Rattle.m51_monitor.specs.Records.{Records, units_named}
 use Rattle.m51_monitor.specs.Resolved.{resolved_cells}
-use Rattle.m51_monitor.specs.Shared.{shared_cells}
-use Rattle.m51_monitor.specs.Stores.{IsOver, Stores, StandsFor, filled_stores, has_cell, live_by, put_into, unset_dead}
-use Rattle.m51_monitor.specs.Transfers.{jumped, pushed}
 use Rattle.m51_monitor.proofs.Changing.{same_stands}
 use Rattle.m51_monitor.proofs.Counting.{may_enter, named_rare, naming_times}
 use Rattle.m51_monitor.proofs.Entering.{plain_lives}
@@ -78,17 +67,18 @@ jump_enters l frames us u sound are may =
     (subst (AreActivations l) (sym (jumped_is frames us u are)) may)
 
 pub call_enters : (l : LayoutParts) (frames : List ReturnFrame) (us : List ℕ) (f : ReturnFrame) (u : ℕ) → IsSound l
-    → f.start ≡ length us → AreActivations l (pushed (records_of frames us) f.cause f.return_address f.sp (u ∷ []))
+    → f.start ≡ length us
+    → AreActivations l (return_pushed (records_of frames us) f.cause f.return_address f.sp (u ∷ []))
     → MayEnter l us u
 call_enters l frames us f u sound e may =
     may_enter l sound (records_of (frames ++ f ∷ []) (u ∷ us)) u us (units_are (frames ++ f ∷ []) (u ∷ us))
     (subst (AreActivations l) (sym (call_is frames us f u e)) may)
 
 pub push_room : (l : LayoutParts) (frames : List ReturnFrame) (us : List ℕ) (cause : Cause) (return_address top : ℕ)
-    (units : List ℕ) → AreActivations l (pushed (records_of frames us) cause return_address top units)
+    (units : List ℕ) → AreActivations l (return_pushed (records_of frames us) cause return_address top units)
     → length frames < 128
 push_room l frames us cause return_address top units may =
-    room_above l frames us (pushed (records_of frames us) cause return_address top units)
+    room_above l frames us (return_pushed (records_of frames us) cause return_address top units)
     (record { cause = cause; return_address = return_address; sp = top; units = units }) refl may
 
 -- both puts, and a change of the records

@@ -1,40 +1,31 @@
 -- What the records are after an allowed move.
-use Rattle.std.proofs.Common.{nat_eq, ◌≡◌, ◌≢◌, ℕ, ◌+◌, ◌<◌, ◌≤◌, Bool, true, false, not, ◌||◌, Option, Some, None, Ok}
-use Rattle.std.proofs.Common.{List, [], ◌∷◌, ◌++◌, refl, sym, ap, subst, ◌∙◌, ⊎_elim, arith}
-use Rattle.std.proofs.lemmas.Bool.{not-false, ltb-false, eqb-true}
+use Rattle.m51_monitor.proofs.Common.{nat_eq, ◌≡◌, ◌≢◌, ℕ, ◌+◌, ◌<◌, ◌≤◌, Bool, true, false, not, ◌||◌, Option, Some}
+use Rattle.m51_monitor.proofs.Common.{None, Ok, List, [], ◌∷◌, ◌++◌, refl, sym, ap, subst, ◌∙◌, ⊎_elim, arith}
+use Rattle.m51_monitor.proofs.Common.{not-false, eqb-true, if◌then◌else◌, Contains, eqb_tells, NoEdge, NotCalled}
+use Rattle.m51_monitor.proofs.Common.{WrongAddress, SpMoved, SpBelow, RootBusy, PastEnd, Effect, Source, Transfer, Next}
+use Rattle.m51_monitor.proofs.Common.{Jump, Ret, Reti, Vector, sp, LayoutParts, IsRootAt, HasEdge, has_edge, Cause}
+use Rattle.m51_monitor.proofs.Common.{Move, Stay, Local, Return, JumpTo, CallTo, InterruptTo, ReturnRecord, Records}
+use Rattle.m51_monitor.proofs.Common.{named_over, first_or, current, running, BeginsAt, IsWalkAbove, AreWalksOver}
+use Rattle.m51_monitor.proofs.Common.{AreWalks, HeightsRise, one_more, interrupts, refused_if, is_sp_below, is_at}
+use Rattle.m51_monitor.proofs.Common.{jump_or_call, within, move_to, returns_to, is_by, return_move, is_busy}
+use Rattle.m51_monitor.proofs.Common.{interrupts_to, judged_as, IsRootFound, jumped, return_pushed, without_top, moved}
+use Rattle.m51_monitor.proofs.Common.{none_in_empty, Monitored}
+use Rattle.std.proofs.lemmas.Bool.{ltb-false}
 use Rattle.std.specs.declared.result.Result.{Result}
-use Rattle.std.specs.Prelude.{if◌then◌else◌}
-use Rattle.std.specs.List.{Contains}
-use Rattle.std.proofs.lemmas.Bool.Decides.{eqb_tells}
 use Rattle.m51_cells.specs.declared.event.Why.{Why}
-use Rattle.m51_cells.specs.declared.event.Why.TheVariants.{NoEdge, NotCalled, WrongAddress, SpMoved, SpBelow, RootBusy}
-use Rattle.m51_cells.specs.declared.event.Why.TheVariants.{PastEnd}
-use Rattle.m51_flat.specs.declared.state.Effect.{Effect}
-use Rattle.m51_flat.specs.declared.state.Source.{Source}
 use Rattle.m51_flat.specs.declared.state.Source.TheVariants.{Ie0, Tf0, Ie1, Tf1, Serial, Timer2}
-use Rattle.m51_flat.specs.declared.state.Transfer.{Transfer}
-use Rattle.m51_flat.specs.declared.state.Transfer.TheVariants.{Next, Jump, Call, Ret, Reti, Vector}
-use Rattle.m51_flat.specs.Sfr.{latch, sp}
+use Rattle.m51_flat.specs.declared.state.Transfer.TheVariants.{Call}
+use Rattle.m51_flat.specs.Sfr.{latch}
 use Rattle.m51_module.proofs.EdgeTests.{edge_from_test}
-use Rattle.m51_module.specs.declared.parts.LayoutParts.{LayoutParts}
-use Rattle.m51_module.specs.Plan.{IsRootAt}
-use Rattle.m51_module.specs.Walks.{HasEdge, has_edge}
-use Rattle.m51_monitor.specs.declared.cause.Cause.{Cause}
 use Rattle.m51_monitor.specs.declared.cause.Cause.TheVariants.{Call as ByCall, Interrupt as ByInterrupt}
-use Rattle.m51_monitor.specs.declared.step.Move.{Move}
-use Rattle.m51_monitor.specs.declared.step.Move.TheVariants.{Stay, Local, Return, Jump as JumpTo, Call as CallTo}
-use Rattle.m51_monitor.specs.declared.step.Move.TheVariants.{Interrupt as InterruptTo}
-use Rattle.m51_monitor.specs.Records.{ReturnRecord, Records, named_over, first_or, current, running, runs_also}
-use Rattle.m51_monitor.specs.Records.{BeginsAt, IsWalkAbove, AreWalksOver, AreWalks}
-use Rattle.m51_monitor.specs.Rising.{IsAbove, HeightsRise, one_more, interrupts}
-use Rattle.m51_monitor.specs.Transfers.{unless, is_sp_below, is_at, jump_or_call, within, move_to, returns_to, is_by}
-use Rattle.m51_monitor.specs.Transfers.{return_move, is_of_root, is_busy, interrupts_to, judged_as, IsRootFound}
-use Rattle.m51_monitor.specs.Transfers.{IsRootWanted, return_address_of, jumped, pushed, without_top, moved}
+use Rattle.m51_monitor.specs.Records.{runs_also}
+use Rattle.m51_monitor.specs.Rising.{IsAbove}
+use Rattle.m51_monitor.specs.Transfers.{is_of_root}
+use Rattle.m51_monitor.specs.Transfers.{IsRootWanted, return_address_of}
 use Rattle.m51_flat.specs.Vectors.{vector_of}
 use Rattle.m51_monitor.proofs.Lists.{contains_cases, first_append}
-use Rattle.m51_module.proofs.Owning.{none_in_empty}
 use Rattle.m51_monitor.specs.Laws.{MovesAreKept}
-use Rattle.m51_monitor.specs.Monitored.{Monitored, HasLevel}
+use Rattle.m51_monitor.specs.Monitored.{HasLevel}
 
 begins_on : (l : LayoutParts) (v u : ℕ) (us : List ℕ) → BeginsAt l v us → HasEdge l.edges (first_or us 0) u
     → BeginsAt l v (u ∷ us)
@@ -63,16 +54,16 @@ pub jump_stands : (l : LayoutParts) (a : Records) (u : ℕ) → AreWalks l a →
 jump_stands l a u h e = jump_over l u a.reset a.returns h.over e
 
 pub local_stands : (l : LayoutParts) (a : Records) (return_address top : ℕ) → AreWalks l a
-    → AreWalks l (pushed a ByCall return_address top [])
+    → AreWalks l (return_pushed a ByCall return_address top [])
 local_stands l a return_address top h = record { over = (tt, h.over) }
 
 pub call_stands : (l : LayoutParts) (a : Records) (return_address top u : ℕ) → AreWalks l a
-    → HasEdge l.edges (current a) u → AreWalks l (pushed a ByCall return_address top (u ∷ []))
+    → HasEdge l.edges (current a) u → AreWalks l (return_pushed a ByCall return_address top (u ∷ []))
 call_stands l a return_address top u h e = record { over = ((e, tt), h.over) }
 
 pub interrupt_stands : (l : LayoutParts) (a : Records) (source : Source) (return_address top u : ℕ) → AreWalks l a
     → IsRootAt l (vector_of source) u → (Contains (running a.returns) (vector_of source) → ⊥)
-    → AreWalks l (pushed a (ByInterrupt source) return_address top (u ∷ []))
+    → AreWalks l (return_pushed a (ByInterrupt source) return_address top (u ∷ []))
 interrupt_stands l a source return_address top u h at fresh = record { over = ((at, fresh), h.over) }
 
 return_over : (l : LayoutParts) (reset : List ℕ) (rs : List ReturnRecord) → AreWalksOver l reset rs
@@ -88,7 +79,7 @@ return_stands l a h = record { over = return_over l a.reset a.returns h.over }
 pub ok_is : (m n : Move) → ◌≡◌ {A = Result Move Why} (Ok m) (Ok n) → m ≡ n
 ok_is m n e = cc
 
-pub unless_ok : (b : Bool) (why : Why) (rest : Result Move Why) (m : Move) → Ok m ≡ unless b why rest
+pub unless_ok : (b : Bool) (why : Why) (rest : Result Move Why) (m : Move) → Ok m ≡ refused_if b why rest
     → (b ≡ false) × (Ok m ≡ rest)
 unless_ok true why rest m e = cc
 unless_ok false why rest m e = (refl, e)
@@ -150,13 +141,15 @@ goes_back : (l : LayoutParts) (a : Records) (top new to : ℕ) (at root : Option
     (m : Move) →
     (same ≡ true → low ≡ false → Allowed l a top new to at root (within call))
     → (HasEdge l.edges (current a) u → low ≡ false → Allowed l a top new to at root (move_to call u)) →
-    Ok m ≡ (if same then unless low SpBelow (Ok (within call)) else unless (not (has_edge l.edges (current a) u)) NoEdge
-    (unless low SpBelow (Ok (move_to call u)))) → Allowed l a top new to at root m
+    Ok m ≡ (if same then refused_if low SpBelow (Ok (within call))
+    else refused_if (not (has_edge l.edges (current a) u)) NoEdge
+    (refused_if low SpBelow (Ok (move_to call u)))) → Allowed l a top new to at root m
 goes_back l a top new to at root u low call true m own along e =
     let p = unless_ok low SpBelow (Ok (within call)) m e in
     subst (Allowed l a top new to at root) (sym (ok_is m (within call) p.1)) (own refl p.0)
 goes_back l a top new to at root u low call false m own along e =
-    let p = unless_ok (not (has_edge l.edges (current a) u)) NoEdge (unless low SpBelow (Ok (move_to call u))) m e in
+    let p = unless_ok (not (has_edge l.edges (current a) u)) NoEdge
+    (refused_if low SpBelow (Ok (move_to call u))) m e in
     let q = unless_ok low SpBelow (Ok (move_to call u)) m p.1 in
     subst (Allowed l a top new to at root) (sym (ok_is m (move_to call u) q.1))
     (along (edge_from_test l.edges (current a) u (not-false (has_edge l.edges (current a) u) p.0)) q.0)
@@ -184,8 +177,9 @@ ends_back l a top new to at root (r ∷ rs) call m same e =
     let inside = is_at at (first_or (named_over a.reset rs) 0) in
     let o = unless_ok (not (is_by call r.cause)) NotCalled (returns_to r.sp r.return_address top to inside) m e in
     let p = unless_ok (not (nat_eq top r.sp)) SpMoved
-    (unless (not (nat_eq to r.return_address)) WrongAddress (unless (not inside) PastEnd (Ok Return))) m o.1 in
-    let q = unless_ok (not (nat_eq to r.return_address)) WrongAddress (unless (not inside) PastEnd (Ok Return)) m p.1 in
+    (refused_if (not (nat_eq to r.return_address)) WrongAddress (refused_if (not inside) PastEnd (Ok Return))) m o.1 in
+    let q = unless_ok (not (nat_eq to r.return_address)) WrongAddress
+    (refused_if (not inside) PastEnd (Ok Return)) m p.1 in
     let s = unless_ok (not inside) PastEnd (Ok Return) m q.1 in
     subst (Allowed l a top new to at root) (sym (ok_is m Return s.1))
     (IsReturn r rs same (eqb-true top r.sp (not-false (nat_eq top r.sp) p.0))
@@ -197,7 +191,8 @@ interrupt_back : (l : LayoutParts) (a : Records) (top new to : ℕ) (at root : O
 interrupt_back l a top new to at None source m found e = cc e
 interrupt_back l a top new to at (Some u) source m found e =
     let low = is_sp_below a.returns 2 new in
-    let p = unless_ok (is_busy a.returns (vector_of source)) RootBusy (unless low SpBelow (Ok (InterruptTo source u))) m
+    let p = unless_ok (is_busy a.returns (vector_of source)) RootBusy
+    (refused_if low SpBelow (Ok (InterruptTo source u))) m
     e in
     let q = unless_ok low SpBelow (Ok (InterruptTo source u)) m p.1 in
     subst (Allowed l a top new to at (Some u)) (sym (ok_is m (InterruptTo source u) q.1))
@@ -208,7 +203,7 @@ pub allowed : (l : LayoutParts) (a : Records) (top new to : ℕ) (t : Transfer) 
     → IsRootWanted l t root → Ok m ≡ judged_as l a top new to t at root → Allowed l a top new to at root m
 allowed l a top new to Next at root m found e =
     let low = is_sp_below a.returns 0 new in
-    let p = unless_ok (not (is_at at (current a))) PastEnd (unless low SpBelow (Ok Stay)) m e in
+    let p = unless_ok (not (is_at at (current a))) PastEnd (refused_if low SpBelow (Ok Stay)) m e in
     let q = unless_ok low SpBelow (Ok Stay) m p.1 in
     subst (Allowed l a top new to at root) (sym (ok_is m Stay q.1)) (IsStay (low_above a.returns 0 new q.0))
 allowed l a top new to Jump at root m found e = jump_back l a top new to at root at m refl e

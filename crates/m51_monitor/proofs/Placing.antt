@@ -1,21 +1,14 @@
 -- Segments of a sound layout turn live or outside.
-use Rattle.std.proofs.Common.{◌≡◌, ◌≢◌, ◌⊎◌, inl, inr, ℕ, Bool, zero, suc, ◌+◌, ◌<◌, ◌≤◌, false, Some, List, [], ◌∷◌}
-use Rattle.std.proofs.Common.{length, refl, sym, ap, subst, ◌∙◌, ⊎_elim, arith}
-use Rattle.std.specs.Prelude.{slice_index, slice_index_or}
-use Rattle.std.specs.List.{Contains}
-use Rattle.std.proofs.lemmas.Option.{slice_get-get_or, slice_get_within}
+use Rattle.m51_monitor.proofs.Common.{◌≡◌, ◌≢◌, ◌⊎◌, inl, inr, ℕ, Bool, zero, suc, ◌+◌, ◌<◌, ◌≤◌, false, Some, List, []}
+use Rattle.m51_monitor.proofs.Common.{◌∷◌, length, refl, sym, ap, subst, ◌∙◌, ⊎_elim, arith, slice_index}
+use Rattle.m51_monitor.proofs.Common.{slice_index_or, Contains, slice_get_within, cases_lt, Cell, Covers, LayoutParts}
+use Rattle.m51_monitor.proofs.Common.{Placed, extent_at, IsPlaced, IsSound, CellState, Shared, cell_state, IsTurned}
+use Rattle.m51_monitor.proofs.Common.{Turned, Under, Beside, AreTurned, IsLocalAmong}
+use Rattle.std.proofs.lemmas.Option.{slice_get-get_or}
 use Rattle.std.proofs.lemmas.List.Elements.{Contains-get_or}
-use Rattle.std.proofs.lemmas.Bool.{cases_lt}
-use Rattle.m51_cells.specs.declared.cell.Cell.{Cell}
-use Rattle.m51_cells.specs.Extent.{Covers}
-use Rattle.m51_module.specs.declared.parts.LayoutParts.{LayoutParts}
-use Rattle.m51_module.specs.declared.placed.Placed.{Placed}
-use Rattle.m51_module.specs.Cells.{extent_at}
-use Rattle.m51_module.specs.Plan.{IsPlaced, AreLocals}
-use Rattle.m51_module.specs.Sound.{IsSound, IsFit}
-use Rattle.m51_flat.specs.States.{CellState}
-use Rattle.m51_monitor.specs.Shared.{Shared, cell_state, IsTurned}
-use Rattle.m51_monitor.specs.Turning.{Turned, Under, Beside, AreTurned, IsLocalOf, IsLocalAmong}
+use Rattle.m51_module.specs.Plan.{AreLocals}
+use Rattle.m51_module.specs.Sound.{IsFit}
+use Rattle.m51_monitor.specs.Turning.{IsLocalOf}
 use Rattle.m51_monitor.proofs.Reading.{covers_or_not}
 
 pub placed_at : (l : LayoutParts) (t : ℕ) (p : Placed) → t < length l.placed → slice_index_or l.placed t p ≡ p
@@ -76,39 +69,39 @@ get_or_same (x ∷ xs) (suc k) d h = get_or_same xs k d (omega (arith, h))
 pub last_or_before : (t k : ℕ) → t < k + 1 → (t ≡ k) ⊎ (t < k)
 last_or_before t k h = ⊎_elim (λ (q : t < k). inr q) (λ (q : k ≤ t). inl (omega (arith, q, h))) (cases_lt t k)
 
-module _ (l : LayoutParts) (holders locals : List ℕ) (place : ℕ) (to : CellState) (below : place < length locals) where
-  before : (t : ℕ) → IsLocalAmong holders locals place t → IsLocalAmong holders locals (place + 1) t
-  before t k = record { place = k.place; below = omega (arith, k.below); inside = k.inside; is = k.is; free = k.free }
+module _ (l : LayoutParts) (holders locals : List ℕ) (index : ℕ) (to : CellState) (below : index < length locals) where
+  before : (t : ℕ) → IsLocalAmong holders locals index t → IsLocalAmong holders locals (index + 1) t
+  before t k = record { index = k.index; below = omega (arith, k.below); inside = k.inside; is = k.is; free = k.free }
 
-  here_or_before : (t : ℕ) → IsLocalAmong holders locals (place + 1) t
-      → (t ≡ slice_index locals place) ⊎ IsLocalAmong holders locals place t
+  here_or_before : (t : ℕ) → IsLocalAmong holders locals (index + 1) t
+      → (t ≡ slice_index locals index) ⊎ IsLocalAmong holders locals index t
   here_or_before t k = ⊎_elim
-      (λ (e : k.place ≡ place). inl (sym k.is ∙ ap (slice_index locals) e))
-      (λ (h : k.place < place). inr
-      (record { place = k.place; below = h; inside = k.inside; is = k.is; free = k.free }))
-      (last_or_before k.place place k.below)
+      (λ (e : k.index ≡ index). inl (sym k.is ∙ ap (slice_index locals) e))
+      (λ (h : k.index < index). inr
+      (record { index = k.index; below = h; inside = k.inside; is = k.is; free = k.free }))
+      (last_or_before k.index index k.below)
 
-  -- the segment at this place has turned
-  pub turned : (p : Placed) (old mid new : Shared) → IsPlaced l (slice_index locals place) p
-      → slice_index holders (slice_index locals place) ≡ 0 → IsTurned (extent_at p) to mid new
-      → AreTurned l (IsLocalAmong holders locals place) to old mid
-      → AreTurned l (IsLocalAmong holders locals (place + 1)) to old new
+  -- the segment at this index has turned
+  pub turned : (p : Placed) (old mid new : Shared) → IsPlaced l (slice_index locals index) p
+      → slice_index holders (slice_index locals index) ≡ 0 → IsTurned (extent_at p) to mid new
+      → AreTurned l (IsLocalAmong holders locals index) to old mid
+      → AreTurned l (IsLocalAmong holders locals (index + 1)) to old new
   turned p old mid new at free turn h =
-      next_turned l (IsLocalAmong holders locals place) (IsLocalAmong holders locals (place + 1)) to
-      (slice_index locals place) p at
-      (record { place = place; below = omega arith; inside = below; is = refl; free = free })
+      next_turned l (IsLocalAmong holders locals index) (IsLocalAmong holders locals (index + 1)) to
+      (slice_index locals index) p at
+      (record { index = index; below = omega arith; inside = below; is = refl; free = free })
       before here_or_before old mid new turn h
 
   -- it stays, as something holds it
-  pub stays : (old mid : Shared) → slice_index holders (slice_index locals place) ≢ 0
-      → AreTurned l (IsLocalAmong holders locals place) to old mid
-      → AreTurned l (IsLocalAmong holders locals (place + 1)) to old mid
-  stays old mid held h = turned_as l (IsLocalAmong holders locals place) (IsLocalAmong holders locals (place + 1)) to
+  pub stays : (old mid : Shared) → slice_index holders (slice_index locals index) ≢ 0
+      → AreTurned l (IsLocalAmong holders locals index) to old mid
+      → AreTurned l (IsLocalAmong holders locals (index + 1)) to old mid
+  stays old mid held h = turned_as l (IsLocalAmong holders locals index) (IsLocalAmong holders locals (index + 1)) to
       old mid
       before
       (λ t k. ⊎_elim
-      (λ (e : t ≡ slice_index locals place). absurd (held (subst (λ t. slice_index holders t ≡ 0) e k.free)))
-      (λ (m : IsLocalAmong holders locals place t). m)
+      (λ (e : t ≡ slice_index locals index). absurd (held (subst (λ t. slice_index holders t ≡ 0) e k.free)))
+      (λ (m : IsLocalAmong holders locals index t). m)
       (here_or_before t k))
       h
 
@@ -122,11 +115,11 @@ pub turned_all : (l : LayoutParts) (holders locals : List ℕ) (unit : ℕ) (to 
 turned_all l holders locals unit to old new are h =
     turned_as l (IsLocalAmong holders locals (length locals)) (IsLocalOf l holders unit) to old new
     (λ t k. record {
-      owns = (are.owned t).0 (subst (Contains locals) k.is (Contains-get_or locals k.place 0 k.inside));
+      owns = (are.owned t).0 (subst (Contains locals) k.is (Contains-get_or locals k.index 0 k.inside));
       free = k.free;
     })
     (λ t k. let c = (are.owned t).1 k.owns in
-    record { place = c.0; below = c.1; inside = c.1; is = get_or_same locals c.0 t c.1 ∙ c.2; free = k.free })
+    record { index = c.0; below = c.1; inside = c.1; is = get_or_same locals c.0 t c.1 ∙ c.2; free = k.free })
     h
 
 -- what a unit owns is placed
@@ -135,10 +128,10 @@ pub below : (l : LayoutParts) (locals : List ℕ) (unit : ℕ) → IsSound l →
 below l locals unit sound are t h = let o = (sound.owned unit t ((are.owned t).0 h)).1 in
     slice_get_within l.placed t o.0 o.1
 
--- an element of a list, by its place
-pub item_is : (locals : List ℕ) (bound place : ℕ) → ((t : ℕ) → Contains locals t → t < bound) → place < length locals
-    → slice_index locals place < bound
-item_is locals bound place all h = all (slice_index locals place) (Contains-get_or locals place 0 h)
+-- an element of a list, by its index
+pub item_is : (locals : List ℕ) (bound index : ℕ) → ((t : ℕ) → Contains locals t → t < bound) → index < length locals
+    → slice_index locals index < bound
+item_is locals bound index all h = all (slice_index locals index) (Contains-get_or locals index 0 h)
 
 -- what fails below a number and at it fails up to it
 pub none_up_to : (P : ℕ → Bool) (k : ℕ) → ((t : ℕ) → t < k → P t ≡ false) → P k ≡ false → (t : ℕ) → t < k + 1

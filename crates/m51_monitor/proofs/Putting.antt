@@ -1,25 +1,17 @@
 -- A shared RAM after a put.
-use Rattle.std.proofs.Common.{◌≡◌, ◌≢◌, ℕ, zero, suc, ◌+◌, ◌*◌, ◌/◌, ◌%◌, ◌<◌, ◌≤◌, Bool, true, false, nat_eq, Option}
-use Rattle.std.proofs.Common.{Some, None, refl, sym, ap, subst, ◌∙◌, ⊎_elim, arith}
-use Rattle.std.specs.Prelude.{if◌then◌else◌}
-use Rattle.std.specs.Int.{bit_at}
-use Rattle.std.proofs.lemmas.Bool.Decides.{eqb_tells}
-use Rattle.std.proofs.lemmas.Bool.{cases_lt, not-false}
+use Rattle.m51_monitor.proofs.Common.{◌≡◌, ◌≢◌, ℕ, zero, suc, ◌+◌, ◌*◌, ◌/◌, ◌%◌, ◌<◌, ◌≤◌, Bool, true, false, nat_eq}
+use Rattle.m51_monitor.proofs.Common.{Option, Some, None, refl, sym, ap, subst, ◌∙◌, ⊎_elim, arith, if◌then◌else◌}
+use Rattle.m51_monitor.proofs.Common.{bit_at, eqb_tells, cases_lt, not-false, Cell, Space, Ram, Xram, Code, Covers, Put}
+use Rattle.m51_monitor.proofs.Common.{flat_cells, CellState, ram_cell, xram_cell, same_states, IsDataCell, IsCellAt}
+use Rattle.m51_monitor.proofs.Common.{Mask, flag_in, flag_of, IsMarked, Shared, masked, shared_cells, shared_barred}
+use Rattle.m51_monitor.proofs.Common.{state_over}
 use Rattle.m51_alu.specs.Arithmetic.{bit_of}
-use Rattle.m51_cells.specs.declared.cell.Cell.{Cell}
-use Rattle.m51_cells.specs.declared.cell.Space.{Space}
-use Rattle.m51_cells.specs.declared.cell.Space.TheVariants.{Ram, Xram, Code}
-use Rattle.m51_cells.specs.Extent.{Covers}
-use Rattle.m51_flat.specs.declared.state.Put.{Put}
 use Rattle.m51_flat.specs.declared.state.Put.TheVariants.{Nothing, Byte, Bit, Xbyte}
-use Rattle.m51_flat.specs.Flat.{FlatBytes, flat_cells}
-use Rattle.m51_flat.specs.States.{CellState, States, ram_cell, xram_cell, states_after, first_barred, shut_of}
-use Rattle.m51_flat.proofs.Flat.{same_states}
+use Rattle.m51_flat.specs.Flat.{FlatBytes}
+use Rattle.m51_flat.specs.States.{States, states_after, first_barred, shut_of}
 use Rattle.m51_module.specs.Sound.{IsInside}
-use Rattle.m51_cells.specs.Cells.{IsDataCell}
-use Rattle.m51_monitor.specs.Masks.{IsCellAt, Mask, flag_in, flag_of, IsMarked}
-use Rattle.m51_monitor.specs.Shared.{Shared, masked, shared_cells, shared_barred, cells_put}
-use Rattle.m51_flat.specs.States.{ram_written, xram_written, written_in, state_over}
+use Rattle.m51_monitor.specs.Shared.{cells_put}
+use Rattle.m51_flat.specs.States.{ram_written, xram_written, written_in}
 use Rattle.m51_monitor.proofs.Reading.{covers_or_not}
 use Rattle.m51_monitor.proofs.Truths.{if_false, if_true}
 

@@ -1,16 +1,12 @@
 -- What holds of records that a run can reach.
-use Rattle.std.proofs.Common.{sym, subst, arith}
-use Rattle.m51_module.specs.declared.parts.LayoutParts.{LayoutParts}
-use Rattle.m51_monitor.specs.Monitored.{AreActivations}
-use Rattle.m51_monitor.specs.Reached.{IsReached, AtReset, AfterMove, RunsAreBounded}
-use Rattle.m51_monitor.specs.Records.{Records, units_named}
-use Rattle.m51_monitor.specs.Transfers.{moved}
+use Rattle.m51_monitor.proofs.Common.{sym, subst, arith, LayoutParts, AreActivations, Records, units_named, moved}
+use Rattle.m51_monitor.specs.Reached.{AreReachedRecords, AtReset, AfterMove, RunsAreBounded}
 use Rattle.m51_monitor.proofs.Heights.{few_records}
 use Rattle.m51_monitor.proofs.Liveness.{one_live}
 use Rattle.m51_monitor.proofs.Moving.{moves_are_kept}
 use Rattle.m51_monitor.proofs.Standing.{all_related}
 
-reached_are : (l : LayoutParts) (a : Records) → IsReached l a → AreActivations l a
+reached_are : (l : LayoutParts) (a : Records) → AreReachedRecords l a → AreActivations l a
 reached_are l a (AtReset root h) = record { stand = record { over = h }; heights = tt; levels = omega arith }
 reached_are l a (AfterMove m cpu e step same before fits level j) =
     let were = subst (λ (l : LayoutParts). AreActivations l m.records) (sym same) (reached_are l m.records before) in

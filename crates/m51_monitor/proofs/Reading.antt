@@ -1,26 +1,20 @@
 -- What the cells of a shared RAM answer.
-use Rattle.std.proofs.Common.{◌≡◌, ◌≢◌, ◌⊎◌, inl, inr, ℕ, zero, suc, ◌+◌, ◌*◌, ◌/◌, ◌%◌, ◌<◌, ◌≤◌, Bool, true, false}
-use Rattle.std.proofs.Common.{not, nat_lt, List, [], ◌∷◌, length, Some, None, refl, sym, ap, subst, ◌∙◌, ⊎_elim, arith}
-use Rattle.std.specs.Prelude.{slice_index, slice_index_or, if◌then◌else◌}
-use Rattle.std.specs.Int.{bit_at}
-use Rattle.std.proofs.lemmas.Bool.{lt-ltb, le-ltb}
-use Rattle.std.proofs.lemmas.Bool.{cases_lt}
-use Rattle.m51_cells.specs.declared.cell.Cell.{Cell}
-use Rattle.m51_cells.specs.declared.cell.Space.{Space}
-use Rattle.m51_cells.specs.declared.cell.Space.TheVariants.{Ram, Xram, Code}
-use Rattle.m51_cells.specs.declared.extent.Extent.{Extent}
-use Rattle.m51_cells.specs.Extent.{Covers}
+use Rattle.m51_monitor.proofs.Common.{◌≡◌, ◌≢◌, ◌⊎◌, inl, inr, ℕ, zero, suc, ◌+◌, ◌*◌, ◌/◌, ◌%◌, ◌<◌, ◌≤◌, Bool, true}
+use Rattle.m51_monitor.proofs.Common.{false, not, nat_lt, List, [], ◌∷◌, length, Some, None, refl, sym, ap, subst, ◌∙◌}
+use Rattle.m51_monitor.proofs.Common.{⊎_elim, arith, slice_index, slice_index_or, if◌then◌else◌, bit_at, lt-ltb}
+use Rattle.m51_monitor.proofs.Common.{cases_lt, Cell, Space, Ram, Xram, Code, Extent, Covers, state_at, flat_cells}
+use Rattle.m51_monitor.proofs.Common.{CellState, Holds, Absent, Fresh, ram_cell, xram_cell, same_states, IsDataCell}
+use Rattle.m51_monitor.proofs.Common.{IsCellAt, Mask, flag_in, flag_of, IsMarked, Shared, masked, shared_cells}
+use Rattle.m51_monitor.proofs.Common.{shared_barred, IsTurned, turned_to}
+use Rattle.std.proofs.lemmas.Bool.{le-ltb}
 use Rattle.m51_flat.specs.declared.state.Seen.{Seen}
 use Rattle.m51_flat.specs.declared.state.Seen.TheVariants.{Value, Outside, Unset}
-use Rattle.m51_flat.specs.Causes.{state_at}
-use Rattle.m51_flat.specs.Flat.{FlatBytes, flat_cells, filled_cells}
-use Rattle.m51_flat.specs.States.{CellState, States, Holds, Absent, Fresh, answered, on_value, ram_cell, xram_cell}
+use Rattle.m51_flat.specs.Flat.{FlatBytes, filled_cells}
+use Rattle.m51_flat.specs.States.{States, answered, on_value}
 use Rattle.m51_flat.specs.States.{bit_seen, bits_seen, byte_seen, xbyte_seen, first_barred}
-use Rattle.m51_flat.proofs.Flat.{same_states}
-use Rattle.m51_cells.specs.Cells.{IsDataCell}
-use Rattle.m51_monitor.specs.Masks.{IsCellAt, Mask, IsMask, flag_in, flag_of, IsMarked}
-use Rattle.m51_monitor.specs.Shared.{IsShared, Shared, masked, unwritten, shared_cells, shared_barred, IsTurned}
-use Rattle.m51_monitor.specs.Shared.{turned_to, Blocks}
+use Rattle.m51_monitor.specs.Masks.{IsMask}
+use Rattle.m51_monitor.specs.Shared.{IsShared, unwritten}
+use Rattle.m51_monitor.specs.Shared.{Blocks}
 use Rattle.m51_monitor.proofs.Marks.{between_or_beside}
 
 -- what holds of a cell of each memory

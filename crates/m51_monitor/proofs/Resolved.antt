@@ -1,26 +1,17 @@
 -- The functions answer as the relation says.
-use Rattle.std.proofs.Common.{◌≡◌, ◌≢◌, ℕ, zero, suc, ◌+◌, ◌<◌, ◌≤◌, Bool, true, false, not, ◌&&◌, Option, Some, None}
-use Rattle.std.proofs.Common.{List, [], ◌∷◌, refl, sym, ap, subst, ◌∙◌, ⊎_elim, arith}
-use Rattle.std.specs.Prelude.{slice_get, if◌then◌else◌}
+use Rattle.m51_monitor.proofs.Common.{◌≡◌, ◌≢◌, ℕ, zero, suc, ◌+◌, ◌<◌, ◌≤◌, Bool, true, false, not, ◌&&◌, Option, Some}
+use Rattle.m51_monitor.proofs.Common.{None, List, [], ◌∷◌, refl, sym, ap, subst, ◌∙◌, ⊎_elim, arith, slice_get}
+use Rattle.m51_monitor.proofs.Common.{if◌then◌else◌, and_parts, cases_lt, Cell, Space, Ram, Xram, Code, LayoutParts}
+use Rattle.m51_monitor.proofs.Common.{Placed, state_at, CellState, Holds, Absent, Fresh, ram_cell, xram_cell}
+use Rattle.m51_monitor.proofs.Common.{same_states, IsDataCell, flag_in, OneLive, Shared, shared_cells, shared_barred}
+use Rattle.m51_monitor.proofs.Common.{Stores, IsOver, Live, Resolves, InSegment, InCommon, Nowhere, is_common, is_data}
+use Rattle.m51_monitor.proofs.Common.{StandsFor}
 use Rattle.std.proofs.lemmas.Bool.{le-ltb}
-use Rattle.std.proofs.lemmas.Bool.{and_parts, cases_lt}
-use Rattle.m51_cells.specs.declared.cell.Cell.{Cell}
-use Rattle.m51_cells.specs.declared.cell.Space.{Space}
-use Rattle.m51_cells.specs.declared.cell.Space.TheVariants.{Ram, Xram, Code}
-use Rattle.m51_module.specs.declared.parts.LayoutParts.{LayoutParts}
-use Rattle.m51_module.specs.declared.placed.Placed.{Placed}
-use Rattle.m51_flat.specs.Causes.{state_at}
-use Rattle.m51_flat.specs.States.{CellState, Holds, Absent, Fresh, ram_cell, xram_cell}
-use Rattle.m51_flat.proofs.Flat.{same_states}
-use Rattle.m51_cells.specs.Cells.{IsDataCell}
-use Rattle.m51_monitor.specs.Masks.{IsMask, flag_in}
-use Rattle.m51_monitor.specs.Related.{OneLive}
+use Rattle.m51_monitor.specs.Masks.{IsMask}
 use Rattle.m51_monitor.specs.Resolved.{live_over, segment_over, held_in, resolved, resolved_cells, is_absent}
 use Rattle.m51_monitor.specs.Resolved.{outside_of}
-use Rattle.m51_monitor.specs.Shared.{Shared, shared_cells, shared_barred}
 use Rattle.m51_monitor.specs.SharedLaws.{shared_are_cells}
-use Rattle.m51_monitor.specs.Stores.{Stores, IsOver, Live, Resolves, InSegment, InCommon, Nowhere, is_common, is_data}
-use Rattle.m51_monitor.specs.Stores.{is_over, StandsFor}
+use Rattle.m51_monitor.specs.Stores.{is_over}
 use Rattle.m51_monitor.proofs.Changing.{lives_inside}
 use Rattle.m51_monitor.proofs.Reading.{flag_is_of_cell}
 use Rattle.m51_monitor.proofs.Resolving.{common_or_over, is_data_cell, is_over_cell, one_answer, over_is}

@@ -1,29 +1,17 @@
 -- What the separate stores answer after a put, and after segments turned live or died.
-use Rattle.std.proofs.Common.{◌≡◌, ◌≢◌, ◌⊎◌, inl, inr, ℕ, zero, suc, ◌+◌, Bool, true, false, ◌&&◌, ◌||◌, nat_le, nat_lt}
-use Rattle.std.proofs.Common.{Option, Some, None, List, [], ◌∷◌, refl, sym, ap, subst, ◌∙◌, ⊎_elim}
-use Rattle.std.specs.Prelude.{slice_get}
-use Rattle.std.specs.List.{list_any}
-use Rattle.std.proofs.lemmas.Bool.{and_from, and_parts, le-leb, leb-true, lt-ltb, ltb-true, or_right}
-use Rattle.m51_cells.specs.declared.cell.Cell.{Cell}
-use Rattle.m51_cells.specs.declared.cell.Space.{Space}
-use Rattle.m51_cells.specs.declared.cell.Space.TheVariants.{Ram, Xram, Code}
-use Rattle.m51_cells.specs.declared.extent.Extent.{Extent}
-use Rattle.m51_cells.specs.Extent.{Covers}
-use Rattle.m51_module.specs.declared.parts.LayoutParts.{LayoutParts}
-use Rattle.m51_module.specs.declared.placed.Mark.{Mark}
-use Rattle.m51_module.specs.declared.placed.Mark.TheVariants.{Bank, Reserve, Absolute, Plain, Overlaid}
-use Rattle.m51_module.specs.declared.placed.Placed.{Placed}
-use Rattle.m51_module.specs.Cells.{extent_at}
+use Rattle.m51_monitor.proofs.Common.{◌≡◌, ◌≢◌, ◌⊎◌, inl, inr, ℕ, zero, suc, ◌+◌, Bool, true, false, ◌&&◌, ◌||◌, nat_lt}
+use Rattle.m51_monitor.proofs.Common.{Option, Some, None, List, [], ◌∷◌, refl, sym, ap, subst, ◌∙◌, ⊎_elim, slice_get}
+use Rattle.m51_monitor.proofs.Common.{list_any, and_parts, lt-ltb, Cell, Space, Ram, Xram, Code, Extent, Covers}
+use Rattle.m51_monitor.proofs.Common.{LayoutParts, Mark, Bank, Reserve, Absolute, Plain, Overlaid, Placed, extent_at}
+use Rattle.m51_monitor.proofs.Common.{Put, CellState, Absent, IsCellAt, IsDataCell, OneLive, Stores, IsOver, held, Live}
+use Rattle.m51_monitor.proofs.Common.{Resolves, InSegment, InCommon, Nowhere, is_data, has_cell, is_common, put_into}
+use Rattle.m51_monitor.proofs.Common.{state_over}
+use Rattle.std.proofs.Common.{nat_le}
+use Rattle.std.proofs.lemmas.Bool.{and_from, le-leb, leb-true, ltb-true, or_right}
 use Rattle.m51_module.specs.Plan.{IsSegment}
-use Rattle.m51_flat.specs.declared.state.Put.{Put}
-use Rattle.m51_flat.specs.States.{CellState, Absent}
-use Rattle.m51_monitor.specs.Masks.{IsCellAt}
-use Rattle.m51_cells.specs.Cells.{IsDataCell}
-use Rattle.m51_monitor.specs.Related.{OneLive}
-use Rattle.m51_monitor.specs.Stores.{Stores, IsOver, held, Live, Resolves, InSegment, InCommon, Nowhere, over}
-use Rattle.m51_monitor.specs.Stores.{is_segment, is_in, covers, is_over, is_over_at, is_data_in, is_data, has_cell}
-use Rattle.m51_monitor.specs.Stores.{is_common, put_into}
-use Rattle.m51_flat.specs.States.{written_to, state_over}
+use Rattle.m51_monitor.specs.Stores.{over}
+use Rattle.m51_monitor.specs.Stores.{is_segment, is_same_space, covers, is_over, is_over_at, is_data_in}
+use Rattle.m51_flat.specs.States.{written_to}
 
 -- coverage as a test
 segment_tells : (mark : Mark)
@@ -34,7 +22,7 @@ segment_tells Absolute = inl (refl, tt)
 segment_tells Plain = inl (refl, tt)
 segment_tells Overlaid = inl (refl, tt)
 
-space_is : (a b : Space) → is_in a b ≡ true → a ≡ b
+space_is : (a b : Space) → is_same_space a b ≡ true → a ≡ b
 space_is Ram Ram e = refl
 space_is Ram Xram e = cc e
 space_is Ram Code e = cc e
@@ -45,17 +33,17 @@ space_is Code Ram e = cc e
 space_is Code Xram e = cc e
 space_is Code Code e = refl
 
-is_space : (a b : Space) → a ≡ b → is_in a b ≡ true
-is_space a b e = subst (λ b. is_in a b ≡ true) e (same a)
+is_space : (a b : Space) → a ≡ b → is_same_space a b ≡ true
+is_space a b e = subst (λ b. is_same_space a b ≡ true) e (same a)
   where
-    same : (a : Space) → is_in a a ≡ true
+    same : (a : Space) → is_same_space a a ≡ true
     same Ram = refl
     same Xram = refl
     same Code = refl
 
 pub covers_is : (e : Extent) (c : Cell) → covers e c ≡ true → Covers e c
 covers_is e c h =
-    let p = and_parts (is_in c.space e.space) (nat_le e.first c.at && nat_lt c.at (e.first + e.len)) h in
+    let p = and_parts (is_same_space c.space e.space) (nat_le e.first c.at && nat_lt c.at (e.first + e.len)) h in
     let q = and_parts (nat_le e.first c.at) (nat_lt c.at (e.first + e.len)) p.1 in
     record {
       space = space_is c.space e.space p.0;
@@ -65,7 +53,7 @@ covers_is e c h =
 
 pub is_covered : (e : Extent) (c : Cell) → Covers e c → covers e c ≡ true
 is_covered e c h =
-    and_from (is_in c.space e.space) (nat_le e.first c.at && nat_lt c.at (e.first + e.len))
+    and_from (is_same_space c.space e.space) (nat_le e.first c.at && nat_lt c.at (e.first + e.len))
     (is_space c.space e.space h.space)
     (and_from (nat_le e.first c.at) (nat_lt c.at (e.first + e.len)) (le-leb e.first c.at h.from)
     (lt-ltb c.at (e.first + e.len) h.below))
@@ -117,7 +105,7 @@ is_has_cell l t c is h =
     and_from (is_data c) (is_over_at (slice_get l.placed t) c) (is_data_cell c is)
     (rw h.placed (is_over_cell h.is c h.segment h.covers))
 
--- the segments over a cell, by their places in a list
+-- the segments over a cell, by their indices in a list
 abbrev IsSomeOver : Cell → List Placed → Type 0
 IsSomeOver c ps = (t : ℕ) × (p : Placed) × (slice_get ps t ≡ Some p) × (is_over p c ≡ true)
 

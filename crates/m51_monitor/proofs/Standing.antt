@@ -1,18 +1,14 @@
 -- The units that the records name are related.
-use Rattle.std.proofs.Common.{◌≡◌, ◌≢◌, ◌⊎◌, inl, inr, ℕ, List, [], ◌∷◌, ◌++◌, refl, sym, ap, subst, ◌∙◌}
-use Rattle.std.specs.List.{Contains}
-use Rattle.m51_cells.proofs.Small.{contains_first}
-use Rattle.m51_module.specs.declared.parts.LayoutParts.{LayoutParts}
+use Rattle.m51_monitor.proofs.Common.{◌≡◌, ◌≢◌, ◌⊎◌, inl, inr, ℕ, List, [], ◌∷◌, ◌++◌, refl, sym, ap, subst, ◌∙◌}
+use Rattle.m51_monitor.proofs.Common.{Contains, contains_first, LayoutParts, IsRootAt, HasEdge, none_in_empty, Cause}
+use Rattle.m51_monitor.proofs.Common.{Call, Interrupt, IsWalkAbove, ReturnRecord, Records, units_named, named_over}
+use Rattle.m51_monitor.proofs.Common.{first_or, running, BeginsAt, AreWalksOver, AreWalks, AreRelatedAll}
 use Rattle.m51_module.specs.Conflict.{Same, Before, After, FirstUnderNone, SecondUnderNone, UnderTwo}
-use Rattle.m51_module.specs.Plan.{IsRootAt, UnitLiesUnder, UnitsRelated, layout_graph}
-use Rattle.m51_module.specs.Walks.{HasEdge, Reaches}
-use Rattle.m51_module.proofs.Owning.{none_in_empty}
+use Rattle.m51_module.specs.Plan.{UnitLiesUnder, UnitsRelated, layout_graph}
+use Rattle.m51_module.specs.Walks.{Reaches}
 use Rattle.m51_module.proofs.Reach.{lead_on, under_on, under_root}
-use Rattle.m51_monitor.specs.declared.cause.Cause.{Cause}
-use Rattle.m51_monitor.specs.declared.cause.Cause.TheVariants.{Call, Interrupt}
-use Rattle.m51_monitor.specs.Records.{runs_also, IsWalkAbove, ReturnRecord, Records, units_named, named_over, first_or}
-use Rattle.m51_monitor.specs.Records.{running, BeginsAt, WalksOn, AreWalksOver, AreWalks}
-use Rattle.m51_monitor.specs.Related.{AreRelatedAll}
+use Rattle.m51_monitor.specs.Records.{runs_also}
+use Rattle.m51_monitor.specs.Records.{WalksOn}
 use Rattle.m51_flat.specs.Vectors.{vector_of}
 use Rattle.m51_monitor.proofs.Lists.{contains_tail, contains_cases, first_append}
 

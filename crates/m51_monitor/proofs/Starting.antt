@@ -1,32 +1,19 @@
 -- The start.
-use Rattle.std.proofs.Common.{◌≡◌, ◌≢◌, ◌⊎◌, inl, inr, ℕ, ◌+◌, ◌<◌, Bool, true, false, not, ◌&&◌, Option, Some, None}
-use Rattle.std.proofs.Common.{List, [], length, refl, sym, ap, subst, ◌∙◌, ⊎_elim, arith}
-use Rattle.std.specs.Prelude.{slice_get, slice_index, if◌then◌else◌}
-use Rattle.std.proofs.lemmas.Bool.{lt-ltb}
-use Rattle.std.proofs.lemmas.Option.{slice_get_within}
-use Rattle.m51_cells.specs.declared.cell.Cell.{Cell}
-use Rattle.m51_cells.specs.declared.cell.Space.{Space}
-use Rattle.m51_cells.specs.declared.cell.Space.TheVariants.{Ram, Xram, Code}
-use Rattle.m51_module.specs.declared.parts.LayoutParts.{LayoutParts}
-use Rattle.m51_module.specs.declared.placed.Mark.{Mark}
-use Rattle.m51_module.specs.declared.placed.Mark.TheVariants.{Overlaid}
-use Rattle.m51_module.specs.declared.placed.Placed.{Placed}
-use Rattle.m51_module.specs.Cells.{extent_at}
+use Rattle.m51_monitor.proofs.Common.{◌≡◌, ◌≢◌, ◌⊎◌, inl, inr, ℕ, ◌+◌, ◌<◌, Bool, true, false, not, ◌&&◌, Option, Some}
+use Rattle.m51_monitor.proofs.Common.{None, List, [], length, refl, sym, ap, subst, ◌∙◌, ⊎_elim, arith, slice_get}
+use Rattle.m51_monitor.proofs.Common.{slice_index, if◌then◌else◌, lt-ltb, slice_get_within, Cell, Space, Ram, Xram}
+use Rattle.m51_monitor.proofs.Common.{Code, LayoutParts, Mark, Overlaid, Placed, extent_at, IsPlaced, IsOverlaid}
+use Rattle.m51_monitor.proofs.Common.{IsSound, none_in_empty, state_at, CellState, Holds, Absent, AreTimes, IsCellAt}
+use Rattle.m51_monitor.proofs.Common.{IsDataCell, Shared, shared_cells, cell_state, IsTurned, IsOver, held, Resolves}
+use Rattle.m51_monitor.proofs.Common.{InSegment, InCommon, Nowhere, is_overlaid_at, is_overlaid_mark, has_cell}
+use Rattle.m51_monitor.proofs.Common.{is_common, live_by, filled_stores, unset_dead, StandsFor, Turned, Under, Beside}
+use Rattle.m51_monitor.proofs.Common.{AreTurned}
 use Rattle.m51_module.specs.Conflict.{SecondPlain}
-use Rattle.m51_module.specs.Plan.{IsPlaced, IsOverlaid}
-use Rattle.m51_module.specs.Sound.{IsSound}
-use Rattle.m51_module.proofs.Owning.{none_in_empty}
-use Rattle.m51_flat.specs.Causes.{state_at}
 use Rattle.m51_flat.specs.Flat.{filled_cells}
-use Rattle.m51_flat.specs.States.{CellState, States, Holds, Absent}
-use Rattle.m51_monitor.specs.Activity.{AreTimes}
-use Rattle.m51_monitor.specs.Masks.{IsCellAt}
-use Rattle.m51_cells.specs.Cells.{IsDataCell}
-use Rattle.m51_monitor.specs.Shared.{Shared, shared_cells, cell_state, IsTurned}
-use Rattle.m51_monitor.specs.Stores.{IsOver, held, Resolves, InSegment, InCommon, Nowhere, is_overlaid_at}
-use Rattle.m51_monitor.specs.Stores.{is_overlaid_mark, has_cell, is_common, live_by, fill_in, filled_stores, unset_dead}
-use Rattle.m51_monitor.specs.Stores.{IsSet, AreStores, StandsFor}
-use Rattle.m51_monitor.specs.Turning.{Turned, Under, Beside, AreTurned, IsOverlaidAmong}
+use Rattle.m51_flat.specs.States.{States}
+use Rattle.m51_monitor.specs.Stores.{fill_in}
+use Rattle.m51_monitor.specs.Stores.{IsSet, AreStores}
+use Rattle.m51_monitor.specs.Turning.{IsOverlaidAmong}
 use Rattle.m51_monitor.proofs.Changing.{overlaid_segment}
 use Rattle.m51_monitor.proofs.Entering.{plain_lives}
 use Rattle.m51_monitor.proofs.Liveness.{is_live, mark_tells, overlaid_tells}

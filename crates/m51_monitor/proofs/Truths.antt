@@ -1,6 +1,5 @@
 -- Values by a test.
-use Rattle.std.proofs.Common.{◌≡◌, ℕ, Bool, true, false, Option, Some, None, refl}
-use Rattle.std.specs.Prelude.{if◌then◌else◌}
+use Rattle.m51_monitor.proofs.Common.{◌≡◌, ℕ, Bool, true, false, Option, Some, None, refl, if◌then◌else◌}
 
 -- the value where the test passes, and none where it fails
 pub if_true : (b : Bool) (v : ℕ) → b ≡ true → (if b then Some v else None) ≡ Some v

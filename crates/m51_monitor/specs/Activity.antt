@@ -6,7 +6,7 @@ use Rattle.m51_cells.specs.declared.cell.Cell.{Cell}
 use Rattle.m51_module.specs.declared.parts.LayoutParts.{LayoutParts}
 use Rattle.m51_module.specs.Plan.{owners_of}
 use Rattle.m51_monitor.specs.declared.activity.TheConstants.{MOST_NAMED}
-use Rattle.m51_monitor.specs.Records.{is_among, one_more_where}
+use Rattle.m51_monitor.specs.Records.{is_unit_among, one_more_where}
 use Rattle.m51_monitor.specs.Related.{AreRelatedAll}
 use Rattle.m51_monitor.specs.Shared.{Shared}
 use Rattle.m51_monitor.specs.Stores.{Stores, StandsFor, has_cell, live_by, unset_dead}
@@ -31,7 +31,7 @@ pub record AreTimes (l : LayoutParts) (units numbers : List ℕ) : Type 0 where
 -- how many of these units own the segment, each counted as often as the list has it
 abbrev pub holding : LayoutParts → List ℕ → ℕ → ℕ
 holding l [] t = 0
-holding l (u ∷ us) t = one_more_where (is_among (owners_of l.owners t) u) (holding l us t)
+holding l (u ∷ us) t = one_more_where (is_unit_among (owners_of l.owners t) u) (holding l us t)
 
 -- a number for each placed extent, which says how many of the units own it
 pub record AreHolders (l : LayoutParts) (units holders : List ℕ) : Type 0 where

@@ -13,13 +13,13 @@ use Rattle.m51_monitor.specs.Stores.{covers}
 use Rattle.m51_flat.specs.Vectors.{vector_of}
 
 -- a test of the extent that a unit is
-abbrev pub passes : (Placed → Bool) → Option Placed → Bool
-passes test None = false
-passes test (Some p) = test p
+abbrev pub extent_meets : (Placed → Bool) → Option Placed → Bool
+extent_meets test None = false
+extent_meets test (Some p) = test p
 
 abbrev pub extent_passes : List Placed → (Placed → Bool) → Option ℕ → Bool
 extent_passes placed test None = false
-extent_passes placed test (Some s) = passes test (slice_get placed s)
+extent_passes placed test (Some s) = extent_meets test (slice_get placed s)
 
 -- the first of these units, counted from a number on, whose extent passes the test
 abbrev pub first_unit : List Placed → (Placed → Bool) → List ℕ → ℕ → Option ℕ
@@ -35,13 +35,13 @@ covers_address address p = covers (extent_at p) (code_cell address)
 abbrev pub unit_found : LayoutParts → ℕ → Option ℕ
 unit_found l address = first_unit l.placed (covers_address address) l.units 0
 
-abbrev pub is_absolute : Mark → Bool
-is_absolute Absolute = true
-is_absolute other = false
+abbrev pub is_absolute_mark : Mark → Bool
+is_absolute_mark Absolute = true
+is_absolute_mark other = false
 
 -- the extent is an absolute segment of program memory that begins at the vector
 abbrev pub begins_at : ℕ → Placed → Bool
-begins_at vector p = is_code p.kind && (is_absolute p.mark && nat_eq p.base vector)
+begins_at vector p = is_code p.kind && (is_absolute_mark p.mark && nat_eq p.base vector)
 
 -- the root of an interrupt
 abbrev pub root_found : LayoutParts → Transfer → Option ℕ

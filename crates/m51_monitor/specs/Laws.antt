@@ -26,8 +26,8 @@ abbrev pub OneLiveSegment : Type 0
 OneLiveSegment = (l : LayoutParts) (a : Records) → IsSound l → AreWalks l a → OneLive l (live_by l (units_named a))
 
 -- the separate stores give a cell one answer
-abbrev pub OneAnswer : Type 0
-OneAnswer = (l : LayoutParts) (a : Records) (s : Stores) (c : Cell) (x y : CellState) → IsSound l → AreWalks l a
+abbrev pub OneCellAnswer : Type 0
+OneCellAnswer = (l : LayoutParts) (a : Records) (s : Stores) (c : Cell) (x y : CellState) → IsSound l → AreWalks l a
     → Resolves l (live_by l (units_named a)) s c x → Resolves l (live_by l (units_named a)) s c y → x ≡ y
 
 -- records that a run may have are such after each move that the table allows, where an interrupt interrupts at most one

@@ -10,7 +10,7 @@ use Rattle.m51_cells.specs.Extent.{Covers}
 
 -- a flag of a byte
 abbrev pub flag_at : ℕ → ℕ → Bool
-flag_at byte place = nat_eq (bit_at byte place) 1
+flag_at byte index = nat_eq (bit_at byte index) 1
 
 -- the flags of bytes, eight to a byte, the lowest bit's first
 abbrev pub flags_in : List ℕ → List Bool

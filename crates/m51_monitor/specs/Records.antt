@@ -38,8 +38,8 @@ abbrev pub current : Records → ℕ
 current a = first_or (units_named a) 0
 
 -- one of these
-abbrev pub is_among : List ℕ → ℕ → Bool
-is_among units u = list_any (nat_eq u) units
+abbrev pub is_unit_among : List ℕ → ℕ → Bool
+is_unit_among units u = list_any (nat_eq u) units
 
 -- the number of records that name a unit: one more where this one does
 abbrev pub one_more_where : Bool → ℕ → ℕ
@@ -47,8 +47,8 @@ one_more_where true n = n + 1
 one_more_where false n = n
 
 abbrev pub naming_over : List ℕ → List ReturnRecord → ℕ → ℕ
-naming_over reset [] u = one_more_where (is_among reset u) 0
-naming_over reset (r ∷ rs) u = one_more_where (is_among r.units u) (naming_over reset rs u)
+naming_over reset [] u = one_more_where (is_unit_among reset u) 0
+naming_over reset (r ∷ rs) u = one_more_where (is_unit_among r.units u) (naming_over reset rs u)
 
 abbrev pub naming : Records → ℕ → ℕ
 naming a u = naming_over a.reset a.returns u

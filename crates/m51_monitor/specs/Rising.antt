@@ -49,12 +49,12 @@ abbrev pub ended_by : Cause → List Level → List Level
 ended_by Call taken = taken
 ended_by (Interrupt source) taken = drop 1 taken
 
-abbrev pub ended : List ReturnRecord → List Level → List Level
-ended [] taken = taken
-ended (r ∷ rs) taken = ended_by r.cause taken
+abbrev pub levels_left : List ReturnRecord → List Level → List Level
+levels_left [] taken = taken
+levels_left (r ∷ rs) taken = ended_by r.cause taken
 
 -- the levels at which interrupts were taken, after a move: that of a new one is the uppermost in progress then
 abbrev pub taken_after : Records → List Level → Move → List Level → List Level
 taken_after a progress (InterruptTo source u) taken = take 1 progress ++ taken
-taken_after a progress Return taken = ended a.returns taken
+taken_after a progress Return taken = levels_left a.returns taken
 taken_after a progress other taken = taken

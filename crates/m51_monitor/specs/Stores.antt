@@ -17,7 +17,7 @@ use Rattle.m51_module.specs.Plan.{IsSegment, IsPlaced, owners_of}
 use Rattle.m51_flat.specs.declared.state.Put.{Put}
 use Rattle.m51_flat.specs.States.{CellState, Holds, Absent, Fresh}
 use Rattle.m51_cells.specs.Cells.{IsDataCell}
-use Rattle.m51_monitor.specs.Records.{is_among}
+use Rattle.m51_monitor.specs.Records.{is_unit_among}
 use Rattle.m51_monitor.specs.Shared.{Shared, cell_state}
 use Rattle.m51_flat.specs.States.{written_to}
 
@@ -61,7 +61,7 @@ is_overlaid_at None = false
 is_overlaid_at (Some p) = is_overlaid_mark p.mark
 
 abbrev pub has_active : List ℕ → List ℕ → Bool
-has_active active owners = list_any (is_among active) owners
+has_active active owners = list_any (is_unit_among active) owners
 
 abbrev pub live_by : LayoutParts → List ℕ → Live
 live_by l active t = not (is_overlaid_at (slice_get l.placed t)) || has_active active (owners_of l.owners t)
@@ -79,14 +79,14 @@ is_segment Absolute = true
 is_segment Plain = true
 is_segment Overlaid = true
 
-abbrev pub is_in : Space → Space → Bool
-is_in Ram Ram = true
-is_in Xram Xram = true
-is_in Code Code = true
-is_in space other = false
+abbrev pub is_same_space : Space → Space → Bool
+is_same_space Ram Ram = true
+is_same_space Xram Xram = true
+is_same_space Code Code = true
+is_same_space space other = false
 
 abbrev pub covers : Extent → Cell → Bool
-covers e c = is_in c.space e.space && (nat_le e.first c.at && nat_lt c.at (e.first + e.len))
+covers e c = is_same_space c.space e.space && (nat_le e.first c.at && nat_lt c.at (e.first + e.len))
 
 abbrev pub is_over : Placed → Cell → Bool
 is_over p c = is_segment p.mark && covers (extent_at p) c
@@ -126,7 +126,7 @@ unset_dead live s = record {
   common = s.common;
 }
 
--- the fill: of a bit the one at its place in its byte
+-- the fill: of a bit the one at its index in its byte
 abbrev pub fill_in : ℕ → Space → ℕ → ℕ
 fill_in fill Ram at = bit_at fill (at % 8)
 fill_in fill Xram at = fill

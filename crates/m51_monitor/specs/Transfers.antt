@@ -28,9 +28,9 @@ use Rattle.m51_monitor.specs.Records.{ReturnRecord, Records, named_over, first_o
 use Rattle.m51_flat.specs.Vectors.{vector_of}
 
 -- refused where the test holds
-abbrev pub unless : Bool → Why → Result Move Why → Result Move Why
-unless true why rest = Err why
-unless false why rest = rest
+abbrev pub refused_if : Bool → Why → Result Move Why → Result Move Why
+refused_if true why rest = Err why
+refused_if false why rest = rest
 
 -- SP is less than that of the topmost return record plus this number
 abbrev pub is_sp_below : List ReturnRecord → ℕ → ℕ → Bool
@@ -55,14 +55,14 @@ move_to false u = JumpTo u
 abbrev pub jump_or_call : LayoutParts → ℕ → Bool → Bool → Option ℕ → Result Move Why
 jump_or_call l from low call None = Err NoUnit
 jump_or_call l from low call (Some u) =
-    if nat_eq u from then unless low SpBelow (Ok (within call))
-    else unless (not (has_edge l.edges from u)) NoEdge (unless low SpBelow (Ok (move_to call u)))
+    if nat_eq u from then refused_if low SpBelow (Ok (within call))
+    else refused_if (not (has_edge l.edges from u)) NoEdge (refused_if low SpBelow (Ok (move_to call u)))
 
 -- a return to where a record says, where in_unit says whether the target lies in the unit that is current afterwards
 abbrev pub returns_to : ℕ → ℕ → ℕ → ℕ → Bool → Result Move Why
 returns_to recorded return_address sp_before to in_unit =
-    unless (not (nat_eq sp_before recorded)) SpMoved
-    (unless (not (nat_eq to return_address)) WrongAddress (unless (not in_unit) PastEnd (Ok Return)))
+    refused_if (not (nat_eq sp_before recorded)) SpMoved
+    (refused_if (not (nat_eq to return_address)) WrongAddress (refused_if (not in_unit) PastEnd (Ok Return)))
 
 -- the record was made by a call, or by an interrupt
 abbrev pub is_call : Cause → Bool
@@ -76,13 +76,13 @@ is_by false cause = not (is_call cause)
 abbrev pub return_move : List ℕ → List ReturnRecord → Bool → ℕ → ℕ → Option ℕ → Result Move Why
 return_move reset [] call sp_before to at = Err NotCalled
 return_move reset (r ∷ rs) call sp_before to at =
-    unless (not (is_by call r.cause)) NotCalled
+    refused_if (not (is_by call r.cause)) NotCalled
     (returns_to r.sp r.return_address sp_before to (is_at at (first_or (named_over reset rs) 0)))
 
 -- the same of a frame
 abbrev pub returns_from : ReturnFrame → Bool → ℕ → ℕ → Bool → Result Move Why
 returns_from f call sp_before to inside =
-    unless (not (is_by call f.cause)) NotCalled (returns_to f.sp f.return_address sp_before to inside)
+    refused_if (not (is_by call f.cause)) NotCalled (returns_to f.sp f.return_address sp_before to inside)
 
 -- the record is of the root at the vector
 abbrev pub is_of_root : ℕ → Cause → Bool
@@ -95,12 +95,12 @@ is_busy returns vector = list_any (λ r. is_of_root vector r.cause) returns
 abbrev pub interrupts_to : Records → Source → Bool → Option ℕ → Result Move Why
 interrupts_to a source low None = Err NoHandler
 interrupts_to a source low (Some root) =
-    unless (is_busy a.returns (vector_of source)) RootBusy (unless low SpBelow (Ok (InterruptTo source root)))
+    refused_if (is_busy a.returns (vector_of source)) RootBusy (refused_if low SpBelow (Ok (InterruptTo source root)))
 
 -- The table. The target is to, at is the unit there, and root the one that begins at the vector.
 abbrev pub judged_as : LayoutParts → Records → ℕ → ℕ → ℕ → Transfer → Option ℕ → Option ℕ → Result Move Why
 judged_as l a sp_before sp_after to Next at root =
-    unless (not (is_at at (current a))) PastEnd (unless (is_sp_below a.returns 0 sp_after) SpBelow (Ok Stay))
+    refused_if (not (is_at at (current a))) PastEnd (refused_if (is_sp_below a.returns 0 sp_after) SpBelow (Ok Stay))
 judged_as l a sp_before sp_after to Jump at root =
     jump_or_call l (current a) (is_sp_below a.returns 0 sp_after) false at
 judged_as l a sp_before sp_after to Call at root =
@@ -140,7 +140,8 @@ as_event from to (Ok step) = Ok step
 as_event from to (Err why) = Err (Undeclared why from to)
 
 -- the move, or the event
-pub record Answers (l : LayoutParts) (a : Records) (cpu : Cpu) (e : Effect) (result : Result Move Event) : Type 0 where
+pub record IsMoveOrEvent (l : LayoutParts) (a : Records) (cpu : Cpu) (e : Effect)
+    (result : Result Move Event) : Type 0 where
   pub answer : Result Move Why
   pub judges : Judges l a cpu e answer
   pub is : result ≡ as_event cpu.pc e.cpu.pc answer
@@ -160,8 +161,8 @@ jumped reset [] u = record { reset = u ∷ reset; returns = [] }
 jumped reset (r ∷ rs) u = record { reset = reset; returns = record r { units = u ∷ r.units } ∷ rs }
 
 -- one more record, on top
-abbrev pub pushed : Records → Cause → ℕ → ℕ → List ℕ → Records
-pushed a cause return_address sp_after units = record {
+abbrev pub return_pushed : Records → Cause → ℕ → ℕ → List ℕ → Records
+return_pushed a cause return_address sp_after units = record {
   reset = a.reset;
   returns = record { cause = cause; return_address = return_address; sp = sp_after; units = units } ∷ a.returns;
 }
@@ -174,7 +175,7 @@ without_top (r ∷ rs) = rs
 abbrev pub moved : Records → Effect → Move → Records
 moved a e Stay = a
 moved a e (JumpTo u) = jumped a.reset a.returns u
-moved a e Local = pushed a ByCall (return_address_of e) (latch e.cpu sp) []
-moved a e (CallTo u) = pushed a ByCall (return_address_of e) (latch e.cpu sp) (u ∷ [])
-moved a e (InterruptTo source u) = pushed a (ByInterrupt source) (return_address_of e) (latch e.cpu sp) (u ∷ [])
+moved a e Local = return_pushed a ByCall (return_address_of e) (latch e.cpu sp) []
+moved a e (CallTo u) = return_pushed a ByCall (return_address_of e) (latch e.cpu sp) (u ∷ [])
+moved a e (InterruptTo source u) = return_pushed a (ByInterrupt source) (return_address_of e) (latch e.cpu sp) (u ∷ [])
 moved a e Return = record { reset = a.reset; returns = without_top a.returns }

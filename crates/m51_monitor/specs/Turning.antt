@@ -27,10 +27,10 @@ pub record IsLocalOf (l : LayoutParts) (holders : List ℕ) (unit t : ℕ) : Typ
 
 -- the same among the first of these segments
 pub record IsLocalAmong (holders locals : List ℕ) (count t : ℕ) : Type 0 where
-  pub place : ℕ
-  pub below : place < count
-  pub inside : place < length locals
-  pub is : slice_index locals place ≡ t
+  pub index : ℕ
+  pub below : index < count
+  pub inside : index < length locals
+  pub is : slice_index locals index ≡ t
   pub free : slice_index holders t ≡ 0
 
 -- an overlaid segment among the first ones, of this count

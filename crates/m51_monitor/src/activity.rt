@@ -23,7 +23,7 @@ use m51_module::{Layout, Placed};
 use std::alloc::Global;
 use std::marker::Model;
 
-/// The places of the list of units that records name, which are taken at the start: there are at most three walks at
+/// The room of the list of units that records name, which is taken at the start: there are at most three walks at
 /// once, and no unit is twice in one of them.
 ///
 /// Source: own choice ("Activations").
@@ -64,24 +64,24 @@ fn placed_at(layout: &Layout, segment: usize) -> &Placed
     &layout.placed()[segment]
 }
 
-// Turns the segment of this place in the list live and unset, or outside, where nothing holds it.
+// Turns the segment of this index in the list live and unset, or outside, where nothing holds it.
 #[tactic(auto, using(crate::proofs::Placing::turned, crate::proofs::Placing::stays, crate::proofs::Placing::item_is))]
 fn turn_local(
     store: &mut SharedRam,
     layout: &Layout,
     holders: &[u16],
     locals: &[u16],
-    place: usize,
+    index: usize,
     live: bool,
 )
-    requires place { place < length locals.now }
+    requires index { index < length locals.now }
     requires locals { (t : ℕ) → Contains locals.now t → t < length layout.now.placed }
     requires holders { length holders.now ≡ length layout.now.placed }
     ensures { (old : Shared)
-        → AreTurned layout.now (IsLocalAmong holders.now locals.now place) (turned_to live) old store.old
-        → AreTurned layout.now (IsLocalAmong holders.now locals.now (place + 1)) (turned_to live) old store.new }
+        → AreTurned layout.now (IsLocalAmong holders.now locals.now index) (turned_to live) old store.old
+        → AreTurned layout.now (IsLocalAmong holders.now locals.now (index + 1)) (turned_to live) old store.new }
 {
-    let segment = locals[place];
+    let segment = locals[index];
     if holders[usize::from(segment)] == 0 {
         store.turn(placed_at(layout, usize::from(segment)).cells(), live);
     }
@@ -97,8 +97,8 @@ fn turn_locals(store: &mut SharedRam, layout: &Layout, holders: &[u16], unit: u1
 {
     let _sound = layout.placed();
     let locals = layout.locals(unit);
-    for place in 0..locals.len() {
-        turn_local(store, layout, holders, locals, place, live);
+    for index in 0..locals.len() {
+        turn_local(store, layout, holders, locals, index, live);
     }
 }
 
@@ -109,8 +109,8 @@ fn count_more(holders: &mut [u16], locals: &[u16])
     ensures len { length holders.new ≡ length holders.old }
     ensures number { (t : ℕ) → slice_index holders.new t ≡ slice_index holders.old t + times locals.now t }
 {
-    for place in 0..locals.len() {
-        holders[usize::from(locals[place])] += 1;
+    for index in 0..locals.len() {
+        holders[usize::from(locals[index])] += 1;
     }
 }
 
@@ -121,8 +121,8 @@ fn count_less(holders: &mut [u16], locals: &[u16])
     ensures len { length holders.new ≡ length holders.old }
     ensures number { (t : ℕ) → slice_index holders.new t + times locals.now t ≡ slice_index holders.old t }
 {
-    for place in 0..locals.len() {
-        holders[usize::from(locals[place])] -= 1;
+    for index in 0..locals.len() {
+        holders[usize::from(locals[index])] -= 1;
     }
 }
 

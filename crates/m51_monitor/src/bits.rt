@@ -33,15 +33,15 @@ fn whole_byte(value: bool) -> u8
 }
 
 // A byte with this flag set so.
-fn with_flag(byte: u8, place: u8, value: bool) -> u8
-    requires { place < 8 }
-    ensures here { flag_at result place ≡ value }
-    ensures others { (k : ℕ) → k < 8 → k ≢ place → bit_at result k ≡ bit_at byte k }
+fn with_flag(byte: u8, index: u8, value: bool) -> u8
+    requires { index < 8 }
+    ensures here { flag_at result index ≡ value }
+    ensures others { (k : ℕ) → k < 8 → k ≢ index → bit_at result k ≡ bit_at byte k }
 {
     if value {
-        byte | 1 << place
+        byte | 1 << index
     } else {
-        byte & !(1 << place)
+        byte & !(1 << index)
     }
 }
 
@@ -76,12 +76,12 @@ impl Flags {
         Ok(Flags { bytes })
     }
 
-    /// The flag at this place.
-    pub(crate) fn get(&self, place: usize) -> bool
-        requires { place < length self.now }
-        ensures { result ≡ slice_index_or self.now place false }
+    /// The flag at this index.
+    pub(crate) fn get(&self, index: usize) -> bool
+        requires { index < length self.now }
+        ensures { result ≡ slice_index_or self.now index false }
     {
-        self.bytes[place / 8] >> (place % 8) & 1 == 1
+        self.bytes[index / 8] >> (index % 8) & 1 == 1
     }
 
     /// Whether all flags of this byte are set.
@@ -93,12 +93,12 @@ impl Flags {
     }
 
     // Sets one flag.
-    fn set(&mut self, place: usize, value: bool)
-        requires { place < length self.old }
-        ensures { AreSet place (place + 1) value self.old self.new }
+    fn set(&mut self, index: usize, value: bool)
+        requires { index < length self.old }
+        ensures { AreSet index (index + 1) value self.old self.new }
     {
-        let byte = self.bytes[place / 8];
-        self.bytes[place / 8] = with_flag(byte, (place % 8) as u8, value);
+        let byte = self.bytes[index / 8];
+        self.bytes[index / 8] = with_flag(byte, (index % 8) as u8, value);
     }
 
     // Sets flags one by one.
@@ -108,8 +108,8 @@ impl Flags {
         requires inside { to ≤ length self.old }
         ensures { AreSet from to value self.old self.new }
     {
-        for place in from..to {
-            self.set(place, value);
+        for index in from..to {
+            self.set(index, value);
         }
     }
 
@@ -122,7 +122,7 @@ impl Flags {
         fill_bytes(&mut self.bytes, from, to, whole_byte(value));
     }
 
-    /// Sets the flags from a place to another.
+    /// Sets the flags from one index to another.
     pub(crate) fn set_row(&mut self, from: usize, to: usize, value: bool)
         requires order { from ≤ to }
         requires inside { to ≤ length self.old }

@@ -1,13 +1,13 @@
 //! Which extents cover a cell.
 ghost use Rattle.std.specs.Prelude.{◌≡◌, ◌≢◌};
-ghost use Rattle.m51_monitor.specs.Stores.{covers, is_data, is_in, is_over, is_overlaid_mark, is_segment};
+ghost use Rattle.m51_monitor.specs.Stores.{covers, is_data, is_same_space, is_over, is_overlaid_mark, is_segment};
 
 use m51_cells::{Cell, Extent, Kind, Space};
 use m51_module::{Mark, Placed};
 
 // The same memory.
-fn is_in(one: Space, other: Space) -> bool
-    ensures { result ≡ is_in one other }
+fn is_same_space(one: Space, other: Space) -> bool
+    ensures { result ≡ is_same_space one other }
 {
     matches!(
         (one, other),
@@ -19,7 +19,7 @@ fn is_in(one: Space, other: Space) -> bool
 fn covers(extent: Extent, cell: Cell) -> bool
     ensures { result ≡ covers extent cell }
 {
-    is_in(cell.space, extent.space)
+    is_same_space(cell.space, extent.space)
         && extent.first <= cell.at
         && cell.at - extent.first < extent.len
 }

@@ -1,5 +1,6 @@
 //! What follows from the definitions. Each law is the contract of a function that does nothing.
-ghost use Rattle.m51_monitor.specs.Laws.{CoversIsKept, InterruptsAreCounted, LevelsAreKept, MovesAreKept, OneAnswer};
+ghost use Rattle.m51_monitor.specs.Laws.{CoversIsKept, InterruptsAreCounted, LevelsAreKept, MovesAreKept};
+ghost use Rattle.m51_monitor.specs.Laws.{OneCellAnswer};
 ghost use Rattle.m51_monitor.specs.Laws.{OneLiveSegment, OneState, StackIsKept};
 ghost use Rattle.m51_monitor.specs.Reached.{RunsAreBounded};
 
@@ -14,7 +15,7 @@ pub fn at_most_one_live()
 ///
 /// Source: own choice ("Stores of segments").
 pub fn one_answer()
-    ensures { OneAnswer }
+    ensures { OneCellAnswer }
 {}
 
 /// The units of the records form walks, SP rises from record to record, and at most two interrupts are in progress: so

@@ -12,7 +12,7 @@ ghost use Rattle.m51_monitor.specs.Records.{current};
 ghost use Rattle.m51_monitor.specs.Resolved.{outside_of, resolved_cells};
 ghost use Rattle.m51_monitor.specs.Shared.{shared_barred, shared_cells};
 ghost use Rattle.m51_monitor.specs.Stores.{Stores, put_into};
-ghost use Rattle.m51_monitor.specs.Transfers.{byte_put, jumped, moved, pushed, return_address_of, without_top};
+ghost use Rattle.m51_monitor.specs.Transfers.{byte_put, jumped, moved, return_pushed, return_address_of, without_top};
 
 use crate::activity::Activity;
 use crate::cause::{Cause, ReturnFrame};
@@ -24,7 +24,7 @@ use m51_module::Layout;
 use std::alloc::Global;
 use std::marker::Model;
 
-// The place of SP among the registers.
+// The index of SP among the registers.
 const SP: usize = 0x01;
 
 /// A layout, the memory of its segments, and the records of what is active.
@@ -217,9 +217,10 @@ impl Monitor {
 
     // Puts the record of a call within the current unit on top.
     fn push(&mut self, return_address: u16, sp_after: u8)
-        requires { AreActivations self.old.layout (pushed self.old.records Cause.Call return_address sp_after []) }
+        requires { AreActivations self.old.layout
+            (return_pushed self.old.records Cause.Call return_address sp_after []) }
         ensures layout { self.new.layout ≡ self.old.layout }
-        ensures records { self.new.records ≡ pushed self.old.records Cause.Call return_address sp_after [] }
+        ensures records { self.new.records ≡ return_pushed self.old.records Cause.Call return_address sp_after [] }
         ensures keeps { StandsAfter (stores_changed self.new.layout self.new.records) self.old self.new }
     {
         let start = self.activity.count();
@@ -231,9 +232,10 @@ impl Monitor {
 
     // Puts a record with a unit on top.
     fn push_unit(&mut self, cause: Cause, return_address: u16, sp_after: u8, unit: u16)
-        requires { AreActivations self.old.layout (pushed self.old.records cause return_address sp_after (unit ∷ [])) }
+        requires { AreActivations self.old.layout
+            (return_pushed self.old.records cause return_address sp_after (unit ∷ [])) }
         ensures layout { self.new.layout ≡ self.old.layout }
-        ensures records { self.new.records ≡ pushed self.old.records cause return_address sp_after (unit ∷ []) }
+        ensures records { self.new.records ≡ return_pushed self.old.records cause return_address sp_after (unit ∷ []) }
         ensures keeps { StandsAfter (stores_changed self.new.layout self.new.records) self.old self.new }
     {
         self.activity.is_sound();
@@ -307,7 +309,7 @@ impl Monitor {
         self.change(effect, step);
     }
 
-    /// The live segment to which the cell resolves, by its place in `layout().placed()`, if there is one. No cell of
+    /// The live segment to which the cell resolves, by its index in `layout().placed()`, if there is one. No cell of
     /// program memory resolves to a segment.
     ///
     /// Source: own choice ("Stores of segments").

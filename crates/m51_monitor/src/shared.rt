@@ -155,8 +155,8 @@ impl SharedRam {
         requires { first + count ≤ 2048 }
         ensures { result ≡ first_barred (shared_barred self.now) count first }
     {
-        for place in first..first + count {
-            let cell = ram_cell(place);
+        for address in first..first + count {
+            let cell = ram_cell(address);
             if !self.live.get(cell) {
                 return Some(cell);
             }

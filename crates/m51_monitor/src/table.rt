@@ -2,7 +2,8 @@
 ghost use Rattle.std.specs.Prelude.{◌≡◌, ◌<◌, None, IfSome, length};
 ghost use Rattle.m51_monitor.specs.Found.{root_found, unit_found};
 ghost use Rattle.m51_monitor.specs.Judgement.{judge_of};
-ghost use Rattle.m51_monitor.specs.Transfers.{Answers, Judges, interrupts_to, is_busy, is_sp_below, judged, judged_as};
+ghost use Rattle.m51_monitor.specs.Transfers.{IsMoveOrEvent, Judges, interrupts_to, is_busy, is_sp_below, judged};
+ghost use Rattle.m51_monitor.specs.Transfers.{judged_as};
 ghost use Rattle.m51_monitor.specs.Transfers.{return_move};
 
 use crate::judging::{
@@ -138,7 +139,7 @@ impl Monitor {
     #[inline(always)]
     pub fn judge(&self, cpu: &Cpu, effect: &Effect) -> Result<Move, Event>
         ensures value { result ≡ judge_of self.now.layout self.now.records cpu.now effect.now }
-        ensures answers { Answers self.now.layout self.now.records cpu.now effect.now result }
+        ensures answers { IsMoveOrEvent self.now.layout self.now.records cpu.now effect.now result }
     {
         match self.judged(cpu, effect) {
             Ok(step) => Ok(step),

@@ -55,7 +55,7 @@ pub record RunLimits : Type 0 where
   pub steps : MOST_STEPS ≡ 10000000
   -- return records at once
   pub return_records : MOST_RETURN_RECORDS ≡ 128
-  -- places in the list of units that they name
+  -- units in the list of those that they name
   pub named_units : MOST_NAMED ≡ 3000
   -- boards on one serial line
   pub least_boards : LEAST_BOARDS ≡ 2

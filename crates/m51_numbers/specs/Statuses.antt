@@ -5,19 +5,19 @@ use Rattle.m51_verbs.specs.declared.status.Status.{Status}
 use Rattle.m51_verbs.specs.declared.status.Status.TheVariants.{Ran, Event, Usage, Source, Link, Object, Script, Limit}
 use Rattle.m51_verbs.specs.declared.status.Status.TheVariants.{ReadFault, WriteFault, Memory, Stack}
 
-abbrev pub number_of : Status → ℕ
-number_of Ran = 0
-number_of Event = 1
-number_of Usage = 2
-number_of Source = 3
-number_of Link = 4
-number_of Object = 5
-number_of Script = 6
-number_of Limit = 7
-number_of ReadFault = 8
-number_of WriteFault = 9
-number_of Memory = 10
-number_of Stack = 11
+abbrev pub exit_number : Status → ℕ
+exit_number Ran = 0
+exit_number Event = 1
+exit_number Usage = 2
+exit_number Source = 3
+exit_number Link = 4
+exit_number Object = 5
+exit_number Script = 6
+exit_number Limit = 7
+exit_number ReadFault = 8
+exit_number WriteFault = 9
+exit_number Memory = 10
+exit_number Stack = 11
 
 -- an argument that is no text: the program ends so before the top call
 abbrev pub NotTextHasNumber : Type 0

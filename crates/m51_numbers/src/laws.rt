@@ -3,7 +3,7 @@ ghost use Rattle.std.specs.Prelude.{◌≡◌};
 ghost use Rattle.m51_numbers.specs.Faults.{FaultsHaveNumbers};
 ghost use Rattle.m51_numbers.specs.Limits.{LimitsHaveNumbers};
 ghost use Rattle.m51_numbers.specs.Records.{RecordsHaveTypes};
-ghost use Rattle.m51_numbers.specs.Statuses.{NotTextHasNumber, number_of};
+ghost use Rattle.m51_numbers.specs.Statuses.{NotTextHasNumber, exit_number};
 
 use m51_verbs::Status;
 
@@ -32,7 +32,7 @@ pub fn records_have_types()
 ///
 /// Source: own choice ("Numbers on one page").
 pub fn status_number(status: Status) -> u8
-    ensures { result ≡ number_of status }
+    ensures { result ≡ exit_number status }
 {
     status as u8
 }

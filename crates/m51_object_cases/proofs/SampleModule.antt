@@ -1,12 +1,15 @@
 -- A module of two segments, with a public, an external and two fixups, is valid.
-use Rattle.std.proofs.Common.{◌≡◌, ◌≢◌, inr, ℕ, zero, suc, ◌+◌, ◌<◌, [], ◌∷◌, refl, sym, subst, arith, lit≤, All, AllPairs}
+use Rattle.std.proofs.Common.{◌≡◌, ◌≢◌, inr, ℕ, zero, suc, ◌+◌, ◌<◌, [], ◌∷◌, refl, sym, subst, arith, lit≤, All}
+use Rattle.std.proofs.Common.{AllPairs}
 use Rattle.m51_cells.specs.declared.kind.Base.TheVariants.{Segment as InSegment, External as OfExternal}
 use Rattle.m51_module.specs.declared.parts.ModuleParts.{ModuleParts}
 use Rattle.m51_module.specs.declared.segment.Segment.{Segment}
 use Rattle.m51_module.specs.declared.symbol.External.{External}
 use Rattle.m51_module.specs.declared.symbol.Public.{Public}
-use Rattle.m51_object_cases.specs.Sample.{field, code_segment, data_segment, byte_public, byte_external, mov_piece, sample_module}
-use Rattle.m51_module.specs.Validity.{IsValid, IsSegmentValid, IsPublicValid, IsPieceValid, IsFixupValid, IsHeld, FieldBefore, BeforeIn, Differ, LiesBefore}
+use Rattle.m51_object_cases.specs.Sample.{field, code_segment, data_segment, byte_public, byte_external, mov_piece}
+use Rattle.m51_object_cases.specs.Sample.{sample_module}
+use Rattle.m51_module.specs.Validity.{IsValid, IsSegmentValid, IsPublicValid, IsPieceValid, IsFixupValid, IsHeld}
+use Rattle.m51_module.specs.Validity.{FieldBefore, BeforeIn, Differ, LiesBefore}
 use Rattle.m51_cells.specs.Name.{IsWritten}
 use Rattle.m51_cells.proofs.Small.{all_one}
 
@@ -26,7 +29,15 @@ pairs_two R x y h (suc i) j d less below = absurd (omega (arith, less, below))
 
 -- the piece holds the bytes at 0 to 2
 held : (offset : ℕ) → offset < 3 → IsHeld sample_module.pieces 1 offset
-held offset low = record { piece = mov_piece; is = (0, omega arith, refl); same = refl; from = omega arith; below = omega (arith, low) }
+held offset low =
+    record {
+      piece = mov_piece;
+      is = (0, omega arith, refl);
+      same = refl;
+      from = omega arith;
+      below =
+          omega (arith, low);
+    }
 
 code_valid : IsSegmentValid code_segment
 code_valid = record {
@@ -54,10 +65,21 @@ public_valid : IsPublicValid sample_module.segments byte_public
 public_valid = record { name = refl; base = (data_segment, refl, refl) }
 
 piece_valid : IsPieceValid sample_module.segments mov_piece
-piece_valid = record { some = omega arith; most = omega arith; segment = code_segment; is = refl; code = refl; inside = omega arith }
+piece_valid =
+    record {
+      some = omega arith;
+      most = omega arith;
+      segment = code_segment;
+      is = refl;
+      code = refl;
+      inside =
+          omega arith;
+    }
 
-external_field : IsFixupValid sample_module.segments sample_module.externals sample_module.pieces (field 1 (OfExternal 1))
-external_field = record { bit = refl; target = (byte_external, refl); held = λ k low. held (1 + k) (omega (arith, low)) }
+external_field : IsFixupValid sample_module.segments sample_module.externals sample_module.pieces
+    (field 1 (OfExternal 1))
+external_field =
+    record { bit = refl; target = (byte_external, refl); held = λ k low. held (1 + k) (omega (arith, low)) }
 
 byte_field : IsFixupValid sample_module.segments sample_module.externals sample_module.pieces (field 2 (InSegment 2))
 byte_field = record { bit = refl; target = (data_segment, refl); held = λ k low. held (2 + k) (omega (arith, low)) }
@@ -71,14 +93,16 @@ sample_valid = record {
   few_fixups = omega arith;
   segments = all_two IsSegmentValid code_segment data_segment code_valid data_valid;
   marks = λ k d below e. refl;
-  segment_names = pairs_two (λ (s t : Segment). Differ s.name t.name) code_segment data_segment (λ named. absurd (named refl));
+  segment_names =
+      pairs_two (λ (s t : Segment). Differ s.name t.name) code_segment data_segment (λ named. absurd (named refl));
   publics = all_one (IsPublicValid sample_module.segments) byte_public public_valid;
   public_names = pairs_one (λ (p q : Public). p.name ≢ q.name) byte_public;
   externals = all_one (λ (e : External). IsWritten e.name) byte_external refl;
   external_names = pairs_one (λ (e f : External). e.name ≢ f.name) byte_external;
   pieces = all_one (IsPieceValid sample_module.segments) mov_piece piece_valid;
   piece_order = pairs_one LiesBefore mov_piece;
-  fixups = all_two (IsFixupValid sample_module.segments sample_module.externals sample_module.pieces) (field 1 (OfExternal 1)) (field 2 (InSegment 2)) external_field byte_field;
+  fixups = all_two (IsFixupValid sample_module.segments sample_module.externals sample_module.pieces)
+      (field 1 (OfExternal 1)) (field 2 (InSegment 2)) external_field byte_field;
   fixup_order = pairs_two FieldBefore (field 1 (OfExternal 1)) (field 2 (InSegment 2)) (BeforeIn refl (lit≤ tt));
   banks = refl;
   few_banks = omega arith;

@@ -5,7 +5,8 @@ use Rattle.m51_module.specs.declared.segment.Segment.{Segment}
 use Rattle.m51_module.specs.declared.symbol.External.{External}
 use Rattle.m51_module.specs.declared.symbol.Public.{Public}
 use Rattle.m51_object_cases.specs.Sample.{number_public, public_module}
-use Rattle.m51_module.specs.Validity.{IsValid, IsSegmentValid, IsPublicValid, IsPieceValid, IsFixupValid, FieldBefore, Differ, LiesBefore}
+use Rattle.m51_module.specs.Validity.{IsValid, IsSegmentValid, IsPublicValid, IsPieceValid, IsFixupValid, FieldBefore}
+use Rattle.m51_module.specs.Validity.{Differ, LiesBefore}
 use Rattle.m51_cells.proofs.Small.{all_one, pairs_none}
 use Rattle.m51_object_cases.proofs.SampleModule.{pairs_one}
 

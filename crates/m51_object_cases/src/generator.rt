@@ -2,15 +2,15 @@
 use m51_generator::generate;
 use std::alloc::Global;
 
-// The sum of the bytes, and another of their places, so that lines that change places are seen.
+// The sum of the bytes, and another of their positions, so that lines that change places are seen.
 fn sums(bytes: &[u8]) -> (u32, u32) {
     let mut sum: u32 = 0;
-    let mut places: u32 = 0;
+    let mut positions: u32 = 0;
     for byte in bytes {
         sum = sum.wrapping_add(u32::from(*byte));
-        places = places.wrapping_mul(31).wrapping_add(u32::from(*byte));
+        positions = positions.wrapping_mul(31).wrapping_add(u32::from(*byte));
     }
-    (sum, places)
+    (sum, positions)
 }
 
 // How many bytes a generated source has, and their sums; none where the units are not from 1 to 100.

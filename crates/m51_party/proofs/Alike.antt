@@ -1,17 +1,13 @@
 -- Records of a board, with frames that are the same before a cycle.
-use Rattle.std.proofs.Common.{◌≡◌, ℕ, zero, suc, ◌+◌, ◌≤◌, ◌<◌, inl, inr, List, [], ◌++◌, Option, Some, None, Result}
-use Rattle.std.proofs.Common.{Ok, Err, refl, sym, ap, subst, ◌∙◌, arith}
+use Rattle.m51_party.proofs.Common.{◌≡◌, ℕ, zero, suc, ◌+◌, ◌≤◌, ◌<◌, inl, inr, List, [], ◌++◌, Option, Some, None}
+use Rattle.m51_party.proofs.Common.{Result, Ok, Err, refl, sym, ap, subst, ◌∙◌, arith, Port, Event, LayoutParts, Frame}
+use Rattle.m51_party.proofs.Common.{Timed, Inputs, frames_in, next_cycle, with_extra, attempt_of, changed_by, Machine}
+use Rattle.m51_party.proofs.Common.{Record, State, record_from, Separate, memory_after, separate_effect}
+use Rattle.m51_party.proofs.Common.{separate_machine, separate_performs, frames_sent}
 use Rattle.std.specs.Option.{option_map}
-use Rattle.m51_cells.specs.declared.event.Entry.TheVariants.{Port}
-use Rattle.m51_cells.specs.declared.event.Event.{Event}
-use Rattle.m51_module.specs.declared.parts.LayoutParts.{LayoutParts}
-use Rattle.m51_timers_uart.specs.declared.receiving.Frame.{Frame}
-use Rattle.m51_sim.specs.declared.cycles.Timed.{Timed}
-use Rattle.m51_sim.specs.Cycles.{Inputs, cycles_passed, frames_in, next_cycle, with_extra}
-use Rattle.m51_sim.specs.Effects.{attempt_of, changed_by, passed_into, port_entry}
-use Rattle.m51_sim.specs.Runs.{Machine, Performed, Record, State, record_from, record_of}
-use Rattle.m51_sim.specs.SeparateMachine.{Separate, memory_after, separate_effect, separate_machine, separate_performs}
-use Rattle.m51_party.specs.Family.{frames_sent}
+use Rattle.m51_sim.specs.Cycles.{cycles_passed}
+use Rattle.m51_sim.specs.Effects.{passed_into, port_entry}
+use Rattle.m51_sim.specs.Runs.{Performed, record_of}
 use Rattle.m51_party.proofs.Words.{Allowed, Entries, Passing}
 use Rattle.m51_party.proofs.Frames.{From, from_append, none_before, sent_frames, step_frames, step_sent}
 use Rattle.m51_party.proofs.Ticks.{AreAlike, SameBefore, next_later, next_no_less, ticks_alike, ticks_from, ticks_go}

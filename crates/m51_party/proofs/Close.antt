@@ -1,25 +1,15 @@
 -- Boards on the line: each is at most four cycles before one that is still to be stepped.
-use Rattle.std.proofs.Common.{◌≡◌, ℕ, zero, suc, ◌+◌, ◌-◌, ◌≤◌, ◌<◌, ◌⊎◌, inl, inr, ⊎_elim, Bool, true, false, List, []}
-use Rattle.std.proofs.Common.{◌∷◌, ◌++◌, Option, Some, None, Result, Ok, Err, refl, sym, ap, subst, ◌∙◌, arith}
-use Rattle.std.proofs.Common.{append-nil}
-use Rattle.std.specs.Prelude.{◌&&◌, flat_map, option_to_list, is_none, nat_lt, if◌then◌else◌}
+use Rattle.m51_party.proofs.Common.{◌≡◌, ℕ, zero, suc, ◌+◌, ◌-◌, ◌≤◌, ◌<◌, ◌⊎◌, inl, inr, ⊎_elim, Bool, true, false}
+use Rattle.m51_party.proofs.Common.{List, [], ◌∷◌, ◌++◌, Option, Some, None, Result, Ok, Err, refl, sym, ap, subst, ◌∙◌}
+use Rattle.m51_party.proofs.Common.{arith, append-nil, flat_map, option_to_list, nat_lt, if◌then◌else◌, flat_map-append}
+use Rattle.m51_party.proofs.Common.{none-some, same_Some, Entry, Event, LayoutParts, Frame, Timed, separate_of, Inputs}
+use Rattle.m51_party.proofs.Common.{frames_in, inputs_of, with_extra, attempt_of, changed_by, Machine, Record, State}
+use Rattle.m51_party.proofs.Common.{record_from, Separate, separate_effect, separate_machine, separate_performs, Seat}
+use Rattle.m51_party.proofs.Common.{frames_of, frames_sent, machine_with, start_of, StepTold, steps_from}
+use Rattle.std.specs.Prelude.{◌&&◌, is_none}
 use Rattle.std.proofs.lemmas.Bool.{ltb-false, ltb-true}
-use Rattle.std.proofs.lemmas.Grind.{flat_map-append}
-use Rattle.std.proofs.lemmas.Option.{none-some, same_Some}
-use Rattle.m51_cells.specs.declared.event.Entry.{Entry}
-use Rattle.m51_cells.specs.declared.event.Event.{Event}
-use Rattle.m51_module.specs.declared.parts.LayoutParts.{LayoutParts}
-use Rattle.m51_timers_uart.specs.declared.receiving.Frame.{Frame}
-use Rattle.m51_sim.specs.declared.cycles.Timed.{Timed}
-use Rattle.m51_sim.specs.Boards.{separate_of}
-use Rattle.m51_sim.specs.Cycles.{Inputs, frames_in, inputs_of, with_extra}
-use Rattle.m51_sim.specs.Effects.{attempt_of, changed_by}
-use Rattle.m51_sim.specs.Runs.{Machine, Record, State, no_step, record_from, record_of}
-use Rattle.m51_sim.specs.SeparateMachine.{Separate, separate_effect, separate_machine, separate_performs}
-use Rattle.m51_party.specs.declared.seat.Seat.{Seat}
-use Rattle.m51_party.specs.Family.{frames_of, frames_sent, machine_with}
-use Rattle.m51_party.specs.Seats.{start_of}
-use Rattle.m51_party.specs.Text.{StepTold, steps_from, steps_of}
+use Rattle.m51_sim.specs.Runs.{no_step, record_of}
+use Rattle.m51_party.specs.Text.{steps_of}
 use Rattle.m51_sim.proofs.FurtherFrames.{frames_join}
 use Rattle.m51_party.proofs.Frames.{none_before}
 use Rattle.m51_party.proofs.Ticks.{ticks_go, top}

@@ -1,13 +1,12 @@
 -- The last lines, one after another.
-use Rattle.std.proofs.Common.{◌≡◌, ℕ, suc, ◌+◌, ◌<◌, List, ◌++◌, length, get_or, drop, Option, sym, ap, subst, ◌∙◌}
-use Rattle.std.proofs.Common.{append_assoc, add-one}
-use Rattle.std.specs.Io.KnownBytes.{Appends}
+use Rattle.m51_party.proofs.Common.{◌≡◌, ℕ, suc, ◌+◌, ◌<◌, List, ◌++◌, length, drop, Option, sym, ap, subst, ◌∙◌}
+use Rattle.m51_party.proofs.Common.{append_assoc, Appends, AppendsFront, Seat, ends_text, front_at_end}
+use Rattle.std.proofs.Common.{get_or}
+use Rattle.std.proofs.Common.{add-one}
 use Rattle.std.proofs.KnownBytes.{Appends-trans}
 use Rattle.std.proofs.lemmas.List.{drop_more}
-use Rattle.m51_cells.specs.Outside.{AppendsFront}
-use Rattle.m51_party.specs.declared.seat.Seat.{Seat}
-use Rattle.m51_party.specs.Seats.{end_text, ends_text}
-use Rattle.m51_cells.proofs.Fronts.{front_at_end, front_more}
+use Rattle.m51_party.specs.Seats.{end_text}
+use Rattle.m51_cells.proofs.Fronts.{front_more}
 
 -- those of the first boards are written
 pub record IsEnding (before now : Option (List ℕ)) (index : ℕ) (seats : List Seat) : Type 0 where

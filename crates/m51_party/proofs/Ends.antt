@@ -1,18 +1,15 @@
 -- The start and the end of a run of the boards on a line.
-use Rattle.std.proofs.Common.{◌≡◌, ℕ, zero, suc, ◌+◌, ◌-◌, ◌≤◌, List, [], ◌∷◌, ◌++◌, length, map, refl, sym, ap, subst}
-use Rattle.std.proofs.Common.{◌∙◌, arith, append_assoc}
-use Rattle.std.specs.Prelude.{All, flat_map, is_some, ◌||◌}
+use Rattle.m51_party.proofs.Common.{◌≡◌, ℕ, zero, suc, ◌+◌, ◌-◌, ◌≤◌, List, [], ◌∷◌, ◌++◌, length, refl, sym, ap, subst}
+use Rattle.m51_party.proofs.Common.{◌∙◌, arith, append_assoc, All, flat_map, BoardState, separate_of, Record, State}
+use Rattle.m51_party.proofs.Common.{Separate, Seat, Family, IsFamily, IsFresh, frames_for, machine_with, records_from}
+use Rattle.m51_party.proofs.Common.{HasEventText, ends_text, new_seat, head_text, greatest_cycle, front_of, last_lines}
+use Rattle.std.proofs.Common.{map}
+use Rattle.std.specs.Prelude.{is_some, ◌||◌}
 use Rattle.std.specs.List.{list_any}
 use Rattle.std.proofs.lemmas.List.Elements.{All-cons, All-head, All-tail}
 use Rattle.m51_print.specs.Lines.{last_line, titles_of}
-use Rattle.m51_sim.specs.Boards.{BoardState, separate_of}
-use Rattle.m51_sim.specs.Runs.{Record, State}
-use Rattle.m51_sim.specs.SeparateMachine.{Separate}
-use Rattle.m51_party.specs.declared.seat.Seat.{Seat}
-use Rattle.m51_party.specs.Family.{Family, IsFamily, IsFresh, frames_for, machine_with, records_from}
-use Rattle.m51_party.specs.Seats.{HasEventText, ends_text, new_seat}
-use Rattle.m51_party.specs.Steps.{head_text}
-use Rattle.m51_party.specs.Text.{end_of, front_of, last_lines, lines_at, lines_before, lines_of, party_text, steps_of}
+use Rattle.m51_party.specs.Text.{lines_at, lines_before, lines_of, party_text}
+use Rattle.m51_party.specs.Text.{steps_of}
 use Rattle.m51_party.proofs.Merging.{at_cycle, before}
 use Rattle.m51_party.proofs.Merging as merging
 use Rattle.m51_party.proofs.NextBoard.{NoneStarts}
@@ -68,9 +65,9 @@ pub text_start : (n : ℕ) (family : Family) (bs : List BoardState)
     → party_text bs n family ≡ head_text (length bs) ++ text_to_come n family (map new_seat bs)
 unfolding party_text
 text_start n family bs =
-    append_assoc (head_text (length bs)) (lines_before (end_of family + 1) bs n family) (last_lines 0 bs family)
+    append_assoc (head_text (length bs)) (lines_before (greatest_cycle family + 1) bs n family) (last_lines 0 bs family)
     ∙ ap (λ (text : List ℕ). head_text (length bs) ++ text)
-    (both_texts _ _ _ _ (before_same (end_of family + 1) n family bs)
+    (both_texts _ _ _ _ (before_same (greatest_cycle family + 1) n family bs)
     (ap (λ (all : List BoardState). last_lines 0 all family) (boards_same bs)))
 
 -- at the end only the last lines are to come
@@ -89,7 +86,7 @@ pub text_end : (n : ℕ) (family : Family) (ss : List Seat) → n ≤ 10000000 �
     → text_to_come n family ss ≡ ends_text 0 ss
 text_end n family ss few going none =
     let over = merging.all_over start_in step_text (rests_from 0 n family ss)
-    (all_over 0 n family family ss few going.all none) (end_of family + 1) in
+    (all_over 0 n family family ss few going.all none) (greatest_cycle family + 1) in
     λ i. over i ++ last_same 0 n family family ss few going.all none i
 
 -- and a record has an event where its board was stopped

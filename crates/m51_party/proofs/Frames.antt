@@ -1,19 +1,14 @@
 -- The frames of a cycle, in lists that come after one another.
-use Rattle.std.proofs.Common.{◌≡◌, ℕ, ◌+◌, ◌≤◌, ◌<◌, Bool, true, false, List, [], ◌∷◌, ◌++◌, Option, Some, None, refl}
-use Rattle.std.proofs.Common.{sym, ap, ◌∙◌, arith}
-use Rattle.std.specs.Prelude.{◌==◌, if◌then◌else◌, flat_map, option_to_list}
-use Rattle.std.proofs.lemmas.Bool.{ne_eqb}
-use Rattle.std.proofs.lemmas.Grind.{flat_map-append}
-use Rattle.m51_cells.specs.declared.event.Entry.{Entry}
+use Rattle.m51_party.proofs.Common.{◌≡◌, ℕ, ◌+◌, ◌≤◌, ◌<◌, Bool, true, false, List, [], ◌∷◌, ◌++◌, Option, Some, None}
+use Rattle.m51_party.proofs.Common.{refl, sym, ap, ◌∙◌, arith, ◌==◌, if◌then◌else◌, flat_map, option_to_list, ne_eqb}
+use Rattle.m51_party.proofs.Common.{flat_map-append, Entry, Frame, Timed, frames_in, sent_in, Record, entries_of}
+use Rattle.m51_party.proofs.Common.{frames_of, frames_sent}
 use Rattle.m51_cells.specs.declared.event.Entry.TheVariants.{Sent as SentByte}
 use Rattle.m51_timers_uart.specs.declared.periph.Sent.{Sent}
-use Rattle.m51_timers_uart.specs.declared.receiving.Frame.{Frame}
-use Rattle.m51_sim.specs.declared.cycles.Timed.{Timed}
 use Rattle.m51_party.proofs.Words.{Entries}
 use Rattle.m51_sim.proofs.FurtherFrames.{frames_join}
-use Rattle.m51_sim.specs.Cycles.{first_sent, frames_in, sent_in}
-use Rattle.m51_sim.specs.Runs.{Record, entries_of, with_step}
-use Rattle.m51_party.specs.Family.{frames_of, frames_sent}
+use Rattle.m51_sim.specs.Cycles.{first_sent}
+use Rattle.m51_sim.specs.Runs.{with_step}
 
 pub joined_same : (cycle : ℕ) (a b c d : List Timed) → frames_in cycle a ≡ frames_in cycle c
     → frames_in cycle b ≡ frames_in cycle d → frames_in cycle (a ++ b) ≡ frames_in cycle (c ++ d)

@@ -1,18 +1,12 @@
 -- What is written, one piece after another, where the last write may have failed.
-use Rattle.std.proofs.Common.{◌≡◌, ℕ, ◌+◌, ◌≤◌, ◌<◌, List, [], ◌∷◌, ◌++◌, Option, Some, Result, Ok, Err, ap, ◌∙◌, arith}
-use Rattle.std.proofs.Common.{append-nil}
-use Rattle.std.specs.Prelude.{OnErr, codes}
-use Rattle.std.specs.Io.KnownBytes.{Appends}
+use Rattle.m51_party.proofs.Common.{◌≡◌, ℕ, ◌+◌, ◌≤◌, ◌<◌, List, [], ◌∷◌, ◌++◌, Option, Some, Result, Ok, Err, ap, ◌∙◌}
+use Rattle.m51_party.proofs.Common.{arith, append-nil, OnErr, Appends, front_at_end, AppendsFront, Entry, entry_line}
+use Rattle.m51_party.proofs.Common.{head_text, front_of}
+use Rattle.std.specs.Prelude.{codes}
 use Rattle.std.proofs.lemmas.Fmt.{decimal_digit}
-use Rattle.m51_cells.proofs.Fronts.{front_at_end}
-use Rattle.m51_cells.specs.Outside.{AppendsFront}
-use Rattle.m51_cells.specs.declared.event.Entry.{Entry}
-use Rattle.m51_print.specs.Lines.{entry_line}
 use Rattle.m51_shelf.specs.Writing.{StopsWithin}
 use Rattle.m51_sim.proofs.Tellings.{front_of_stop}
 use Rattle.m51_party.specs.Seats.{entry_text}
-use Rattle.m51_party.specs.Steps.{head_text}
-use Rattle.m51_party.specs.Text.{front_of}
 
 -- the same of what a call answers
 pub stop_front : {T E : Type 0} (r : Result T E) (a b : Option (List ℕ)) (xs : List ℕ) → OnErr r (StopsWithin a b xs)

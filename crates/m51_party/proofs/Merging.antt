@@ -1,8 +1,9 @@
 -- Lists of steps, one for each board: the lines by the cycle in which their step starts, when one step is taken first.
-use Rattle.std.proofs.Common.{◌≡◌, ◌≢◌, ℕ, zero, suc, ◌+◌, ◌≤◌, ◌<◌, ⊎_elim, Bool, true, false, List, [], ◌∷◌, ◌++◌}
-use Rattle.std.proofs.Common.{refl, sym, ap, subst, ◌∙◌, arith, append_assoc, zero-add}
-use Rattle.std.specs.Prelude.{◌==◌, if◌then◌else◌, flat_map}
-use Rattle.std.proofs.lemmas.Bool.{cases_lt, eq-eqb, ne_eqb}
+use Rattle.m51_party.proofs.Common.{◌≡◌, ℕ, zero, suc, ◌+◌, ◌≤◌, ◌<◌, ⊎_elim, Bool, true, false, List, [], ◌∷◌, ◌++◌}
+use Rattle.m51_party.proofs.Common.{refl, sym, ap, subst, ◌∙◌, arith, append_assoc, zero-add, ◌==◌, if◌then◌else◌}
+use Rattle.m51_party.proofs.Common.{flat_map, ne_eqb}
+use Rattle.std.proofs.Common.{◌≢◌}
+use Rattle.std.proofs.lemmas.Bool.{cases_lt, eq-eqb}
 
 chosen : (b : Bool) (xs : List ℕ) → b ≡ true → (if b then xs else []) ≡ xs
 chosen true xs e = refl

@@ -1,12 +1,9 @@
 -- The board that is stepped next: it starts before those with a lower number, and no later than the others.
-use Rattle.std.proofs.Common.{◌≡◌, ℕ, zero, suc, ◌+◌, ◌≤◌, Bool, true, false, List, [], ◌∷◌, Option, Some, None, refl}
-use Rattle.std.proofs.Common.{sym, subst, arith}
-use Rattle.std.specs.Prelude.{nat_lt, if◌then◌else◌}
+use Rattle.m51_party.proofs.Common.{◌≡◌, ℕ, zero, suc, ◌+◌, ◌≤◌, Bool, true, false, List, [], ◌∷◌, Option, Some, None}
+use Rattle.m51_party.proofs.Common.{refl, sym, subst, arith, nat_lt, if◌then◌else◌, same_Some, NextStep, Seat}
+use Rattle.m51_party.proofs.Common.{next_from, start_of}
 use Rattle.std.proofs.lemmas.Bool.{ltb-true, ltb-false}
-use Rattle.std.proofs.lemmas.Option.{same_Some}
-use Rattle.m51_party.specs.declared.choosing.NextStep.{NextStep}
-use Rattle.m51_party.specs.declared.seat.Seat.{Seat}
-use Rattle.m51_party.specs.Seats.{next_from, sooner, start_of}
+use Rattle.m51_party.specs.Seats.{sooner}
 
 -- a start that comes no earlier, if there is one
 abbrev pub StartsFrom : ℕ → Option ℕ → Type 0

@@ -1,18 +1,14 @@
 -- All boards on the line: what one passes to another, and what is still to come.
-use Rattle.std.proofs.Common.{◌≡◌, ℕ, zero, suc, ◌+◌, ◌≤◌, ◌<◌, Bool, true, false, List, [], ◌∷◌, ◌++◌, length, Option}
-use Rattle.std.proofs.Common.{Some, None, refl, sym, ap, subst, ◌∙◌, arith, length-append, zero-add}
-use Rattle.std.specs.Prelude.{◌==◌, flat_map, option_to_list, slice_get, slice_index_or, slice_set, if◌then◌else◌}
-use Rattle.std.proofs.lemmas.Bool.{eq-eqb, ne_eqb}
-use Rattle.std.proofs.lemmas.Option.{none-some, same_Some}
-use Rattle.m51_timers_uart.specs.declared.receiving.Frame.{Frame}
-use Rattle.m51_sim.specs.declared.cycles.Timed.{Timed}
-use Rattle.m51_sim.specs.Cycles.{AreFew, frames_in}
-use Rattle.m51_sim.specs.Runs.{Record}
-use Rattle.m51_sim.specs.SeparateMachine.{Separate}
-use Rattle.m51_party.specs.declared.seat.Seat.{Seat}
-use Rattle.m51_party.specs.Family.{Family, frames_for, frames_sent}
-use Rattle.m51_party.specs.Seats.{kept_for, kept_from, sent_to, start_of}
-use Rattle.m51_party.specs.Text.{StepTold, end_of}
+use Rattle.m51_party.proofs.Common.{◌≡◌, ℕ, zero, suc, ◌+◌, ◌≤◌, ◌<◌, Bool, true, false, List, [], ◌∷◌, ◌++◌, length}
+use Rattle.m51_party.proofs.Common.{Option, Some, None, refl, sym, ap, subst, ◌∙◌, arith, zero-add, ◌==◌, flat_map}
+use Rattle.m51_party.proofs.Common.{option_to_list, slice_get, slice_set, if◌then◌else◌, ne_eqb, none-some, same_Some}
+use Rattle.m51_party.proofs.Common.{Frame, Timed, frames_in, Record, Separate, Seat, Family, frames_for, frames_sent}
+use Rattle.m51_party.proofs.Common.{kept_for, start_of, StepTold, greatest_cycle}
+use Rattle.std.proofs.Common.{length-append}
+use Rattle.std.specs.Prelude.{slice_index_or}
+use Rattle.std.proofs.lemmas.Bool.{eq-eqb}
+use Rattle.m51_sim.specs.Cycles.{AreFew}
+use Rattle.m51_party.specs.Seats.{kept_from, sent_to}
 use Rattle.m51_party.proofs.Frames.{joined_same}
 use Rattle.m51_party.proofs.Merging.{AllEmpty, AllFrom, Takes}
 use Rattle.m51_party.proofs.NextBoard.{AllStartFrom, IsNextAt, NoneStarts, StartsFrom}
@@ -173,7 +169,7 @@ all_over at n family (r ∷ rs) (s ∷ ss) few h c =
 pub record HasBoard (at n : ℕ) (family rs : Family) (index number : ℕ) (ss : List Seat) (s : Seat) : Type 0 where
   pub record_is : Record Separate
   pub way : IsUnderWay (frames_for number family) n record_is s
-  pub within : record_is.last.cycle ≤ end_of rs
+  pub within : record_is.last.cycle ≤ greatest_cycle rs
   pub set : (new : Seat) → IsUnderWay (frames_for number family) n record_is new
       → AllUnderWay at n family rs (slice_set ss index new)
 
@@ -241,12 +237,12 @@ pub takes : (at n index number cycle : ℕ) (family rs : Family) (ss : List Seat
     (rests_from at n family (slice_set ss index new))
 takes at n index number cycle family rs [] old new step few is e found h first from = absurd e
 takes at n index number cycle family [] (x ∷ xs) old new step few is e found h first from = absurd h
-takes at n zero number cycle family (r ∷ rs) (x ∷ xs) old new step few is e found h first from =
+takes at n zero number cycle family (r ∷ rs) (x ∷ xs) old new one few is e found h first from =
     let here : number ≡ at = omega (arith, is) in
     let same : old ≡ x = sym (same_Some x old found) in
-    let moved = subst (λ (s : Seat). rest_of n (frames_for at family) s ≡ step ∷ rest_of n (frames_for at family) new)
+    let moved = subst (λ (s : Seat). rest_of n (frames_for at family) s ≡ one ∷ rest_of n (frames_for at family) new)
     same
-    (subst (λ (k : ℕ). rest_of n (frames_for k family) old ≡ step ∷ rest_of n (frames_for k family) new) here first) in (
+    (subst (λ (k : ℕ). rest_of n (frames_for k family) old ≡ one ∷ rest_of n (frames_for k family) new) here first) in (
       moved,
       refl,
       subst (λ (k : ℕ). StepsFrom cycle (rest_of n (frames_for k family) new)) here from,

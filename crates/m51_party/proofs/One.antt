@@ -1,12 +1,9 @@
 -- There is exactly one family.
-use Rattle.std.proofs.Common.{◌≡◌, ℕ, zero, suc, ◌^◌, ◌≤◌, ◌<◌, List, [], ◌∷◌, refl, sym, ap, subst, ◌∙◌, arith}
-use Rattle.std.specs.Prelude.{flat_map, All}
+use Rattle.m51_party.proofs.Common.{◌≡◌, ℕ, zero, suc, ◌^◌, ◌≤◌, ◌<◌, List, [], ◌∷◌, refl, sym, ap, subst, ◌∙◌, arith}
+use Rattle.m51_party.proofs.Common.{flat_map, All, BoardState, separate_of, frames_in, inputs_of, Record, State}
+use Rattle.m51_party.proofs.Common.{Separate, Family, IsFamily, IsFresh, frames_for, frames_sent, record_with}
+use Rattle.m51_party.proofs.Common.{records_from}
 use Rattle.std.proofs.lemmas.List.Elements.{All-head, All-tail}
-use Rattle.m51_sim.specs.Boards.{BoardState, separate_of}
-use Rattle.m51_sim.specs.Cycles.{frames_in, inputs_of}
-use Rattle.m51_sim.specs.Runs.{Record, State}
-use Rattle.m51_sim.specs.SeparateMachine.{Separate}
-use Rattle.m51_party.specs.Family.{Family, IsFamily, IsFresh, frames_for, frames_sent, record_with, records_from}
 use Rattle.m51_party.specs.Laws.{ExactlyOneFamily, IsOnlyFamily}
 use Rattle.m51_party.specs.Rounds.{family_after, family_of}
 use Rattle.m51_party.proofs.Frames.{joined_same}

@@ -1,25 +1,20 @@
 -- The loop of a run: what is written so far, and how much is still to do.
-use Rattle.std.proofs.Common.{◌≡◌, ℕ, zero, suc, ◌+◌, ◌-◌, ◌≤◌, ◌<◌, Bool, true, false, List, [], ◌∷◌, ◌++◌, length}
-use Rattle.std.proofs.Common.{Option, Some, None, Result, Ok, Err, refl, sym, ap, subst, ◌∙◌, arith, append_assoc}
-use Rattle.std.specs.Prelude.{All, OnErr, is_none, nat_lt, ◌&&◌, slice_get, slice_set, if◌then◌else◌}
-use Rattle.std.specs.Io.KnownBytes.{Appends}
+use Rattle.m51_party.proofs.Common.{◌≡◌, ℕ, zero, suc, ◌+◌, ◌-◌, ◌≤◌, ◌<◌, Bool, true, false, List, [], ◌∷◌, ◌++◌}
+use Rattle.m51_party.proofs.Common.{length, Option, Some, None, Result, Ok, Err, refl, sym, ap, subst, ◌∙◌, arith}
+use Rattle.m51_party.proofs.Common.{append_assoc, All, OnErr, nat_lt, slice_get, slice_set, if◌then◌else◌, Appends}
+use Rattle.m51_party.proofs.Common.{none-some, same_Some, AppendsFront, Event, Told, BoardState, NextStep, Seat, Family}
+use Rattle.m51_party.proofs.Common.{IsFamily, HasEventText, ends_text, new_seat, next_from, told_text, head_text}
+use Rattle.m51_party.proofs.Common.{front_at_end}
+use Rattle.std.specs.Prelude.{is_none, ◌&&◌}
 use Rattle.std.proofs.KnownBytes.{Appends-nil, Appends-trans}
 use Rattle.std.proofs.lemmas.Bool.{lt-ltb}
 use Rattle.std.proofs.lemmas.List.{length-map}
-use Rattle.std.proofs.lemmas.Option.{none-some, same_Some}
-use Rattle.m51_cells.specs.Outside.{AppendsFront}
-use Rattle.m51_cells.specs.declared.event.Event.{Event}
 use Rattle.m51_sim.specs.declared.runs.Step.{Step}
 use Rattle.m51_sim.specs.declared.runs.Step.TheVariants.{Done, Stopped}
-use Rattle.m51_sim.specs.declared.runs.Told.{Told}
-use Rattle.m51_sim.specs.Boards.{BoardState}
 use Rattle.m51_sim.specs.Run.{stopped_by}
-use Rattle.m51_party.specs.declared.choosing.NextStep.{NextStep}
-use Rattle.m51_party.specs.declared.seat.Seat.{Seat}
-use Rattle.m51_party.specs.Family.{Family, IsFamily}
 use Rattle.m51_party.specs.Report.{IsPartyOf}
-use Rattle.m51_party.specs.Seats.{HasEventText, IsStepAt, count_of, ends_text, is_going, new_seat, next_from, told_text}
-use Rattle.m51_party.specs.Steps.{AllCut, AllFront, AllStepped, head_text}
+use Rattle.m51_party.specs.Seats.{IsStepAt, count_of, is_going}
+use Rattle.m51_party.specs.Steps.{AllCut, AllFront, AllStepped}
 use Rattle.m51_party.specs.Text.{party_text}
 use Rattle.m51_party.proofs.One.{exactly_one}
 use Rattle.m51_party.proofs.NextBoard.{IsNextAt, next_found, none_found}
@@ -27,7 +22,7 @@ use Rattle.m51_party.proofs.Close.{starting}
 use Rattle.m51_party.proofs.OnTheLine.{next_starts}
 use Rattle.m51_party.proofs.Runs.{AreGoing, advances, text_to_come}
 use Rattle.m51_party.proofs.Ends.{events_end, going_start, text_end, text_start, texts_end}
-use Rattle.m51_cells.proofs.Fronts.{front_at_end, front_more}
+use Rattle.m51_cells.proofs.Fronts.{front_more}
 
 -- the lines so far are written, and the others are to come
 pub record InProgress (n : ℕ) (family : Family) (olds : List Seat) (before now : Option (List ℕ))

@@ -1,24 +1,15 @@
 -- A run of the boards on a line: what is written, and what is still to be written.
-use Rattle.std.proofs.Common.{◌≡◌, ℕ, zero, suc, ◌+◌, ◌≤◌, ◌<◌, ◌⊎◌, inl, inr, Bool, true, false, List, [], ◌∷◌, ◌++◌}
-use Rattle.std.proofs.Common.{Some, None, Result, Ok, Err, refl, sym, ap, subst, ◌∙◌, arith, append_assoc, zero-add}
-use Rattle.std.specs.Prelude.{min, slice_get, slice_set, if◌then◌else◌}
-use Rattle.std.proofs.lemmas.Option.{same_Some}
-use Rattle.m51_cells.specs.declared.event.Event.{Event}
-use Rattle.m51_module.specs.declared.parts.LayoutParts.{LayoutParts}
+use Rattle.m51_party.proofs.Common.{◌≡◌, ℕ, zero, suc, ◌+◌, ◌≤◌, ◌<◌, ◌⊎◌, inl, inr, Bool, true, false, List, [], ◌∷◌}
+use Rattle.m51_party.proofs.Common.{◌++◌, Some, None, Result, Ok, Err, refl, sym, ap, subst, ◌∙◌, arith, append_assoc}
+use Rattle.m51_party.proofs.Common.{zero-add, min, slice_get, slice_set, if◌then◌else◌, same_Some, Event, LayoutParts}
+use Rattle.m51_party.proofs.Common.{Told, BoardState, separate_of, Inputs, inputs_of, attempt_of, changed_by, State}
+use Rattle.m51_party.proofs.Common.{Separate, separate_effect, separate_machine, separate_performs, NextStep, Seat}
+use Rattle.m51_party.proofs.Common.{Family, frames_for, machine_with, IsSeatStep, kept_for, next_from, start_of}
+use Rattle.m51_party.proofs.Common.{told_text, greatest_cycle, front_of, last_lines}
 use Rattle.m51_print.specs.Lines.{last_line, titles_of}
-use Rattle.m51_sim.specs.declared.runs.Told.{Told}
-use Rattle.m51_sim.specs.Boards.{BoardState, separate_of}
-use Rattle.m51_sim.specs.Cycles.{Inputs, inputs_of}
-use Rattle.m51_sim.specs.Effects.{attempt_of, changed_by}
-use Rattle.m51_sim.specs.Runs.{State}
-use Rattle.m51_sim.specs.SeparateMachine.{Separate, separate_effect, separate_machine, separate_performs}
 use Rattle.m51_sim.specs.StepLaws.{IsShort}
 use Rattle.m51_sim.proofs.StepCycles.{steps_short}
-use Rattle.m51_party.specs.declared.choosing.NextStep.{NextStep}
-use Rattle.m51_party.specs.declared.seat.Seat.{Seat}
-use Rattle.m51_party.specs.Family.{Family, frames_for, machine_with}
-use Rattle.m51_party.specs.Seats.{IsSeatStep, IsStepAt, is_going, kept_for, next_from, start_of, told_text}
-use Rattle.m51_party.specs.Text.{end_of, front_of, last_lines}
+use Rattle.m51_party.specs.Seats.{IsStepAt, is_going}
 use Rattle.m51_party.proofs.Words.{Allowed}
 use Rattle.m51_party.proofs.Merging.{before, first_taken}
 use Rattle.m51_party.proofs.Alike.{done_by}
@@ -37,7 +28,7 @@ boards_of (s ∷ ss) = s.board ∷ boards_of ss
 
 -- the lines of the steps that are still to come, and the last lines
 abbrev pub lines_to_come : ℕ → Family → List Seat → List ℕ
-lines_to_come n family ss = before start_in step_text (end_of family + 1) (rests_from 0 n family ss)
+lines_to_come n family ss = before start_in step_text (greatest_cycle family + 1) (rests_from 0 n family ss)
 
 abbrev pub text_to_come : ℕ → Family → List Seat → List ℕ
 text_to_come n family ss = lines_to_come n family ss ++ last_lines 0 (boards_of ss) family
@@ -160,7 +151,7 @@ module _ (n : ℕ) (family : Family) (seats : List Seat) (few : n ≤ 10000000) 
       ∙ append_assoc (told_text c.index told) (lines_to_come n family (slice_set seats c.index new))
       (last_lines 0 (boards_of (slice_set seats c.index new)) family)
 
-  within : c.cycle < end_of family + 1
+  within : c.cycle < greatest_cycle family + 1
   within = omega (
     arith,
     at.cycle_is,
@@ -175,14 +166,14 @@ module _ (n : ℕ) (family : Family) (seats : List Seat) (few : n ≤ 10000000) 
       (rest_of n (frames_for c.index family) new)
       → lines_to_come n family seats ≡ told_text c.index told ++ lines_to_come n family (slice_set seats c.index new)
   lines_by (inl t) =
-      first_taken start_in step_text c.index c.cycle (end_of family + 1) t.step (rests_from 0 n family seats)
+      first_taken start_in step_text c.index c.cycle (greatest_cycle family + 1) t.step (rests_from 0 n family seats)
       (rests_from 0 n family (slice_set seats c.index new)) (t.start ∙ at.cycle_is)
       (takes 0 n c.index c.index c.cycle family family seats old new t.step few (sym (zero-add c.index)) next found
       going.all t.first
       (rest_late n few (frames_for c.index family) board.record_is new moved.way c.cycle starts)) within
       ∙ ap (λ (text : List ℕ). text ++ lines_to_come n family (slice_set seats c.index new)) (sym t.lines)
   lines_by (inr t) =
-      ap (before start_in step_text (end_of family + 1))
+      ap (before start_in step_text (greatest_cycle family + 1))
       (takes_none 0 n c.index c.index family seats old new (sym (zero-add c.index)) found t.same)
       ∙ ap (λ (text : List ℕ). text ++ lines_to_come n family (slice_set seats c.index new)) (sym t.lines)
 

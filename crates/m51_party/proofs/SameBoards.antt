@@ -1,18 +1,15 @@
 -- Boards of which contracts see the same make the same records and the same text.
-use Rattle.std.proofs.Common.{◌≡◌, ◌+◌, ℕ, suc, zero, List, [], ◌∷◌, ◌++◌, length, map, refl, sym, ap, subst, ◌∙◌}
-use Rattle.std.specs.Prelude.{All, flat_map}
-use Rattle.m51_module.specs.declared.parts.LayoutParts.{LayoutParts}
+use Rattle.m51_party.proofs.Common.{◌≡◌, ◌+◌, ℕ, suc, zero, List, [], ◌∷◌, ◌++◌, length, refl, sym, ap, subst, ◌∙◌, All}
+use Rattle.m51_party.proofs.Common.{flat_map, LayoutParts, Timed, BoardState, separate_of, inputs_of, with_extra}
+use Rattle.m51_party.proofs.Common.{Record, State, Separate, separate_machine, Seat, new_seat, Family, IsFamily}
+use Rattle.m51_party.proofs.Common.{IsFresh, frames_for, machine_with, record_with, records_from, StepTold}
+use Rattle.m51_party.proofs.Common.{greatest_cycle, front_of, last_lines}
+use Rattle.std.proofs.Common.{map}
 use Rattle.m51_script.specs.declared.script.Script.{Script}
-use Rattle.m51_sim.specs.declared.cycles.Timed.{Timed}
-use Rattle.m51_sim.specs.Boards.{BoardState, separate_of}
-use Rattle.m51_sim.specs.Cycles.{inputs_of, with_extra}
-use Rattle.m51_sim.specs.Runs.{Record, State, record_of}
-use Rattle.m51_sim.specs.SeparateMachine.{Separate, separate_machine}
-use Rattle.m51_party.specs.declared.seat.Seat.{Seat}
+use Rattle.m51_sim.specs.Runs.{record_of}
 use Rattle.m51_party.specs.Report.{IsPartyOf, boards_of}
-use Rattle.m51_party.specs.Seats.{new_seat}
-use Rattle.m51_party.specs.Family.{Family, IsFamily, IsFresh, frames_for, machine_with, record_with, records_from}
-use Rattle.m51_party.specs.Text.{StepTold, end_of, front_of, last_lines, lines_at, lines_before, lines_of, party_text}
+use Rattle.m51_party.specs.Text.{lines_at, lines_before, lines_of}
+use Rattle.m51_party.specs.Text.{party_text}
 use Rattle.m51_party.specs.Text.{steps_of}
 use Rattle.m51_party.proofs.One.{only_family}
 
@@ -98,7 +95,8 @@ pub text_alike : (bs cs : List BoardState) (n : ℕ) (family : Family) → AllAl
     → party_text bs n family ≡ party_text cs n family
 unfolding party_text
 text_alike bs cs n family h =
-    rw (count_alike bs cs h, before_alike (end_of family + 1) bs cs n family h, last_alike 0 bs cs family h) refl
+    rw (count_alike bs cs h, before_alike (greatest_cycle family + 1) bs cs n family h, last_alike 0 bs cs family h)
+    refl
 
 -- and there is one family for both
 pub family_alike : (bs cs : List BoardState) (n : ℕ) (one other : Family) → AllAlike bs cs → All IsFresh cs

@@ -1,10 +1,11 @@
 -- The bytes with a ninth bit that a board sends, one after another: only the last one may still be on the line.
-use Rattle.std.proofs.Common.{◌≡◌, ◌≢◌, ℕ, zero, suc, ◌+◌, ◌^◌, ◌-◌, ◌≤◌, ◌<◌, Bool, List, [], ◌∷◌, ◌++◌, Option, Some}
-use Rattle.std.proofs.Common.{None, refl, ap, subst, ◌∙◌, arith, append-nil}
-use Rattle.std.specs.Prelude.{◌==◌, IsSome, IfSome, option_to_list, min}
-use Rattle.std.proofs.lemmas.Bool.{ne_eqb}
-use Rattle.m51_cells.specs.declared.event.Entry.{Entry}
-use Rattle.m51_cells.specs.declared.event.Entry.TheVariants.{Port, Sent as SentByte}
+use Rattle.m51_party.proofs.Common.{◌≡◌, ℕ, zero, suc, ◌+◌, ◌^◌, ◌-◌, ◌≤◌, ◌<◌, Bool, List, [], ◌∷◌, ◌++◌, Option, Some}
+use Rattle.m51_party.proofs.Common.{None, refl, ap, subst, ◌∙◌, arith, append-nil, ◌==◌, option_to_list, min, ne_eqb}
+use Rattle.m51_party.proofs.Common.{Entry, Port, ticked, Timed, Inputs, frames_in, next_cycle, sent_in, changed_by}
+use Rattle.m51_party.proofs.Common.{frames_of}
+use Rattle.std.proofs.Common.{◌≢◌}
+use Rattle.std.specs.Prelude.{IsSome, IfSome}
+use Rattle.m51_cells.specs.declared.event.Entry.TheVariants.{Sent as SentByte}
 use Rattle.m51_flat.specs.declared.state.Cpu.{Cpu}
 use Rattle.m51_flat.specs.declared.state.Effect.{Effect}
 use Rattle.m51_flat.specs.Sfr.{flag, scon}
@@ -13,12 +14,8 @@ use Rattle.m51_timers_uart.specs.declared.periph.Periph.{Periph}
 use Rattle.m51_timers_uart.specs.declared.periph.Sent.{Sent}
 use Rattle.m51_timers_uart.specs.Sending.{begun, serial_mode}
 use Rattle.m51_timers_uart.specs.LineLaws.{written_to}
-use Rattle.m51_timers_uart.specs.Tick.{ticked}
 use Rattle.m51_timers_uart.proofs.Lines.{one_bit_passes, ninth_ten}
-use Rattle.m51_sim.specs.declared.cycles.Timed.{Timed}
-use Rattle.m51_sim.specs.Cycles.{Inputs, cycle_passed, cycles_passed, first_sent, frames_in, next_cycle, sent_in}
-use Rattle.m51_sim.specs.Effects.{changed_by}
-use Rattle.m51_party.specs.Family.{frames_of}
+use Rattle.m51_sim.specs.Cycles.{cycle_passed, cycles_passed, first_sent}
 use Rattle.m51_party.specs.Seats.{last_sent}
 use Rattle.m51_party.proofs.Words.{Passing}
 use Rattle.m51_party.proofs.Frames.{passed_over, sent_frames}

@@ -1,17 +1,12 @@
 -- The steps of a run are those of its record.
-use Rattle.std.proofs.Common.{ℕ, zero, suc, ◌≤◌, List, [], ◌++◌, Result, Ok, Err, refl, ap, arith}
-use Rattle.std.specs.Prelude.{All}
+use Rattle.m51_party.proofs.Common.{ℕ, zero, suc, ◌≤◌, List, [], ◌++◌, Result, Ok, Err, refl, ap, arith, All, Event}
+use Rattle.m51_party.proofs.Common.{Entry, LayoutParts, separate_of, Inputs, inputs_of, with_extra, attempt_of}
+use Rattle.m51_party.proofs.Common.{changed_by, State, entries_of, record_from, Separate, separate_effect}
+use Rattle.m51_party.proofs.Common.{separate_machine, separate_performs, StepTold, steps_from}
 use Rattle.std.proofs.lemmas.List.Elements.{All-cons}
-use Rattle.m51_cells.specs.declared.event.Event.{Event}
-use Rattle.m51_cells.specs.declared.event.Entry.{Entry}
-use Rattle.m51_module.specs.declared.parts.LayoutParts.{LayoutParts}
-use Rattle.m51_sim.specs.Boards.{separate_of}
-use Rattle.m51_sim.specs.Cycles.{Inputs, inputs_of, with_extra}
-use Rattle.m51_sim.specs.Effects.{attempt_of, changed_by}
-use Rattle.m51_sim.specs.Runs.{State, entries_of, record_from, record_of}
-use Rattle.m51_sim.specs.SeparateMachine.{Separate, separate_effect, separate_machine, separate_performs}
+use Rattle.m51_sim.specs.Runs.{record_of}
 use Rattle.m51_party.specs.Laws.{AreItsSteps, StepsMakeRecords}
-use Rattle.m51_party.specs.Text.{StepTold, steps_from, steps_of}
+use Rattle.m51_party.specs.Text.{steps_of}
 use Rattle.m51_party.proofs.Words.{Allowed}
 use Rattle.m51_party.proofs.Ticks.{ticks_go, top}
 use Rattle.m51_party.proofs.Alike.{done_by}

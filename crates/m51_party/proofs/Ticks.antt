@@ -1,13 +1,10 @@
 -- The cycles of a step, with frames that are the same before a cycle.
-use Rattle.std.proofs.Common.{◌≡◌, ℕ, zero, suc, ◌+◌, ◌-◌, ◌^◌, ◌≤◌, ◌<◌, ◌⊎◌, inl, inr, ⊎_elim, List, ◌++◌, refl, sym}
-use Rattle.std.proofs.Common.{ap, subst, ◌∙◌, arith}
+use Rattle.m51_party.proofs.Common.{◌≡◌, ℕ, zero, suc, ◌+◌, ◌-◌, ◌^◌, ◌≤◌, ◌<◌, ◌⊎◌, inl, inr, ⊎_elim, List, ◌++◌, refl}
+use Rattle.m51_party.proofs.Common.{sym, ap, subst, ◌∙◌, arith, Frame, ticked, Timed, Inputs, frames_in, next_cycle}
+use Rattle.m51_party.proofs.Common.{sent_in, with_extra}
 use Rattle.std.proofs.lemmas.Bool.{cases_lt}
-use Rattle.m51_timers_uart.specs.declared.receiving.Frame.{Frame}
-use Rattle.m51_timers_uart.specs.Tick.{ticked}
 use Rattle.m51_party.proofs.Words.{Passing}
-use Rattle.m51_sim.specs.declared.cycles.Timed.{Timed}
-use Rattle.m51_sim.specs.Cycles.{Inputs, after_tick, cycle_passed, cycles_passed, frames_in, next_cycle, sent_in}
-use Rattle.m51_sim.specs.Cycles.{with_extra}
+use Rattle.m51_sim.specs.Cycles.{after_tick, cycle_passed, cycles_passed}
 use Rattle.m51_sim.proofs.StepCycles.{one_counts}
 use Rattle.m51_party.proofs.Frames.{From, first_from, first_same, sent_frames, sent_from}
 

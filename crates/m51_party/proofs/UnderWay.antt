@@ -1,28 +1,20 @@
 -- A board that has performed some steps of its record.
-use Rattle.std.proofs.Common.{◌≡◌, ℕ, suc, ◌+◌, ◌-◌, ◌*◌, ◌≤◌, ◌<◌, ◌⊎◌, inl, inr, List, [], ◌∷◌, ◌++◌, length, Option}
-use Rattle.std.proofs.Common.{Some, None, Result, Ok, Err, refl, sym, ap, subst, ◌∙◌, arith, append_assoc, zero-add}
-use Rattle.std.specs.Prelude.{flat_map, option_to_list, min}
+use Rattle.m51_party.proofs.Common.{◌≡◌, ℕ, suc, ◌+◌, ◌-◌, ◌≤◌, ◌<◌, ◌⊎◌, inl, inr, List, [], ◌∷◌, ◌++◌, length, Option}
+use Rattle.m51_party.proofs.Common.{Some, None, Result, Ok, Err, refl, sym, ap, subst, ◌∙◌, arith, append_assoc}
+use Rattle.m51_party.proofs.Common.{zero-add, flat_map, option_to_list, min, flat_map-append, same_Some, Entry, Port}
+use Rattle.m51_party.proofs.Common.{Event, LayoutParts, entry_line, Timed, Told, BoardState, separate_of, Inputs}
+use Rattle.m51_party.proofs.Common.{inputs_of, with_extra, attempt_of, changed_by, Machine, Record, State, entries_of}
+use Rattle.m51_party.proofs.Common.{record_from, Separate, separate_effect, separate_machine, separate_performs, Seat}
+use Rattle.m51_party.proofs.Common.{IsFresh, frames_of, machine_with, record_with, HasEventText, IsSeatStep, new_seat}
+use Rattle.m51_party.proofs.Common.{told_text, StepTold, front_of, steps_from}
+use Rattle.std.proofs.Common.{◌*◌}
 use Rattle.std.specs.Option.{ForSome, option_map}
-use Rattle.std.proofs.lemmas.Grind.{flat_map-append}
-use Rattle.std.proofs.lemmas.Option.{same_Some}
-use Rattle.m51_cells.specs.declared.event.Entry.{Entry}
-use Rattle.m51_cells.specs.declared.event.Entry.TheVariants.{Port}
-use Rattle.m51_cells.specs.declared.event.Event.{Event}
-use Rattle.m51_module.specs.declared.parts.LayoutParts.{LayoutParts}
-use Rattle.m51_print.specs.Lines.{HasText, entry_line}
+use Rattle.m51_print.specs.Lines.{HasText}
 use Rattle.m51_timers_uart.specs.declared.periph.Periph.{Periph}
-use Rattle.m51_sim.specs.declared.cycles.Timed.{Timed}
-use Rattle.m51_sim.specs.declared.runs.Told.{Told}
-use Rattle.m51_sim.specs.Boards.{BoardState, separate_of}
-use Rattle.m51_sim.specs.Cycles.{Inputs, inputs_of, with_extra}
-use Rattle.m51_sim.specs.Effects.{attempt_of, changed_by}
 use Rattle.m51_sim.specs.Run.{IsToldStep, stopped_by, told_by}
-use Rattle.m51_sim.specs.Runs.{Machine, Performed, Record, State, entries_of, record_from, record_of, with_step}
-use Rattle.m51_sim.specs.SeparateMachine.{Separate, separate_effect, separate_machine, separate_performs}
-use Rattle.m51_party.specs.declared.seat.Seat.{Seat}
-use Rattle.m51_party.specs.Family.{IsFresh, frames_of, machine_with, record_with}
-use Rattle.m51_party.specs.Seats.{HasEventText, IsSeatStep, count_of, last_sent, new_seat, told_text}
-use Rattle.m51_party.specs.Text.{StepTold, front_of, steps_from, steps_of}
+use Rattle.m51_sim.specs.Runs.{Performed, record_of, with_step}
+use Rattle.m51_party.specs.Seats.{count_of, last_sent}
+use Rattle.m51_party.specs.Text.{steps_of}
 use Rattle.m51_party.proofs.Words.{Allowed, Entries}
 use Rattle.m51_party.proofs.Frames.{sent_frames}
 use Rattle.m51_party.proofs.Ticks.{top}

@@ -1,15 +1,10 @@
 -- A step with frames that are the same in its cycles.
-use Rattle.std.proofs.Common.{◌≡◌, ℕ, zero, suc, ◌+◌, ◌≤◌, ◌<◌, List, ◌++◌, Result, Ok, Err, refl, ap, ◌∙◌, arith}
-use Rattle.std.specs.Prelude.{min}
-use Rattle.m51_cells.specs.declared.event.Event.{Event}
-use Rattle.m51_module.specs.declared.parts.LayoutParts.{LayoutParts}
-use Rattle.m51_timers_uart.specs.declared.receiving.Frame.{Frame}
-use Rattle.m51_timers_uart.specs.Tick.{ticked}
-use Rattle.m51_sim.specs.declared.cycles.Timed.{Timed}
-use Rattle.m51_sim.specs.Cycles.{Inputs, after_tick, cycle_passed, cycles_passed, frames_in, next_cycle, with_extra}
-use Rattle.m51_sim.specs.Effects.{attempt_of, changed_by, passed_into, port_entry}
-use Rattle.m51_sim.specs.Runs.{State}
-use Rattle.m51_sim.specs.SeparateMachine.{Separate, memory_after, separate_effect, separate_machine, separate_performs}
+use Rattle.m51_party.proofs.Common.{◌≡◌, ℕ, zero, suc, ◌+◌, ◌≤◌, ◌<◌, List, ◌++◌, Result, Ok, Err, refl, ap, ◌∙◌, arith}
+use Rattle.m51_party.proofs.Common.{min, Event, LayoutParts, Frame, ticked, Timed, Inputs, frames_in, next_cycle}
+use Rattle.m51_party.proofs.Common.{with_extra, attempt_of, changed_by, State, Separate, memory_after, separate_effect}
+use Rattle.m51_party.proofs.Common.{separate_machine, separate_performs}
+use Rattle.m51_sim.specs.Cycles.{after_tick, cycle_passed, cycles_passed}
+use Rattle.m51_sim.specs.Effects.{passed_into, port_entry}
 use Rattle.m51_sim.proofs.StepCycles.{one_counts}
 use Rattle.m51_party.proofs.Words.{Allowed, Passing}
 use Rattle.m51_party.proofs.Ticks.{top}

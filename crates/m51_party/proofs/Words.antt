@@ -1,7 +1,5 @@
 -- Types of values of a step, by the definitions that take or give them.
-use Rattle.m51_sim.specs.Effects.{changed_by}
-use Rattle.m51_sim.specs.Runs.{entries_of}
-use Rattle.m51_sim.specs.SeparateMachine.{memory_after}
+use Rattle.m51_party.proofs.Common.{changed_by, entries_of, memory_after}
 use Rattle.m51_sim.proofs.TakenTypes.{taken_by}
 
 abbrev third_of : {A B C D : Type 0} → (A → B → C → D) → Type 0

@@ -48,7 +48,7 @@ AllCut olds n before after =
     → AreCut boards n family before after
 
 -- the whole text is written, and whether some board was stopped is whether some record has an event
-pub record IsWritten
+pub record IsPartyWritten
     (boards : List BoardState) (n : ℕ) (family : Family) (before after : Option (List ℕ)) (seats : List Seat)
     : Type 0 where
   pub text : Appends before after (party_text boards n family)
@@ -57,7 +57,7 @@ pub record IsWritten
 abbrev pub AllWritten : List Seat → ℕ → Option (List ℕ) → Option (List ℕ) → List Seat → Type 0
 AllWritten olds n before after news =
     (boards : List BoardState) (family : Family) → IsPartyOf boards olds → IsFamily boards n family
-    → IsWritten boards n family before after news
+    → IsPartyWritten boards n family before after news
 
 abbrev pub AllFront : List Seat → ℕ → Option (List ℕ) → Option (List ℕ) → Type 0
 AllFront olds n before after =

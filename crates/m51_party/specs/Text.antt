@@ -54,14 +54,14 @@ last_lines index (b ∷ bs) (r ∷ rs) =
 last_lines index boards family = []
 
 -- the greatest number of a last cycle; no step starts after it
-abbrev pub end_of : Family → ℕ
-end_of [] = 0
-end_of (r ∷ rs) = max r.last.cycle (end_of rs)
+abbrev pub greatest_cycle : Family → ℕ
+greatest_cycle [] = 0
+greatest_cycle (r ∷ rs) = max r.last.cycle (greatest_cycle rs)
 
 -- How many boards there are; the lines of entries by the cycle in which their step started, then by board; and the
 -- last lines.
 unfoldable pub party_text : List BoardState → ℕ → Family → List ℕ
 party_text boards n family =
     codes "PARTY " ++ decimal (length boards) ++ codes "\n"
-    ++ lines_before (end_of family + 1) boards n family
+    ++ lines_before (greatest_cycle family + 1) boards n family
     ++ last_lines 0 boards family

@@ -1,35 +1,25 @@
 -- Owners of joined segments and their conflict, decided.
-use Rattle.std.proofs.Common.{◌≡◌, ◌≢◌, ◌⊎◌, inl, inr, ℕ, zero, suc, ◌<◌, true, false, Bool, cond, not, ◌&&◌, ◌||◌, nat_eq, List, [], ◌∷◌, length, map, filter, Option, Some, None, refl, sym, ap, subst, ◌∙◌, arith}
-use Rattle.std.specs.Prelude.{slice_get}
-use Rattle.std.specs.Option.{option_map_or}
-use Rattle.std.specs.Bool.{Decides}
-use Rattle.std.specs.List.{Contains, list_any, range_with_len}
-use Rattle.std.proofs.lemmas.Bool.{cases_Bool, false≢true}
-use Rattle.std.proofs.lemmas.Bool.Decides.{Decides-eqb, same_from_decides}
-use Rattle.std.proofs.lemmas.List.Elements.{All-contains, filter_passes}
-use Rattle.std.proofs.lemmas.List.Folds.{Any-from_list_any, list_any_at}
+use Rattle.m51_place.proofs.Common.{◌≡◌, ◌≢◌, ◌⊎◌, inl, inr, ℕ, zero, suc, ◌<◌, true, false, Bool, cond, not, ◌&&◌}
+use Rattle.m51_place.proofs.Common.{◌||◌, nat_eq, List, [], ◌∷◌, length, map, filter, Option, Some, None, refl, sym, ap}
+use Rattle.m51_place.proofs.Common.{subst, ◌∙◌, arith, slice_get, option_map_or, Decides, Contains, list_any}
+use Rattle.m51_place.proofs.Common.{range_with_len, cases_Bool, false≢true, Decides-eqb, same_from_decides}
+use Rattle.m51_place.proofs.Common.{All-contains, list_any_at, Space, Extent, AreRelated, Same, Before, After}
+use Rattle.m51_place.proofs.Common.{FirstUnderNone, SecondUnderNone, UnderTwo, FirstPlain, SecondPlain, Owners}
+use Rattle.m51_place.proofs.Common.{extent_at, vectors, HasEdge, Reaches, contains_behind, first_or_behind}
+use Rattle.m51_place.proofs.Common.{none_in_empty, GraphParts, edge_test, IsArgument, IsOwn, Owns, SegmentsConflict}
+use Rattle.m51_place.proofs.Common.{UnitLiesUnder, joined_graph, leads, and_decides, above_tells, Numbered, same_space}
+use Rattle.m51_place.proofs.Common.{are_owners_related, in_conflict, is_argument_at, owners_at, owners_with, own_at}
+use Rattle.m51_place.proofs.Common.{conflicting, in_conflict_with, extents_in}
+use Rattle.std.proofs.lemmas.List.Elements.{filter_passes}
+use Rattle.std.proofs.lemmas.List.Folds.{Any-from_list_any}
 use Rattle.std.proofs.lemmas.List.FromFn.{get_or-range_with_len, length-range_with_len}
-use Rattle.m51_cells.specs.declared.cell.Space.{Space}
-use Rattle.m51_cells.specs.declared.extent.Extent.{Extent}
 use Rattle.m51_cells.proofs.ListsAndOptions.{filter_keeps}
-use Rattle.m51_module.specs.Conflict.{AreRelated, Same, Before, After, FirstUnderNone, SecondUnderNone, UnderTwo, FirstPlain, SecondPlain, Owners}
-use Rattle.m51_module.specs.Cells.{extent_at}
-use Rattle.m51_module.specs.Roots.{vectors}
-use Rattle.m51_module.specs.Walks.{HasEdge, Reaches}
-use Rattle.m51_module.proofs.Owning.{contains_behind, first_or_behind, none_in_empty}
-use Rattle.m51_graph.specs.declared.parts.GraphParts.{GraphParts}
-use Rattle.m51_graph.specs.Drawing.{edge_test}
-use Rattle.m51_graph.specs.Graph.{AreOfUnits, IsArgument, IsOverlaid, IsOwn, Owns, SegmentsConflict, UnitLiesUnder, joined_graph}
-use Rattle.m51_graph.specs.Leading.{leads}
+use Rattle.m51_graph.specs.Graph.{AreOfUnits, IsOverlaid}
 use Rattle.m51_graph.proofs.Closed.{edge_tells}
-use Rattle.m51_graph.proofs.Deciding.{and_decides, leads_tells, or_decides}
-use Rattle.m51_graph.proofs.Relations.{above_tells}
-use Rattle.m51_place.specs.declared.numbered.Numbered.{Numbered}
-use Rattle.m51_bases.specs.Raising.{same_space}
-use Rattle.m51_place.specs.Conflicts.{are_apart, are_on_walk, are_owners_related, are_related, are_under_two, callers_of, in_conflict, is_argument_at, is_under, is_under_none, owners_at, owners_with}
-use Rattle.m51_place.specs.Order.{own_at}
-use Rattle.m51_place.specs.Placement.{conflicting, in_conflict_with}
-use Rattle.m51_place.specs.InTheWay.{extents_in, in_the_way}
+use Rattle.m51_graph.proofs.Deciding.{leads_tells, or_decides}
+use Rattle.m51_place.specs.Conflicts.{are_apart, are_on_walk, are_related, are_under_two}
+use Rattle.m51_place.specs.Conflicts.{callers_of, is_under, is_under_none}
+use Rattle.m51_place.specs.InTheWay.{in_the_way}
 
 -- some item passes the test
 pub record Passes (xs : List ℕ) (p : ℕ → Bool) : Type 0 where
@@ -52,12 +42,14 @@ in_range count x below =
     (x, omega (arith, below, length-range_with_len 0 count), get_or-range_with_len 0 count x x below ∙ omega arith)
 
 -- where a number is read
-own_found : (own : List (Option ℕ)) (number unit : ℕ) → option_map_or (λ (o : Option ℕ). o) (slice_get own number) None ≡ Some unit → slice_get own number ≡ Some (Some unit)
+own_found : (own : List (Option ℕ)) (number unit : ℕ) → option_map_or (λ (o : Option ℕ). o) (slice_get own number) None
+    ≡ Some unit → slice_get own number ≡ Some (Some unit)
 own_found [] number unit h = absurd (cc h)
 own_found (o ∷ more) zero unit h = ap (λ (x : Option ℕ). Some x) h
 own_found (o ∷ more) (suc number) unit h = own_found more number unit h
 
-mark_found : (marks : List Bool) (number : ℕ) → option_map_or (λ (b : Bool). b) (slice_get marks number) false ≡ true → slice_get marks number ≡ Some true
+mark_found : (marks : List Bool) (number : ℕ) → option_map_or (λ (b : Bool). b) (slice_get marks number) false ≡ true
+    → slice_get marks number ≡ Some true
 mark_found [] number h = absurd (false≢true h)
 mark_found (b ∷ more) zero h = ap (λ (x : Bool). Some x) h
 mark_found (b ∷ more) (suc number) h = mark_found more number h
@@ -83,28 +75,40 @@ module _ (g : GraphParts) where
   unfolding callers_of
   caller_edge unit caller h =
       (edge_tells g.edges caller unit).0
-      (All-contains (λ c. edge_test g.edges c unit ≡ true) (filter (λ c. edge_test g.edges c unit) (range_with_len 0 (length g.units))) caller
+      (All-contains (λ c. edge_test g.edges c unit ≡ true)
+      (filter (λ c. edge_test g.edges c unit) (range_with_len 0 (length g.units))) caller
       (filter_passes (λ c. edge_test g.edges c unit) (range_with_len 0 (length g.units))) h)
 
-  pub caller_there : AreOfUnits g → (unit caller : ℕ) → HasEdge g.edges caller unit → Contains (callers_of g unit) caller
+  pub caller_there : AreOfUnits g → (unit caller : ℕ) → HasEdge g.edges caller unit
+      → Contains (callers_of g unit) caller
   unfolding callers_of
   caller_there units unit caller e =
       filter_keeps (λ c. edge_test g.edges c unit) (range_with_len 0 (length g.units)) caller
       (in_range (length g.units) caller (units.edges.within caller unit e).0) ((edge_tells g.edges caller unit).1 e)
 
   -- the owners are those that own
-  listed_owns : (s u own : ℕ) (argument : Bool) → own_at g s ≡ Some own → is_argument_at g s ≡ argument → Contains (owners_with g argument (Some own)) u → Owns g u s
-  listed_owns s u own argument is marked h = elim (first_or_behind own (cond argument (callers_of g own) []) u h) as (λ _. Owns g u s) [
-    | inl same ↦ record { own = own; own_is = own_is s own is; owner = inl (sym same) }
-    | inr behind ↦ elim (cases_Bool argument) as (λ _. Owns g u s) [
-      | inl marks ↦
-          let caller : Contains (callers_of g own) u = subst (λ (b : Bool). Contains (cond b (callers_of g own) []) u) marks behind in
-          record { own = own; own_is = own_is s own is; owner = inr (argument_is s (marked ∙ marks), caller_edge own u caller) }
-      | inr bare ↦ absurd (none_in_empty u (subst (λ (b : Bool). Contains (cond b (callers_of g own) []) u) bare behind))
-    ]
-  ]
+  listed_owns : (s u own : ℕ) (argument : Bool) → own_at g s ≡ Some own → is_argument_at g s ≡ argument
+      → Contains (owners_with g argument (Some own)) u → Owns g u s
+  listed_owns s u own argument is marked h =
+      elim (first_or_behind own (cond argument (callers_of g own) []) u h) as (λ _. Owns g u s) [
+        | inl same ↦ record { own = own; own_is = own_is s own is; owner = inl (sym same) }
+        | inr behind ↦ elim (cases_Bool argument) as (λ _. Owns g u s) [
+          | inl marks ↦
+              let caller : Contains (callers_of g own) u =
+              subst (λ (b : Bool). Contains (cond b (callers_of g own) []) u) marks behind in
+              record {
+                own = own;
+                own_is = own_is s own is;
+                owner =
+                    inr (argument_is s (marked ∙ marks), caller_edge own u caller);
+              }
+          | inr bare ↦ absurd
+              (none_in_empty u (subst (λ (b : Bool). Contains (cond b (callers_of g own) []) u) bare behind))
+        ]
+      ]
 
-  from_listed : (s u : ℕ) (own : Option ℕ) → own_at g s ≡ own → Contains (owners_with g (is_argument_at g s) own) u → Owns g u s
+  from_listed : (s u : ℕ) (own : Option ℕ) → own_at g s ≡ own → Contains (owners_with g (is_argument_at g s) own) u
+      → Owns g u s
   from_listed s u None is h = absurd (none_in_empty u h)
   from_listed s u (Some own) is h = listed_owns s u own (is_argument_at g s) is refl h
 
@@ -134,8 +138,11 @@ module _ (g : GraphParts) where
     none_tells : (unit : ℕ) → Decides (is_under_none g unit) (UnderNone unit)
     unfolding is_under_none
     none_tells unit =
-        let none = not_decides (list_any (λ vector. is_under g vector unit) vectors) (passes_tell vectors (λ vector. is_under g vector unit)) in (
-          λ h vector lies. none.0 h (record { x = vector; there = at_vector vector unit lies; passes = (above_tells g vector unit).1 lies }),
+        let none =
+        not_decides (list_any (λ vector. is_under g vector unit) vectors)
+        (passes_tell vectors (λ vector. is_under g vector unit)) in (
+          λ h vector lies. none.0 h
+              (record { x = vector; there = at_vector vector unit lies; passes = (above_tells g vector unit).1 lies }),
           λ h. none.1 (λ some. h some.x ((above_tells g some.x unit).0 some.passes)),
         )
 
@@ -149,7 +156,9 @@ module _ (g : GraphParts) where
     differ_tells : (x y : ℕ) → Decides (not (nat_eq x y)) (x ≢ y)
     differ_tells x y = not_decides (nat_eq x y) (Decides-eqb x y)
 
-    pair_tells : (one two x y : ℕ) → Decides (not (nat_eq x y) && (is_under g x one && is_under g y two)) ((x ≢ y) × (UnitLiesUnder g x one × UnitLiesUnder g y two))
+    pair_tells : (one two x y : ℕ)
+        → Decides (not (nat_eq x y) && (is_under g x one && is_under g y two))
+        ((x ≢ y) × (UnitLiesUnder g x one × UnitLiesUnder g y two))
     pair_tells one two x y =
         and_decides (not (nat_eq x y)) (is_under g x one && is_under g y two) (differ_tells x y)
         (and_decides (is_under g x one) (is_under g y two) (above_tells g x one) (above_tells g y two))
@@ -165,8 +174,11 @@ module _ (g : GraphParts) where
               record { x = a.x; y = b.x; differ = told.0; first = told.1.0; second = told.1.1 },
           λ h.
               let last = (pair_tells one two h.x h.y).1 (h.differ, (h.first, h.second)) in
-              let row = (passes_tell vectors (inner h.x)).1 (record { x = h.y; there = at_vector h.y two h.second; passes = last }) in
-              (passes_tell vectors (λ x. list_any (inner x) vectors)).1 (record { x = h.x; there = at_vector h.x one h.first; passes = row }),
+              let row =
+              (passes_tell vectors (inner h.x)).1
+              (record { x = h.y; there = at_vector h.y two h.second; passes = last }) in
+              (passes_tell vectors (λ x. list_any (inner x) vectors)).1
+              (record { x = h.x; there = at_vector h.x one h.first; passes = row }),
         )
 
     abbrev OnWalk : ℕ → ℕ → Type 0
@@ -178,7 +190,8 @@ module _ (g : GraphParts) where
     walk_tells : (one two : ℕ) → Decides (are_on_walk g one two) (OnWalk one two)
     walk_tells one two =
         or_decides (nat_eq one two) (leads g.edges one two || leads g.edges two one) (Decides-eqb one two)
-        (or_decides (leads g.edges one two) (leads g.edges two one) (leads_tells g.edges one two) (leads_tells g.edges two one))
+        (or_decides (leads g.edges one two) (leads g.edges two one) (leads_tells g.edges one two)
+        (leads_tells g.edges two one))
 
     apart_tells : (one two : ℕ) → Decides (are_apart g one two) (Apart one two)
     apart_tells one two =
@@ -191,7 +204,8 @@ module _ (g : GraphParts) where
     sides one two (inl (inr (inr after))) = After after
     sides one two (inr (inl none)) = FirstUnderNone none
     sides one two (inr (inr (inl none))) = SecondUnderNone none
-    sides one two (inr (inr (inr two_roots))) = UnderTwo two_roots.x two_roots.y two_roots.differ two_roots.first two_roots.second
+    sides one two (inr (inr (inr two_roots))) =
+        UnderTwo two_roots.x two_roots.y two_roots.differ two_roots.first two_roots.second
 
     from_sides : (one two : ℕ) → AreRelated (joined_graph g) one two → OnWalk one two ⊎ Apart one two
     from_sides one two (Same same) = inl (inl same)
@@ -199,23 +213,28 @@ module _ (g : GraphParts) where
     from_sides one two (After after) = inl (inr (inr after))
     from_sides one two (FirstUnderNone none) = inr (inl none)
     from_sides one two (SecondUnderNone none) = inr (inr (inl none))
-    from_sides one two (UnderTwo x y differ h k) = inr (inr (inr (record { x = x; y = y; differ = differ; first = h; second = k })))
+    from_sides one two (UnderTwo x y differ h k) =
+        inr (inr (inr (record { x = x; y = y; differ = differ; first = h; second = k })))
 
     related_tells : (one two : ℕ) → Decides (are_related g one two) (AreRelated (joined_graph g) one two)
     unfolding are_related
     related_tells one two =
-        let told = or_decides (are_on_walk g one two) (are_apart g one two) (walk_tells one two) (apart_tells one two) in
+        let told =
+        or_decides (are_on_walk g one two) (are_apart g one two) (walk_tells one two) (apart_tells one two) in
         (λ h. sides one two (told.0 h), λ h. told.1 (from_sides one two h))
 
     -- segments with these owners
-    owners_of_two : (s t : ℕ) (ones twos : List ℕ) → owners_at g s ≡ ones → owners_at g t ≡ twos → list_any (λ x. list_any (are_related g x) twos) ones ≡ true → SegmentsConflict g s t
+    owners_of_two : (s t : ℕ) (ones twos : List ℕ) → owners_at g s ≡ ones → owners_at g t ≡ twos
+        → list_any (λ x. list_any (are_related g x) twos) ones ≡ true → SegmentsConflict g s t
     owners_of_two s t ones twos p q h =
         let a = (passes_tell ones (λ x. list_any (are_related g x) twos)).0 h in
         let b = (passes_tell twos (are_related g a.x)).0 a.passes in
         Owners a.x b.x (owner_owns s a.x (subst (λ (us : List ℕ). Contains us a.x) (sym p) a.there))
-        (owner_owns t b.x (subst (λ (us : List ℕ). Contains us b.x) (sym q) b.there)) ((related_tells a.x b.x).0 b.passes)
+        (owner_owns t b.x (subst (λ (us : List ℕ). Contains us b.x) (sym q) b.there))
+        ((related_tells a.x b.x).0 b.passes)
 
-    of_owners : (s t one two : ℕ) (ones twos : List ℕ) → owners_at g s ≡ ones → owners_at g t ≡ twos → Owns g one s → Owns g two t → AreRelated (joined_graph g) one two
+    of_owners : (s t one two : ℕ) (ones twos : List ℕ) → owners_at g s ≡ ones → owners_at g t ≡ twos → Owns g one s
+        → Owns g two t → AreRelated (joined_graph g) one two
         → list_any (λ x. list_any (are_related g x) twos) ones ≡ true
     of_owners s t one two ones twos p q o o' related =
         let row = (passes_tell twos (are_related g one)).1 (record {
@@ -229,18 +248,21 @@ module _ (g : GraphParts) where
           passes = row;
         })
 
-    has_none : (s : ℕ) (own : Option ℕ) → own_at g s ≡ own → owners_with g (is_argument_at g s) own ≡ [] → IsOverlaid g s → ⊥
+    has_none : (s : ℕ) (own : Option ℕ) → own_at g s ≡ own → owners_with g (is_argument_at g s) own ≡ []
+        → IsOverlaid g s → ⊥
     has_none s None is h o = not_owned s is o
     has_none s (Some own) is h o = absurd (cc h)
 
     no_owner : (s : ℕ) → owners_at g s ≡ [] → IsOverlaid g s → ⊥
     no_owner s h o = has_none s (own_at g s) refl h o
 
-    is_overlaid : (s u : ℕ) (us : List ℕ) (own : Option ℕ) → own_at g s ≡ own → owners_with g (is_argument_at g s) own ≡ u ∷ us → IsOverlaid g s
+    is_overlaid : (s u : ℕ) (us : List ℕ) (own : Option ℕ) → own_at g s ≡ own → owners_with g (is_argument_at g s) own
+        ≡ u ∷ us → IsOverlaid g s
     is_overlaid s u us None is h = absurd (cc h)
     is_overlaid s u us (Some own) is h = (own, own_is s own is)
 
-    owners_tell : (s t : ℕ) (ones twos : List ℕ) → owners_at g s ≡ ones → owners_at g t ≡ twos → Decides (are_owners_related g ones twos) (SegmentsConflict g s t)
+    owners_tell : (s t : ℕ) (ones twos : List ℕ) → owners_at g s ≡ ones → owners_at g t ≡ twos
+        → Decides (are_owners_related g ones twos) (SegmentsConflict g s t)
     owners_tell s t [] twos p q = (λ _. FirstPlain (no_owner s p), λ _. refl)
     owners_tell s t (one ∷ ones) [] p q = (λ _. SecondPlain (no_owner t q), λ _. refl)
     owners_tell s t (one ∷ ones) (two ∷ twos) p q = (
@@ -252,38 +274,53 @@ module _ (g : GraphParts) where
       ],
     )
 
-    pub segments_tell : (s t : ℕ) → Decides (are_owners_related g (owners_at g s) (owners_at g t)) (SegmentsConflict g s t)
+    pub segments_tell : (s t : ℕ)
+        → Decides (are_owners_related g (owners_at g s) (owners_at g t)) (SegmentsConflict g s t)
     segments_tell s t = owners_tell s t (owners_at g s) (owners_at g t) refl refl
 
     pub conflict_tells : (s t : ℕ) → s ≢ t → Decides (in_conflict g s t) (SegmentsConflict g s t)
     conflict_tells s t differ =
-        let told = and_decides (not (nat_eq s t)) (are_owners_related g (owners_at g s) (owners_at g t)) (differ_tells s t) (segments_tell s t) in
+        let told =
+        and_decides (not (nat_eq s t)) (are_owners_related g (owners_at g s) (owners_at g t)) (differ_tells s t)
+        (segments_tell s t) in
         (λ h. (told.0 h).1, λ h. told.1 (differ, h))
 
     pub conflict_is : (s t : ℕ) (r : Bool) → s ≢ t → Decides r (SegmentsConflict g s t) → r ≡ in_conflict g s t
     conflict_is s t r differ h = same_from_decides r (in_conflict g s t) h (conflict_tells s t differ)
 
 -- the extents of a memory in conflict with a segment are those in conflict that lie in it
-pub in_the_way_is : (g : GraphParts) (number : ℕ) (space : Space) (es : List Numbered) → in_the_way g number space es ≡ extents_in space (conflicting g number es)
+pub in_the_way_is : (g : GraphParts) (number : ℕ) (space : Space) (es : List Numbered) → in_the_way g number space es
+    ≡ extents_in space (conflicting g number es)
 in_the_way_is g number space [] = refl
 in_the_way_is g number space (e ∷ more) =
     let cells : Extent = extent_at e.placed in
     let rest : List Extent = extents_in space (conflicting g number more) in
     let here : Bool = same_space cells.space space in
-    ap (λ (es : List Extent). cond (here && in_conflict_with g number e) (cells ∷ es) es) (in_the_way_is g number space more)
-    ∙ elim (cases_Bool (in_conflict_with g number e)) as (λ _. cond (here && in_conflict_with g number e) (cells ∷ rest) rest ≡ extents_in space (conflicting g number (e ∷ more))) [
+    ap (λ (es : List Extent). cond (here && in_conflict_with g number e) (cells ∷ es) es)
+    (in_the_way_is g number space more)
+    ∙ elim (cases_Bool (in_conflict_with g number e)) as
+    (λ _. cond (here && in_conflict_with g number e) (cells ∷ rest) rest
+    ≡ extents_in space (conflicting g number (e ∷ more))) [
       | inl against ↦
           ap (λ (b : Bool). cond (here && b) (cells ∷ rest) rest) against
           ∙ (elim (cases_Bool here) as (λ _. cond (here && true) (cells ∷ rest) rest ≡ cond here (cells ∷ rest) rest) [
-            | inl h ↦ ap (λ (b : Bool). cond (b && true) (cells ∷ rest) rest) h ∙ sym (ap (λ (b : Bool). cond b (cells ∷ rest) rest) h)
-            | inr h ↦ ap (λ (b : Bool). cond (b && true) (cells ∷ rest) rest) h ∙ sym (ap (λ (b : Bool). cond b (cells ∷ rest) rest) h)
+            | inl h ↦ ap (λ (b : Bool). cond (b && true) (cells ∷ rest) rest) h
+                ∙ sym (ap (λ (b : Bool). cond b (cells ∷ rest) rest) h)
+            | inr h ↦ ap (λ (b : Bool). cond (b && true) (cells ∷ rest) rest) h
+                ∙ sym (ap (λ (b : Bool). cond b (cells ∷ rest) rest) h)
           ])
-          ∙ sym (ap (λ (b : Bool). extents_in space (map (λ (x : Numbered). x.placed) (cond b (e ∷ filter (in_conflict_with g number) more) (filter (in_conflict_with g number) more)))) against)
+          ∙ sym (ap
+          (λ (b : Bool). extents_in space
+          (map (λ (x : Numbered). x.placed)
+          (cond b (e ∷ filter (in_conflict_with g number) more) (filter (in_conflict_with g number) more)))) against)
       | inr free ↦
           ap (λ (b : Bool). cond (here && b) (cells ∷ rest) rest) free
           ∙ (elim (cases_Bool here) as (λ _. cond (here && false) (cells ∷ rest) rest ≡ rest) [
             | inl h ↦ ap (λ (b : Bool). cond (b && false) (cells ∷ rest) rest) h
             | inr h ↦ ap (λ (b : Bool). cond (b && false) (cells ∷ rest) rest) h
           ])
-          ∙ sym (ap (λ (b : Bool). extents_in space (map (λ (x : Numbered). x.placed) (cond b (e ∷ filter (in_conflict_with g number) more) (filter (in_conflict_with g number) more)))) free)
+          ∙ sym (ap
+          (λ (b : Bool). extents_in space
+          (map (λ (x : Numbered). x.placed)
+          (cond b (e ∷ filter (in_conflict_with g number) more) (filter (in_conflict_with g number) more)))) free)
     ]

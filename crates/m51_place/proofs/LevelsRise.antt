@@ -1,9 +1,9 @@
 -- Levels rise along walks.
-use Rattle.std.proofs.Common.{◌≡◌, inl, inr, ℕ, zero, suc, ◌+◌, ◌-◌, ◌<◌, ◌≤◌, false, Bool, not, List, [], ◌∷◌, Option, Some, None, unwrap_or, refl, sym, subst, ◌∙◌, arith}
-use Rattle.std.specs.Prelude.{find}
-use Rattle.std.specs.List.{range_with_len}
-use Rattle.std.proofs.lemmas.Bool.{cases_lt, false≢true, not-false, not-true}
-use Rattle.m51_module.specs.Walks.{Edges, HasEdge, IsWalk, last_of, Reaches}
+use Rattle.m51_place.proofs.Common.{◌≡◌, inl, inr, ℕ, zero, suc, ◌+◌, ◌-◌, ◌<◌, ◌≤◌, false, Bool, not, List, [], ◌∷◌}
+use Rattle.m51_place.proofs.Common.{Option, Some, None, unwrap_or, refl, sym, subst, ◌∙◌, arith, find, range_with_len}
+use Rattle.m51_place.proofs.Common.{cases_lt, false≢true, not-true, Edges, HasEdge, IsWalk, Reaches}
+use Rattle.std.proofs.lemmas.Bool.{not-false}
+use Rattle.m51_module.specs.Walks.{last_of}
 use Rattle.m51_graph.specs.Levels.{EndsWalk, ends_walk, level_of}
 use Rattle.m51_graph.proofs.Climbing.{ends_on}
 use Rattle.m51_graph.proofs.Walking.{ends_walk_tells, fewer}
@@ -22,9 +22,11 @@ module _ (edges : Edges) (short : (unit count : ℕ) → EndsWalk edges unit cou
 
   walk_to : (unit level : ℕ) → ((k : ℕ) → k < level → stops unit k ≡ false) → EndsWalk edges unit level
   walk_to unit zero h = record { first = unit; more = []; walk = tt; ends = refl; count_is = refl }
-  walk_to unit (suc k) h = (ends_walk_tells edges (suc k) unit).0 (not-false (ends_walk edges (suc k) unit) (h k (omega arith)))
+  walk_to unit (suc k) h =
+      (ends_walk_tells edges (suc k) unit).0 (not-false (ends_walk edges (suc k) unit) (h k (omega arith)))
 
-  level_found : (unit : ℕ) (found : Option ℕ) → find (stops unit) (range_with_len 0 65536) ≡ found → HasLevel edges unit (unwrap_or found 0)
+  level_found : (unit : ℕ) (found : Option ℕ) → find (stops unit) (range_with_len 0 65536) ≡ found
+      → HasLevel edges unit (unwrap_or found 0)
   level_found unit None h =
       let goes = none_in (stops unit) 65536 0 h 1000 (omega arith) (omega arith) in
       let long = short unit 1001 ((ends_walk_tells edges 1001 unit).0 (not-false (ends_walk edges 1001 unit) goes)) in
@@ -32,7 +34,8 @@ module _ (edges : Edges) (short : (unit count : ℕ) → EndsWalk edges unit cou
   level_found unit (Some level) h = record {
     walk = walk_to unit level (λ k less. first_in (stops unit) 65536 0 level h k (omega arith) less);
     ends = λ walk.
-        let stop = not-true (ends_walk edges (suc level) unit) (found_passes (stops unit) (range_with_len 0 65536) level h) in
+        let stop =
+        not-true (ends_walk edges (suc level) unit) (found_passes (stops unit) (range_with_len 0 65536) level h) in
         false≢true (sym stop ∙ (ends_walk_tells edges (suc level) unit).1 walk);
   }
 
@@ -41,16 +44,19 @@ module _ (edges : Edges) (short : (unit count : ℕ) → EndsWalk edges unit cou
   has_level unit = level_found unit (find (stops unit) (range_with_len 0 65536)) refl
 
   edge_rises : (u v : ℕ) → HasEdge edges u v → level_of edges u < level_of edges v
-  edge_rises u v e = elim (cases_lt (level_of edges u) (level_of edges v)) as (λ _. level_of edges u < level_of edges v) [
-    | inl less ↦ less
-    | inr not_less ↦
-        let on = ends_on edges u v (level_of edges u) (has_level u).walk e in
-        let gap : ℕ = level_of edges u - level_of edges v in
-        let split : level_of edges u + 1 ≡ gap + suc (level_of edges v) = omega (arith, not_less) in
-        absurd ((has_level v).ends (fewer edges v (suc (level_of edges v)) gap (subst (λ n. EndsWalk edges v n) split on)))
-  ]
+  edge_rises u v e =
+      elim (cases_lt (level_of edges u) (level_of edges v)) as (λ _. level_of edges u < level_of edges v) [
+        | inl less ↦ less
+        | inr not_less ↦
+            let on = ends_on edges u v (level_of edges u) (has_level u).walk e in
+            let gap : ℕ = level_of edges u - level_of edges v in
+            let split : level_of edges u + 1 ≡ gap + suc (level_of edges v) = omega (arith, not_less) in
+            absurd ((has_level v).ends
+            (fewer edges v (suc (level_of edges v)) gap (subst (λ n. EndsWalk edges v n) split on)))
+      ]
 
-  walk_rises : (u v : ℕ) (more : List ℕ) → IsWalk edges u (v ∷ more) → level_of edges u < level_of edges (last_of v more)
+  walk_rises : (u v : ℕ) (more : List ℕ) → IsWalk edges u (v ∷ more)
+      → level_of edges u < level_of edges (last_of v more)
   walk_rises u v [] walk = edge_rises u v walk.0
   walk_rises u v (w ∷ more) walk = omega (arith, edge_rises u v walk.0, walk_rises v w more walk.1)
 

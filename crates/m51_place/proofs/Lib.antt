@@ -3,6 +3,7 @@ pub mod Bytes
 pub mod Chained
 pub mod Clearing
 pub mod Climbs
+pub mod Common
 pub mod Conflicting
 pub mod Counting
 pub mod Deciding

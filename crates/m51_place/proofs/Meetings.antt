@@ -1,11 +1,9 @@
 -- The first fixed extent that meets an earlier one.
-use Rattle.std.proofs.Common.{◌≡◌, ℕ, ◌+◌, ◌<◌, List, [], ◌∷◌, ◌++◌, length, drop, take, get_or, Option, Some, None, Err, sym, ap, ◌∙◌}
+use Rattle.m51_place.proofs.Common.{◌≡◌, ℕ, ◌+◌, ◌<◌, List, [], ◌∷◌, ◌++◌, length, drop, take, get_or, Option, Some}
+use Rattle.m51_place.proofs.Common.{None, Err, sym, ap, ◌∙◌, Refusal, drop_rest, Numbered, first_met, shared_at}
+use Rattle.m51_place.proofs.Common.{shared_after, shared_extents}
 use Rattle.std.specs.Option.{option_or}
-use Rattle.m51_module.specs.declared.linked.Refusal.{Refusal}
 use Rattle.m51_graph.specs.Graphs.{passed}
-use Rattle.m51_graph.proofs.Drawn.{drop_rest}
-use Rattle.m51_place.specs.declared.numbered.Numbered.{Numbered}
-use Rattle.m51_place.specs.Fixed.{first_met, shared_at, shared_after, shared_extents}
 
 -- what an extent answers for itself
 abbrev pub next_rule : List Numbered → Numbered → Option Refusal
@@ -17,7 +15,10 @@ refused_first (Some r) rest e h = h
 
 -- what the next extent refuses is refused
 pub refused_here : (fixed : List Numbered) (i : ℕ) (d : Numbered) (e : Refusal) → i < length fixed
-    → shared_after (take i fixed) (drop i fixed) ≡ shared_extents fixed → Err e ≡ passed (next_rule (take i fixed) (get_or fixed i d)) → Err e ≡ passed (shared_extents fixed)
+    → shared_after (take i fixed) (drop i fixed) ≡ shared_extents fixed → Err e
+    ≡ passed (next_rule (take i fixed) (get_or fixed i d)) → Err e ≡ passed (shared_extents fixed)
 refused_here fixed i d e below whole h =
-    refused_first (next_rule (take i fixed) (get_or fixed i d)) (shared_after (take i fixed ++ get_or fixed i d ∷ []) (drop (i + 1) fixed)) e h
-    ∙ ap passed (sym (ap (λ (rest : List Numbered). shared_after (take i fixed) rest) (drop_rest fixed i d below)) ∙ whole)
+    refused_first (next_rule (take i fixed) (get_or fixed i d))
+    (shared_after (take i fixed ++ get_or fixed i d ∷ []) (drop (i + 1) fixed)) e h
+    ∙ ap passed
+    (sym (ap (λ (rest : List Numbered). shared_after (take i fixed) rest) (drop_rest fixed i d below)) ∙ whole)

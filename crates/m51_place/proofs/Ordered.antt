@@ -1,29 +1,19 @@
 -- Which of two overlaid segments comes first in the order: by the roots above their units, and then by the levels of
 -- those.
-use Rattle.std.proofs.Common.{◌≡◌, inl, inr, ℕ, ◌<◌, ◌≤◌, true, Bool, not, nat_eq, length, get_or, Option, Some, refl, sym, ap, subst, ◌∙◌, arith}
-use Rattle.std.specs.Prelude.{nat_lt}
-use Rattle.std.proofs.lemmas.Bool.{and_parts, cases_lt, false≢true}
-use Rattle.std.proofs.lemmas.List.Sums.{fails_before_first, passes_at_first}
-use Rattle.std.proofs.lemmas.Option.{same_Some}
-use Rattle.m51_cells.specs.declared.kind.Kind.TheVariants.{Direct}
-use Rattle.m51_cells.specs.declared.kind.Reloc.TheVariants.{Unit as UnitType}
+use Rattle.m51_place.proofs.Common.{◌≡◌, inl, inr, ℕ, ◌<◌, ◌≤◌, true, Bool, not, nat_eq, length, get_or, Option, Some}
+use Rattle.m51_place.proofs.Common.{refl, sym, ap, subst, ◌∙◌, arith, nat_lt, and_parts, cases_lt, false≢true}
+use Rattle.m51_place.proofs.Common.{fails_before_first, same_Some, Direct, UnitType, AreRelated, Same, Before, After}
+use Rattle.m51_place.proofs.Common.{FirstUnderNone, SecondUnderNone, UnderTwo, FirstPlain, SecondPlain, Owners, vectors}
+use Rattle.m51_place.proofs.Common.{Reaches, GraphParts, IsArgument, IsGraph, IsOwn, Owns, SegmentsConflict}
+use Rattle.m51_place.proofs.Common.{UnitLiesUnder, joined_graph, lies_under, leads, above_tells, Group, Ranked}
+use Rattle.m51_place.proofs.Common.{are_owners_related, in_conflict, owners_at, before_by, class_number, comes_before}
+use Rattle.m51_place.proofs.Common.{group_before, root_number}
+use Rattle.std.proofs.lemmas.List.Sums.{passes_at_first}
 use Rattle.m51_control.specs.declared.control.Class.{Class}
 use Rattle.m51_control.specs.declared.control.Class.TheVariants.{Direct as DirectClass}
-use Rattle.m51_module.specs.Conflict.{AreRelated, Same, Before, After, FirstUnderNone, SecondUnderNone, UnderTwo, FirstPlain, SecondPlain, Owners}
-use Rattle.m51_module.specs.Roots.{vectors}
-use Rattle.m51_module.specs.Walks.{Reaches}
-use Rattle.m51_graph.specs.declared.parts.GraphParts.{GraphParts}
-use Rattle.m51_graph.specs.Graph.{IsArgument, IsGraph, IsOwn, Owns, SegmentsConflict, UnitLiesUnder, joined_graph}
-use Rattle.m51_graph.specs.Graphs.{lies_under}
-use Rattle.m51_graph.specs.Leading.{leads}
 use Rattle.m51_graph.specs.Levels.{EndsWalk, level_of}
 use Rattle.m51_graph.proofs.Climbing.{walk_short}
-use Rattle.m51_graph.proofs.Relations.{above_tells}
-use Rattle.m51_place.specs.declared.ranked.Group.{Group}
 use Rattle.m51_place.specs.declared.ranked.Group.TheVariants.{Overlaid}
-use Rattle.m51_place.specs.declared.ranked.Ranked.{Ranked}
-use Rattle.m51_place.specs.Conflicts.{are_owners_related, in_conflict, owners_at}
-use Rattle.m51_place.specs.Order.{before_by, class_number, comes_before, group_before, root_number}
 use Rattle.m51_place.proofs.Conflicting.{segments_tell}
 use Rattle.m51_place.proofs.LevelsRise.{reach_rises}
 use Rattle.m51_place.proofs.Putting.{front_within}
@@ -50,25 +40,32 @@ pub record AreNotAfter (one two first second : ℕ) : Type 0 where
   pub roots : one ≤ two
   pub levels : one ≡ two → first ≤ second
 
-pub numbers_rise : (one two first second : ℕ) (next : Bool) → before_by one two (before_by first second next) ≡ true → AreNotAfter one two first second
-numbers_rise one two first second next h = elim ((goes_tells one two (before_by first second next)).0 h) as (λ _. AreNotAfter one two first second) [
-  | inl less ↦ record { roots = omega (arith, less); levels = λ same. absurd (omega (arith, less, same)) }
-  | inr same ↦ record {
-    roots = omega (arith, same.0);
-    levels = λ _. elim ((goes_tells first second next).0 same.1) as (λ _. first ≤ second) [ inl less ↦ omega (arith, less) | inr also ↦ omega (arith, also.0) ];
-  }
-]
+pub numbers_rise : (one two first second : ℕ) (next : Bool) → before_by one two (before_by first second next) ≡ true
+    → AreNotAfter one two first second
+numbers_rise one two first second next h =
+    elim ((goes_tells one two (before_by first second next)).0 h) as (λ _. AreNotAfter one two first second) [
+      | inl less ↦ record { roots = omega (arith, less); levels = λ same. absurd (omega (arith, less, same)) }
+      | inr same ↦ record {
+        roots = omega (arith, same.0);
+        levels = λ _. elim ((goes_tells first second next).0 same.1) as
+            (λ _. first ≤ second) [ inl less ↦ omega (arith, less) | inr also ↦ omega (arith, also.0) ];
+      }
+    ]
 
 -- what follows where two numbers are one
 after_same : (x : ℕ) (next : Bool) → before_by x x next ≡ true → next ≡ true
-after_same x next h = elim ((goes_tells x x next).0 h) as (λ _. next ≡ true) [ inl less ↦ absurd (omega (arith, less)) | inr same ↦ same.1 ]
+after_same x next h =
+    elim ((goes_tells x x next).0 h) as
+    (λ _. next ≡ true) [ inl less ↦ absurd (omega (arith, less)) | inr same ↦ same.1 ]
 
 module _ (g : GraphParts) (is : IsGraph g) where
   short : (unit count : ℕ) → EndsWalk g.edges unit count → count ≤ 1000
-  short unit count walk = omega (arith, walk_short (length g.units) g.edges is.units.edges is.no_cycle unit count walk, is.units.few_units)
+  short unit count walk =
+      omega (arith, walk_short (length g.units) g.edges is.units.edges is.no_cycle unit count walk, is.units.few_units)
 
   -- the overlaid segment that comes first is under no later root, and under the same root on no higher level
-  by_groups : (first second level next : ℕ) (rest : Bool) → before_by 2 2 (group_before (Overlaid first level) (Overlaid second next) rest) ≡ true
+  by_groups : (first second level next : ℕ) (rest : Bool)
+      → before_by 2 2 (group_before (Overlaid first level) (Overlaid second next) rest) ≡ true
       → AreNotAfter first second level next
   by_groups first second level next rest h =
       numbers_rise first second level next rest
@@ -79,18 +76,24 @@ module _ (g : GraphParts) (is : IsGraph g) where
       → AreNotAfter (root_number g v) (root_number g w) (level_of g.edges v) (level_of g.edges w)
   ranks t u v w a b h =
       let rest : Bool = nat_lt t.rank.number u.rank.number in
-      let first = subst (λ (c : Option Class). before_by (class_number c) (class_number u.rank.class) (group_before t.rank.group u.rank.group rest) ≡ true) a.class h in
-      let second = subst (λ (c : Option Class). before_by 2 (class_number c) (group_before t.rank.group u.rank.group rest) ≡ true) b.class first in
+      let first =
+      subst (λ (c : Option Class). before_by (class_number c) (class_number u.rank.class)
+      (group_before t.rank.group u.rank.group rest) ≡ true) a.class h in
+      let second =
+      subst (λ (c : Option Class). before_by 2 (class_number c) (group_before t.rank.group u.rank.group rest)
+      ≡ true) b.class first in
       let third = subst (λ (x : Group). before_by 2 2 (group_before x u.rank.group rest) ≡ true) a.group second in
       by_groups (root_number g v) (root_number g w) (level_of g.edges v) (level_of g.edges w) rest
-      (subst (λ (x : Group). before_by 2 2 (group_before (Overlaid (root_number g v) (level_of g.edges v)) x rest) ≡ true) b.group third)
+      (subst (λ (x : Group). before_by 2 2 (group_before (Overlaid (root_number g v) (level_of g.edges v)) x rest)
+      ≡ true) b.group third)
 
   -- the root above a unit, or none
   abbrev test : ℕ → ℕ → Bool
   test unit vector = lies_under (leads g.edges) g.roots vector unit
 
   pub root_above : (unit : ℕ) → root_number g unit < 7 → UnitLiesUnder g (get_or vectors (root_number g unit) 0) unit
-  root_above unit below = (above_tells g (get_or vectors (root_number g unit) 0) unit).0 (passes_at_first (test unit) vectors 0 below)
+  root_above unit below =
+      (above_tells g (get_or vectors (root_number g unit) 0) unit).0 (passes_at_first (test unit) vectors 0 below)
 
   pub no_root : (unit : ℕ) → root_number g unit ≡ 7 → (vector : ℕ) → UnitLiesUnder g vector unit → ⊥
   no_root unit end vector lies =
@@ -103,15 +106,20 @@ module _ (g : GraphParts) (is : IsGraph g) where
   few_roots unit = front_within (test unit) vectors
 
   -- the owner of a segment that is no argument segment is its own unit
-  one_owner : (segment unit owner : ℕ) → IsOwn g unit segment → (IsArgument g segment → ⊥) → Owns g owner segment → owner ≡ unit
+  one_owner : (segment unit owner : ℕ) → IsOwn g unit segment → (IsArgument g segment → ⊥) → Owns g owner segment
+      → owner ≡ unit
   one_owner segment unit owner own plain owns =
-      let same : owns.own ≡ unit = same_Some owns.own unit (same_Some (Some owns.own) (Some unit) (sym owns.own_is ∙ own)) in
+      let same : owns.own ≡ unit =
+      same_Some owns.own unit (same_Some (Some owns.own) (Some unit) (sym owns.own_is ∙ own)) in
       elim owns.owner as (λ _. owner ≡ unit) [ inl is_own ↦ is_own ∙ same | inr calls ↦ absurd (plain calls.0) ]
 
   conflict_of : (s t : ℕ) → in_conflict g s t ≡ true → SegmentsConflict g s t
-  conflict_of s t h = (segments_tell g is.units s t).0 (and_parts (not (nat_eq s t)) (are_owners_related g (owners_at g s) (owners_at g t)) h).1
+  conflict_of s t h =
+      (segments_tell g is.units s t).0
+      (and_parts (not (nat_eq s t)) (are_owners_related g (owners_at g s) (owners_at g t)) h).1
 
-  related : (s t v w : ℕ) → IsOwn g v s → IsOwn g w t → (IsArgument g s → ⊥) → (IsArgument g t → ⊥) → SegmentsConflict g s t → AreRelated (joined_graph g) v w
+  related : (s t v w : ℕ) → IsOwn g v s → IsOwn g w t → (IsArgument g s → ⊥) → (IsArgument g t → ⊥)
+      → SegmentsConflict g s t → AreRelated (joined_graph g) v w
   related s t v w own own' plain plain' (FirstPlain lone) = absurd (lone (v, own))
   related s t v w own own' plain plain' (SecondPlain lone) = absurd (lone (w, own'))
   related s t v w own own' plain plain' (Owners one two o o' r) =
@@ -119,12 +127,14 @@ module _ (g : GraphParts) (is : IsGraph g) where
       (subst (λ y. AreRelated (joined_graph g) one y) (one_owner t w two own' plain' o') r)
 
   -- under one root
-  under_one : (s t v w : ℕ) → IsOwn g v s → IsOwn g w t → root_number g v ≡ root_number g w → root_number g v < 7 → level_of g.edges v ≤ level_of g.edges w
+  under_one : (s t v w : ℕ) → IsOwn g v s → IsOwn g w t → root_number g v ≡ root_number g w → root_number g v < 7
+      → level_of g.edges v ≤ level_of g.edges w
       → AreRelated (joined_graph g) v w → Precedes g v w
   under_one s t v w own own' same below levels r =
       let x : ℕ = get_or vectors (root_number g v) 0 in
       let first : UnitLiesUnder g x v = root_above v below in
-      let second : UnitLiesUnder g x w = subst (λ k. UnitLiesUnder g (get_or vectors k 0) w) (sym same) (root_above w (omega (arith, same, below))) in
+      let second : UnitLiesUnder g x w =
+      subst (λ k. UnitLiesUnder g (get_or vectors k 0) w) (sym same) (root_above w (omega (arith, same, below))) in
       let owns : Owns g v s = record { own = v; own_is = own; owner = inl refl } in
       let owns' : Owns g w t = record { own = w; own_is = own'; owner = inl refl } in
       elim r as (λ _. Precedes g v w) [
@@ -133,10 +143,12 @@ module _ (g : GraphParts) (is : IsGraph g) where
         | After reach ↦ absurd (omega (arith, levels, reach_rises g.edges short w v reach))
         | FirstUnderNone none ↦ absurd (none x first)
         | SecondUnderNone none ↦ absurd (none x second)
-        | UnderTwo a b differ h h' ↦ absurd (differ (is.one_root s v a x owns h first ∙ sym (is.one_root t w b x owns' h' second)))
+        | UnderTwo a b differ h h' ↦ absurd
+            (differ (is.one_root s v a x owns h first ∙ sym (is.one_root t w b x owns' h' second)))
       ]
 
-  pub precedes : (t u : Ranked) (v w : ℕ) → IsLocalData g t v → IsLocalData g u w → (IsArgument g t.number → ⊥) → (IsArgument g u.number → ⊥)
+  pub precedes : (t u : Ranked) (v w : ℕ) → IsLocalData g t v → IsLocalData g u w → (IsArgument g t.number → ⊥)
+      → (IsArgument g u.number → ⊥)
       → comes_before t.rank u.rank ≡ true → in_conflict g t.number u.number ≡ true → Precedes g v w
   precedes t u v w a b plain plain' earlier conflict =
       let rise = ranks t u v w a b earlier in

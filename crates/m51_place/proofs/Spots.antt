@@ -1,34 +1,14 @@
 -- What each placed extent is.
-use Rattle.std.proofs.Common.{◌≡◌, inl, inr, ℕ, zero, suc, ◌+◌, ◌*◌, ◌<◌, ◌≤◌, true, Bool, cond, List, [], ◌∷◌, Option, Some, None, refl, sym, ap, subst, ◌∙◌, arith}
-use Rattle.std.specs.Prelude.{slice_get, option_map}
-use Rattle.std.specs.Option.{option_map_or}
-use Rattle.std.specs.List.{All}
-use Rattle.std.proofs.lemmas.Bool.{false≢true}
-use Rattle.std.proofs.lemmas.List.Elements.{All-nil, All-cons}
-use Rattle.std.proofs.lemmas.Option.{slice_get-map, same_Some}
-use Rattle.std.proofs.lemmas.Option.{none-some}
-use Rattle.m51_cells.specs.declared.kind.Kind.{Kind}
-use Rattle.m51_cells.specs.declared.kind.Kind.TheVariants.{Code, Xdata, Direct, Idata, Bits, Number}
-use Rattle.m51_cells.specs.declared.kind.Reloc.{Reloc}
-use Rattle.m51_cells.specs.declared.kind.Reloc.TheVariants.{Abs, Unit as UnitType, Bitaddressable, Inpage, Inblock, Page}
-use Rattle.m51_cells.specs.Extent.{extent_of}
-use Rattle.m51_cells.specs.Fits.{Fits, FitsBlock, FitsMemory}
-use Rattle.m51_control.specs.declared.control.Control.{Control}
-use Rattle.m51_module.specs.declared.placed.Mark.TheVariants.{Absolute, Overlaid}
-use Rattle.m51_module.specs.declared.placed.Placed.{Placed}
-use Rattle.m51_module.specs.Plan.{IsSegment}
-use Rattle.m51_module.specs.Sound.{IsInside, IsFit}
-use Rattle.m51_resolve.specs.declared.segment.JoinedSegment.{JoinedSegment}
-use Rattle.m51_graph.specs.declared.parts.GraphParts.{GraphParts}
+use Rattle.m51_place.proofs.Common.{◌≡◌, inl, inr, ℕ, zero, suc, ◌+◌, ◌*◌, ◌<◌, ◌≤◌, true, Bool, cond, List, [], ◌∷◌}
+use Rattle.m51_place.proofs.Common.{Option, Some, None, refl, sym, ap, subst, ◌∙◌, arith, slice_get, option_map}
+use Rattle.m51_place.proofs.Common.{option_map_or, All, false≢true, All-nil, All-cons, slice_get-map, same_Some}
+use Rattle.m51_place.proofs.Common.{none-some, Kind, Code, Xdata, Direct, Idata, Bits, Number, Reloc, Abs, UnitType}
+use Rattle.m51_place.proofs.Common.{Bitaddressable, Inpage, Inblock, Page, extent_of, Fits, FitsBlock, FitsMemory}
+use Rattle.m51_place.proofs.Common.{Control, Absolute, Overlaid, Placed, IsSegment, IsInside, IsFit, JoinedSegment}
+use Rattle.m51_place.proofs.Common.{GraphParts, is_absolute, cases_Bool, Numbered, Ranked, absolute, absolutes_from}
+use Rattle.m51_place.proofs.Common.{own_at, located_at, mark_of}
 use Rattle.m51_graph.specs.Locals.{is_apart, overlaid_by, own_unit, unless_apart}
-use Rattle.m51_cells.specs.Kinds.{is_absolute}
 use Rattle.m51_graph.specs.Units.{unit_titles}
-use Rattle.std.proofs.lemmas.Bool.{cases_Bool}
-use Rattle.m51_place.specs.declared.numbered.Numbered.{Numbered}
-use Rattle.m51_place.specs.declared.ranked.Ranked.{Ranked}
-use Rattle.m51_place.specs.Fixed.{absolute, absolutes_from}
-use Rattle.m51_place.specs.Order.{own_at}
-use Rattle.m51_place.specs.Placement.{located_at, mark_of}
 use Rattle.m51_place.proofs.Segments.{IsJoined, IsOf}
 use Rattle.m51_place.proofs.Ranks.{AreFrom, from_head, from_tail, IsRankedOf, joined_at}
 
@@ -58,13 +38,15 @@ block_inside : (block base size at : ℕ) → FitsBlock block base size → base
 block_inside block base zero at h from below = absurd (omega (arith, from, below))
 block_inside block base (suc more) at h from below = omega (arith, h.1, below)
 
-memory_inside : (reloc : Reloc) (base size at : ℕ) → FitsMemory reloc base size → base ≤ at → at < base + size → at < 65536
+memory_inside : (reloc : Reloc) (base size at : ℕ) → FitsMemory reloc base size → base ≤ at → at < base + size
+    → at < 65536
 memory_inside Page base size at h from below = omega (arith, h.1, below)
 memory_inside Inpage base size at h from below = block_inside 256 base size at h from below
 memory_inside Inblock base size at h from below = block_inside 2048 base size at h from below
 memory_inside Abs base size at h from below = let ends : base + size ≤ 0x10000 = h in omega (arith, ends, below)
 memory_inside UnitType base size at h from below = let ends : base + size ≤ 0x10000 = h in omega (arith, ends, below)
-memory_inside Bitaddressable base size at h from below = let ends : base + size ≤ 0x10000 = h in omega (arith, ends, below)
+memory_inside Bitaddressable base size at h from below = let ends : base + size ≤ 0x10000 = h in
+    omega (arith, ends, below)
 
 pub direct_ends : (reloc : Reloc) (base size : ℕ) → Fits Direct reloc base size → base + size ≤ 0x80
 direct_ends Bitaddressable base size h = omega (arith, h.1)
@@ -74,7 +56,8 @@ direct_ends Inpage base size h = h
 direct_ends Inblock base size h = h
 direct_ends Page base size h = h
 
-pub fits_inside : (kind : Kind) (reloc : Reloc) (base size : ℕ) → Fits kind reloc base size → IsInside (extent_of kind base size)
+pub fits_inside : (kind : Kind) (reloc : Reloc) (base size : ℕ) → Fits kind reloc base size
+    → IsInside (extent_of kind base size)
 fits_inside Direct reloc base size h c covers =
     let ends : base + size ≤ 0x80 = direct_ends reloc base size h in
     let below : c.at < 8 * base + 8 * size = covers.below in
@@ -108,25 +91,36 @@ code_low : (base size : ℕ) → Fits Code Abs base size → base ≤ 65536
 code_low base size h = let ends : base + size ≤ 65536 = h in omega (arith, ends)
 
 -- the own unit of a joined segment is that of the graph
-pub own_is_of : (segments : List JoinedSegment) (controls : List (ℕ × Control)) (g : GraphParts) → IsOf segments controls g → (number : ℕ) (j : JoinedSegment) → slice_get segments number ≡ Some j
+pub own_is_of : (segments : List JoinedSegment) (controls : List (ℕ × Control)) (g : GraphParts)
+    → IsOf segments controls g → (number : ℕ) (j : JoinedSegment) → slice_get segments number ≡ Some j
     → own_at g number ≡ overlaid_by (unit_titles segments) controls j
 own_is_of segments controls g is number j at =
     let f : JoinedSegment → Option ℕ = overlaid_by (unit_titles segments) controls in
     let read : Option (Option ℕ) → Option ℕ = λ found. option_map_or (λ (own : Option ℕ). own) found None in
-    ap read (ap (λ (os : List (Option ℕ)). slice_get os number) is.own ∙ slice_get-map f segments number ∙ ap (option_map f) at)
+    ap read (ap (λ (os : List (Option ℕ)). slice_get os number) is.own ∙ slice_get-map f segments number
+    ∙ ap (option_map f) at)
 
-owned_is_marked : (titles : List (List ℕ)) (controls : List (ℕ × Control)) (j : JoinedSegment) (unit : ℕ) → overlaid_by titles controls j ≡ Some unit → j.overlay ≡ true
+owned_is_marked : (titles : List (List ℕ)) (controls : List (ℕ × Control)) (j : JoinedSegment) (unit : ℕ)
+    → overlaid_by titles controls j ≡ Some unit → j.overlay ≡ true
 owned_is_marked titles controls j unit h = elim (cases_Bool j.overlay) as (λ _. j.overlay ≡ true) [
   | inl marked ↦ marked
-  | inr not_marked ↦ absurd (none-some unit (sym (ap (λ (b : Bool). cond b (unless_apart (is_apart titles controls) (own_unit titles j)) None) not_marked) ∙ h))
+  | inr not_marked ↦ absurd
+      (none-some unit
+      (sym (ap (λ (b : Bool). cond b (unless_apart (is_apart titles controls) (own_unit titles j)) None) not_marked)
+      ∙ h))
 ]
 
-module _ (segments : List JoinedSegment) (controls : List (ℕ × Control)) (g : GraphParts) (is : IsOf segments controls g) (all : All IsJoined segments) where
-  marked : (number : ℕ) (j : JoinedSegment) (unit : ℕ) → slice_get segments number ≡ Some j → own_at g number ≡ Some unit → j.overlay ≡ true
-  marked number j unit at owner = owned_is_marked (unit_titles segments) controls j unit (sym (own_is_of segments controls g is number j at) ∙ owner)
+module _ (segments : List JoinedSegment) (controls : List (ℕ × Control)) (g : GraphParts)
+    (is : IsOf segments controls g) (all : All IsJoined segments) where
+  marked : (number : ℕ) (j : JoinedSegment) (unit : ℕ) → slice_get segments number ≡ Some j → own_at g number
+      ≡ Some unit → j.overlay ≡ true
+  marked number j unit at owner =
+      owned_is_marked (unit_titles segments) controls j unit
+      (sym (own_is_of segments controls g is number j at) ∙ owner)
 
   -- an absolute segment
-  absolute_spot : (number : ℕ) (j : JoinedSegment) → slice_get segments number ≡ Some j → is_absolute j.reloc ≡ true → IsSpot g segments (absolute number j)
+  absolute_spot : (number : ℕ) (j : JoinedSegment) → slice_get segments number ≡ Some j → is_absolute j.reloc ≡ true
+      → IsSpot g segments (absolute number j)
   absolute_spot number j at abs =
       let joined : IsJoined j = joined_at IsJoined segments number j all at in
       record {
@@ -136,20 +130,23 @@ module _ (segments : List JoinedSegment) (controls : List (ℕ × Control)) (g :
           absolute = λ _. joined.some abs;
           code = λ _ e. cc e;
         };
-        numbered = λ n e. subst (λ m. IsSegmentOf g segments m (absolute number j).placed) (same_Some number n e) (record {
-          j = j;
-          is = at;
-          title = refl;
-          kind = refl;
-          reloc = refl;
-          size = refl;
-          room = λ code. code_room Abs j.base j.size (code_low j.base j.size (subst (λ (k : Kind). Fits k Abs j.base j.size) code (joined.fits abs))) (subst (λ (k : Kind). Fits k Abs j.base j.size) code (joined.fits abs));
-          segment = tt;
-          fixed = λ _. (refl, refl);
-          absolute = λ _. abs;
-          overlaid = λ e. absurd (cc e);
-          owned = λ unit owner. absurd (false≢true (sym (joined.plain abs) ∙ marked number j unit at owner));
-        });
+        numbered =
+            λ n e. subst (λ m. IsSegmentOf g segments m (absolute number j).placed) (same_Some number n e) (record {
+              j = j;
+              is = at;
+              title = refl;
+              kind = refl;
+              reloc = refl;
+              size = refl;
+              room = λ code. code_room Abs j.base j.size
+                  (code_low j.base j.size (subst (λ (k : Kind). Fits k Abs j.base j.size) code (joined.fits abs)))
+                  (subst (λ (k : Kind). Fits k Abs j.base j.size) code (joined.fits abs));
+              segment = tt;
+              fixed = λ _. (refl, refl);
+              absolute = λ _. abs;
+              overlaid = λ e. absurd (cc e);
+              owned = λ unit owner. absurd (false≢true (sym (joined.plain abs) ∙ marked number j unit at owner));
+            });
         free = λ e. absurd (cc e);
       }
 
@@ -166,7 +163,8 @@ module _ (segments : List JoinedSegment) (controls : List (ℕ × Control)) (g :
   has_owner None e = absurd (cc e)
   has_owner (Some unit) e = (unit, refl)
 
-  pub placed_spot : (t : Ranked) (base : ℕ) → IsRankedOf g segments t → base < 65536 → Fits t.segment.kind t.segment.reloc base t.segment.size → IsSpot g segments (located_at t base)
+  pub placed_spot : (t : Ranked) (base : ℕ) → IsRankedOf g segments t → base < 65536
+      → Fits t.segment.kind t.segment.reloc base t.segment.size → IsSpot g segments (located_at t base)
   placed_spot t base h low fits =
       let j = t.segment in
       let joined : IsJoined j = joined_at IsJoined segments t.number j all h.segment in
@@ -175,27 +173,31 @@ module _ (segments : List JoinedSegment) (controls : List (ℕ × Control)) (g :
           kind = joined.kind;
           inside = fits_inside j.kind j.reloc base j.size fits;
           absolute = λ e. absurd (not_absolute t.own e);
-          code = λ code e. let owner = has_owner t.own e in joined.code (marked t.number j owner.0 h.segment (sym h.own ∙ owner.1)) code;
+          code = λ code e. let owner = has_owner t.own e in
+              joined.code (marked t.number j owner.0 h.segment (sym h.own ∙ owner.1)) code;
         };
-        numbered = λ n e. subst (λ m. IsSegmentOf g segments m (located_at t base).placed) (same_Some t.number n e) (record {
-          j = j;
-          is = h.segment;
-          title = refl;
-          kind = refl;
-          reloc = refl;
-          size = refl;
-          room = λ code. code_room j.reloc base j.size (omega (arith, low)) (subst (λ (k : Kind). Fits k j.reloc base j.size) code fits);
-          segment = plain_segment t.own;
-          fixed = λ abs. absurd (false≢true (sym h.relocatable ∙ abs));
-          absolute = λ e. absurd (not_absolute t.own e);
-          overlaid = λ e. let owner = has_owner t.own e in (owner.0, sym h.own ∙ owner.1);
-          owned = λ unit owner. ap mark_of (h.own ∙ owner);
-        });
+        numbered =
+            λ n e. subst (λ m. IsSegmentOf g segments m (located_at t base).placed) (same_Some t.number n e) (record {
+              j = j;
+              is = h.segment;
+              title = refl;
+              kind = refl;
+              reloc = refl;
+              size = refl;
+              room = λ code. code_room j.reloc base j.size (omega (arith, low))
+                  (subst (λ (k : Kind). Fits k j.reloc base j.size) code fits);
+              segment = plain_segment t.own;
+              fixed = λ abs. absurd (false≢true (sym h.relocatable ∙ abs));
+              absolute = λ e. absurd (not_absolute t.own e);
+              overlaid = λ e. let owner = has_owner t.own e in (owner.0, sym h.own ∙ owner.1);
+              owned = λ unit owner. ap mark_of (h.own ∙ owner);
+            });
         free = λ e. absurd (cc e);
       }
 
   -- absolute segments from a number on
-  pub absolute_spots : (number : ℕ) (rest : List JoinedSegment) → AreFrom segments number rest → All (IsSpot g segments) (absolutes_from number rest)
+  pub absolute_spots : (number : ℕ) (rest : List JoinedSegment) → AreFrom segments number rest
+      → All (IsSpot g segments) (absolutes_from number rest)
   absolute_spots number [] h = All-nil (IsSpot g segments)
   absolute_spots number (j ∷ more) h =
       let P : Numbered → Type 0 = IsSpot g segments in

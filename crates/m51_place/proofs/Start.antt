@@ -1,31 +1,24 @@
 -- The fixed extents: what each is, which joined numbers they have, and that no two of them share a cell.
-use Rattle.std.proofs.Common.{◌≡◌, ℕ, suc, ◌+◌, ◌-◌, ◌*◌, ◌<◌, ◌≤◌, true, false, Bool, cond, nat_eq, List, [], ◌∷◌, ◌++◌, length, get_or, codes, Option, Some, None, unwrap_or, refl, sym, ap, subst, ◌∙◌, arith, append_assoc, length-append}
-use Rattle.std.specs.Prelude.{position, option_map}
-use Rattle.std.specs.Option.{option_map_or}
-use Rattle.std.specs.List.{All, AllPairs, cons_option, position_or_len, sum_by}
-use Rattle.std.proofs.lemmas.Bool.{false≢true}
-use Rattle.std.proofs.lemmas.List.{append-nil}
-use Rattle.std.proofs.lemmas.List.Elements.{All-nil, All-cons, All-append, All-head, All-tail, All-weaker}
+use Rattle.m51_place.proofs.Common.{◌≡◌, ℕ, suc, ◌+◌, ◌-◌, ◌*◌, ◌<◌, ◌≤◌, true, false, Bool, cond, nat_eq, List, []}
+use Rattle.m51_place.proofs.Common.{◌∷◌, ◌++◌, length, get_or, Option, Some, None, unwrap_or, refl, sym, ap, subst, ◌∙◌}
+use Rattle.m51_place.proofs.Common.{arith, append_assoc, position, option_map, option_map_or, All, AllPairs}
+use Rattle.m51_place.proofs.Common.{position_or_len, sum_by, false≢true, append-nil, All-nil, All-cons, All-append}
+use Rattle.m51_place.proofs.Common.{All-head, All-tail, All-weaker, fails_before_first, sum_by-append, sum_by-cons}
+use Rattle.m51_place.proofs.Common.{none-some, same_Some, slice_get-get_or, Ram, Control, IsAllowed, Refusal}
+use Rattle.m51_place.proofs.Common.{ModuleParts, extent_at, IsSegment, IsFit, JoinedSegment, GraphParts, is_absolute}
+use Rattle.m51_place.proofs.Common.{Numbered, absolute, absolutes_from, banks_of, fixed_of, first_met, reserves_of}
+use Rattle.m51_place.proofs.Common.{shared_at, shared_after}
+use Rattle.std.proofs.Common.{codes}
+use Rattle.std.proofs.Common.{length-append}
+use Rattle.std.specs.List.{cons_option}
 use Rattle.std.proofs.lemmas.List.Quantifiers.{all_pairs_push, position-Some}
-use Rattle.std.proofs.lemmas.List.Sums.{fails_before_first, sum_by-append, sum_by-cons}
-use Rattle.std.proofs.lemmas.Option.{none-some, same_Some, slice_get-get_or}
 use Rattle.m51_graph.proofs.Judged.{none_of_both}
-use Rattle.m51_cells.specs.declared.cell.Space.TheVariants.{Ram, Xram, Code as CodeSpace}
-use Rattle.m51_control.specs.declared.control.Control.{Control}
+use Rattle.m51_cells.specs.declared.cell.Space.TheVariants.{Xram, Code as CodeSpace}
 use Rattle.m51_control.specs.declared.control.Control.TheVariants.{Reserve, Add, Cut, NoOverlay, Order}
-use Rattle.m51_control.specs.Controls.{IsAllowed}
-use Rattle.m51_module.specs.declared.linked.Refusal.{Refusal}
 use Rattle.m51_module.specs.declared.linked.Refusal.TheVariants.{L9}
-use Rattle.m51_module.specs.declared.parts.ModuleParts.{ModuleParts}
-use Rattle.m51_module.specs.Cells.{extent_at}
-use Rattle.m51_module.specs.Plan.{IsSegment}
-use Rattle.m51_module.specs.Sound.{IsFit}
-use Rattle.m51_resolve.specs.declared.segment.JoinedSegment.{JoinedSegment}
-use Rattle.m51_graph.specs.declared.parts.GraphParts.{GraphParts}
-use Rattle.m51_cells.specs.Kinds.{is_absolute}
-use Rattle.m51_place.specs.declared.numbered.Numbered.{Numbered}
 use Rattle.m51_place.specs.Bases.{share}
-use Rattle.m51_place.specs.Fixed.{absolute, absolutes_from, bank, bank_if, banks_of, fixed_of, first_met, reserve_of, reserves_of, shared_at, shared_after, uses}
+use Rattle.m51_place.specs.Fixed.{bank, bank_if, reserve_of}
+use Rattle.m51_place.specs.Fixed.{uses}
 use Rattle.m51_place.proofs.After.{KeepApart}
 use Rattle.m51_place.proofs.Deciding.{share_tells}
 use Rattle.m51_place.proofs.Putting.{place_is}
@@ -60,14 +53,17 @@ banks_free modules =
     let one = bank_if (uses modules 2) (codes "BANK1") 8 in
     let two = bank_if (uses modules 4) (codes "BANK2") 16 in
     let three = bank_if (uses modules 8) (codes "BANK3") 24 in
-    let zero_free : All IsFree (bank (codes "BANK0") 0 ∷ []) = All-cons IsFree (bank (codes "BANK0") 0) [] (bank_free (codes "BANK0") 0 (omega arith)) (All-nil IsFree) in
+    let zero_free : All IsFree (bank (codes "BANK0") 0 ∷ []) =
+    All-cons IsFree (bank (codes "BANK0") 0) [] (bank_free (codes "BANK0") 0 (omega arith)) (All-nil IsFree) in
     All-append IsFree (bank (codes "BANK0") 0 ∷ [] ++ one ++ two) three
     (All-append IsFree (bank (codes "BANK0") 0 ∷ [] ++ one) two
-    (All-append IsFree (bank (codes "BANK0") 0 ∷ []) one zero_free (bank_if_free (uses modules 2) (codes "BANK1") 8 (omega arith)))
+    (All-append IsFree (bank (codes "BANK0") 0 ∷ []) one zero_free
+    (bank_if_free (uses modules 2) (codes "BANK1") 8 (omega arith)))
     (bank_if_free (uses modules 4) (codes "BANK2") 16 (omega arith)))
     (bank_if_free (uses modules 8) (codes "BANK3") 24 (omega arith))
 
-next_free : (found : Option Numbered) (rest : List Numbered) → ((e : Numbered) → found ≡ Some e → IsFree e) → All IsFree rest → All IsFree (cons_option found rest)
+next_free : (found : Option Numbered) (rest : List Numbered) → ((e : Numbered) → found ≡ Some e → IsFree e)
+    → All IsFree rest → All IsFree (cons_option found rest)
 next_free None rest free h = h
 next_free (Some e) rest free h = All-cons IsFree e rest (free e refl) h
 
@@ -79,7 +75,8 @@ one_or_none : (used : Bool) (title : List ℕ) (base : ℕ) → length (bank_if 
 one_or_none true title base = omega arith
 one_or_none false title base = omega arith
 
-few_more : (found : Option Numbered) (rest : List Numbered) (n : ℕ) → length rest ≤ n → length (cons_option found rest) ≤ suc n
+few_more : (found : Option Numbered) (rest : List Numbered) (n : ℕ) → length rest ≤ n
+    → length (cons_option found rest) ≤ suc n
 few_more None rest n h = omega (arith, h)
 few_more (Some e) rest n h = omega (arith, h)
 
@@ -91,7 +88,8 @@ reserve_free (Reserve Ram low high) e allowed is = subst (λ x. IsFree x) (same_
   number = refl;
   fit = record {
     kind = λ e. cc e;
-    inside = λ c h. let below : c.at < 8 * low + 8 * (high - low + 1) = h.below in omega (arith, allowed.0, allowed.1, below);
+    inside = λ c h. let below : c.at < 8 * low + 8 * (high - low + 1) = h.below in
+        omega (arith, allowed.0, allowed.1, below);
     absolute = λ e. absurd (cc e);
     code = λ e. absurd (cc e);
   };
@@ -113,16 +111,19 @@ reserve_free (Cut from names) e allowed is = absurd (cc is)
 reserve_free (NoOverlay name) e allowed is = absurd (cc is)
 reserve_free (Order class names) e allowed is = absurd (cc is)
 
-pub reserves_free : (controls : List (ℕ × Control)) → All (λ (line : ℕ × Control). IsAllowed line.1) controls → All IsFree (reserves_of controls)
+pub reserves_free : (controls : List (ℕ × Control)) → All (λ (line : ℕ × Control). IsAllowed line.1) controls
+    → All IsFree (reserves_of controls)
 reserves_free [] allowed = All-nil IsFree
 reserves_free (line ∷ more) allowed =
     let A : ℕ × Control → Type 0 = λ l. IsAllowed l.1 in
     let rest = reserves_free more (All-tail A line more allowed) in
-    next_free (reserve_of line.1) (reserves_of more) (λ e is. reserve_free line.1 e (All-head A line more allowed) is) rest
+    next_free (reserve_of line.1) (reserves_of more)
+    (λ e is. reserve_free line.1 e (All-head A line more allowed) is) rest
 
 -- free or a segment
 free_is_spot : (g : GraphParts) (segments : List JoinedSegment) (e : Numbered) → IsFree e → IsSpot g segments e
-free_is_spot g segments e h = record { fit = h.fit; numbered = λ number is. absurd (none-some number (sym h.number ∙ is)); free = λ _. h.free }
+free_is_spot g segments e h =
+    record { fit = h.fit; numbered = λ number is. absurd (none-some number (sym h.number ∙ is)); free = λ _. h.free }
 
 -- extents that are no segments have no number
 none_numbered : (m : ℕ) (es : List Numbered) → All IsFree es → sum_by (extent_count m) es ≡ 0
@@ -158,10 +159,15 @@ absolutes_few number [] = omega arith
 absolutes_few number (j ∷ more) =
     let es : List Numbered = absolutes_from (number + 1) more in
     let h = absolutes_few (number + 1) more in
-    elim (is_absolute j.reloc) as (λ b. length (cond b (absolute number j ∷ es) es) ≤ suc (length more)) [ true ↦ omega (arith, h) | false ↦ omega (arith, h) ]
+    elim (is_absolute j.reloc) as
+    (λ b. length (cond b (absolute number j ∷ es) es) ≤ suc (length more))
+    [ true ↦ omega (arith, h) | false ↦ omega (arith, h) ]
 
-module _ (g : GraphParts) (modules : List ModuleParts) (controls : List (ℕ × Control)) (segments : List JoinedSegment) where
-  pub fixed_spots : IsOf segments controls g → All IsJoined segments → All (λ (line : ℕ × Control). IsAllowed line.1) controls → All (IsSpot g segments) (fixed_of modules controls segments)
+module _ (g : GraphParts) (modules : List ModuleParts) (controls : List (ℕ × Control))
+    (segments : List JoinedSegment) where
+  pub fixed_spots : IsOf segments controls g → All IsJoined segments
+      → All (λ (line : ℕ × Control). IsAllowed line.1) controls
+      → All (IsSpot g segments) (fixed_of modules controls segments)
   fixed_spots is joined allowed =
       let P : Numbered → Type 0 = IsSpot g segments in
       All-append P (banks_of modules ++ reserves_of controls) (absolutes_from 0 segments)
@@ -171,7 +177,8 @@ module _ (g : GraphParts) (modules : List ModuleParts) (controls : List (ℕ × 
       (absolute_spots segments controls g is joined 0 segments (from_start segments))
 
   pub fixed_count : (m : ℕ) → All (λ (line : ℕ × Control). IsAllowed line.1) controls
-      → sum_by (extent_count m) (fixed_of modules controls segments) ≡ sum_by (extent_count m) (absolutes_from 0 segments)
+      → sum_by (extent_count m) (fixed_of modules controls segments)
+      ≡ sum_by (extent_count m) (absolutes_from 0 segments)
   fixed_count m allowed =
       omega (
         arith,
@@ -193,26 +200,35 @@ module _ (g : GraphParts) (modules : List ModuleParts) (controls : List (ℕ × 
       )
 
 -- no two fixed extents share a cell
-none_met : (p : Numbered → Bool) (xs : List Numbered) → position p xs ≡ None → (k : ℕ) (d : Numbered) → k < length xs → p (get_or xs k d) ≡ false
+none_met : (p : Numbered → Bool) (xs : List Numbered) → position p xs ≡ None → (k : ℕ) (d : Numbered) → k < length xs
+    → p (get_or xs k d) ≡ false
 none_met p xs none k d below =
-    let end : position_or_len p xs ≡ length xs = sym (place_is p xs) ∙ ap (λ (found : Option ℕ). unwrap_or found (length xs)) none in
+    let end : position_or_len p xs ≡ length xs = sym (place_is p xs)
+    ∙ ap (λ (found : Option ℕ). unwrap_or found (length xs)) none in
     fails_before_first p xs k d (omega (arith, below, end))
 
-refuses_met : (earlier : List Numbered) (e : Numbered) (found : Option ℕ) → first_met earlier e ≡ found → shared_at earlier e found ≡ None → first_met earlier e ≡ None
+refuses_met : (earlier : List Numbered) (e : Numbered) (found : Option ℕ) → first_met earlier e ≡ found
+    → shared_at earlier e found ≡ None → first_met earlier e ≡ None
 refuses_met earlier e None is h = is
-refuses_met earlier e (Some place) is h =
-    let at = position-Some (λ (q : Numbered). share (extent_at q.placed) (extent_at e.placed)) earlier place e is in
-    absurd (not_refused (get_or earlier place e) e (sym (ap (λ (found : Option Numbered). option_map (λ (q : Numbered). L9 q.placed.title e.placed.title) found) (slice_get-get_or earlier place e at.0)) ∙ h))
+refuses_met earlier e (Some index) is h =
+    let at = position-Some (λ (q : Numbered). share (extent_at q.placed) (extent_at e.placed)) earlier index e is in
+    absurd (not_refused (get_or earlier index e) e
+    (sym (ap (λ (found : Option Numbered). option_map (λ (q : Numbered). L9 q.placed.title e.placed.title) found)
+    (slice_get-get_or earlier index e at.0)) ∙ h))
 
-pub fixed_apart : (g : GraphParts) (rest earlier : List Numbered) → AllPairs (KeepApart g) earlier → shared_after earlier rest ≡ None → AllPairs (KeepApart g) (earlier ++ rest)
-fixed_apart g [] earlier apart h = subst (λ (es : List Numbered). AllPairs (KeepApart g) es) (sym (append-nil earlier)) apart
+pub fixed_apart : (g : GraphParts) (rest earlier : List Numbered) → AllPairs (KeepApart g) earlier
+    → shared_after earlier rest ≡ None → AllPairs (KeepApart g) (earlier ++ rest)
+fixed_apart g [] earlier apart h =
+    subst (λ (es : List Numbered). AllPairs (KeepApart g) es) (sym (append-nil earlier)) apart
 fixed_apart g (e ∷ more) earlier apart h =
     let rules = none_of_both (shared_at earlier e (first_met earlier e)) (shared_after (earlier ++ e ∷ []) more) h in
     let none = refuses_met earlier e (first_met earlier e) refl rules.0 in
     let clear : (k : ℕ) (d : Numbered) → k < length earlier → KeepApart g (get_or earlier k d) e = λ k d below. record {
       none = λ _ meet.
           let q : Numbered = get_or earlier k d in
-          false≢true (sym (none_met (λ (q : Numbered). share (extent_at q.placed) (extent_at e.placed)) earlier none k d below) ∙ (share_tells (extent_at q.placed) (extent_at e.placed)).1 meet);
+          false≢true
+          (sym (none_met (λ (q : Numbered). share (extent_at q.placed) (extent_at e.placed)) earlier none k d below)
+          ∙ (share_tells (extent_at q.placed) (extent_at e.placed)).1 meet);
     } in
     subst (λ (es : List Numbered). AllPairs (KeepApart g) es) (append_assoc earlier (e ∷ []) more)
     (fixed_apart g more (earlier ++ e ∷ []) (all_pairs_push (KeepApart g) earlier e apart clear) rules.1)

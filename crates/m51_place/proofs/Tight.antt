@@ -1,46 +1,22 @@
 -- Placing covers by overlaid DATA as few bytes as it can.
-use Rattle.std.proofs.Common.{◌≡◌, inl, inr, ℕ, zero, suc, ◌+◌, ◌-◌, ◌<◌, ◌≤◌, true, Bool, List, [], ◌∷◌, ◌++◌, length, map, get_or, Option, Some, None, Result, Ok, Err, refl, sym, ap, subst, ◌∙◌, arith}
-use Rattle.std.specs.Option.{option_map_or}
-use Rattle.std.specs.List.{All, Contains, list_any, sum_by}
-use Rattle.std.proofs.lemmas.Bool.{and_parts, cases_lt}
-use Rattle.std.proofs.lemmas.List.Elements.{All-append, All-contains, Contains-append_cases}
+use Rattle.m51_place.proofs.Common.{◌≡◌, inl, inr, ℕ, zero, suc, ◌+◌, ◌-◌, ◌<◌, ◌≤◌, true, Bool, List, [], ◌∷◌, ◌++◌}
+use Rattle.m51_place.proofs.Common.{length, map, get_or, Option, Some, None, Result, Ok, Err, refl, sym, ap, subst, ◌∙◌}
+use Rattle.m51_place.proofs.Common.{arith, option_map_or, All, Contains, list_any, sum_by, and_parts, cases_lt}
+use Rattle.m51_place.proofs.Common.{All-append, All-contains, Contains-append_cases, sum_by-append, none-some, Control}
+use Rattle.m51_place.proofs.Common.{AreKept, Chain, Refusal, LayoutParts, ModuleParts, Mark, Overlaid, Placed}
+use Rattle.m51_place.proofs.Common.{sum_along, weight_of, IsSegment, layout_graph, vectors, IsSound, IsWalk, IsValid}
+use Rattle.m51_place.proofs.Common.{contains_behind, first_or_behind, none_in_empty, JoinedSegment, segments_of}
+use Rattle.m51_place.proofs.Common.{AreResolved, GraphParts, IsGraph, graph_of, tally, Numbered, Placing, Ranked}
+use Rattle.m51_place.proofs.Common.{bytes_passing, covers_byte, fixed_of, shared_extents, order_of, own_at, root_number}
+use Rattle.m51_place.proofs.Common.{before_overlaid, OverlaysData, located_of, parts_of_layout, place_after}
 use Rattle.std.proofs.lemmas.List.Folds.{Any-from_list_any}
-use Rattle.std.proofs.lemmas.List.Sums.{sum_by-append}
-use Rattle.std.proofs.lemmas.Option.{none-some}
 use Rattle.std.proofs.Math.Nat.{le_trans}
-use Rattle.m51_control.specs.declared.control.Control.{Control}
-use Rattle.m51_control.specs.Controls.{AreKept}
-use Rattle.m51_module.specs.declared.linked.Chain.{Chain}
-use Rattle.m51_module.specs.declared.linked.Refusal.{Refusal}
-use Rattle.m51_module.specs.declared.parts.LayoutParts.{LayoutParts}
-use Rattle.m51_module.specs.declared.parts.ModuleParts.{ModuleParts}
-use Rattle.m51_module.specs.declared.placed.Mark.{Mark}
-use Rattle.m51_module.specs.declared.placed.Mark.TheVariants.{Overlaid}
-use Rattle.m51_module.specs.declared.placed.Placed.{Placed}
-use Rattle.m51_module.specs.Chains.{sum_along, weight_of}
-use Rattle.m51_module.specs.Plan.{IsSegment, layout_graph}
-use Rattle.m51_module.specs.Roots.{vectors}
-use Rattle.m51_module.specs.Sound.{IsSound}
-use Rattle.m51_module.specs.Walks.{IsWalk}
-use Rattle.m51_module.specs.Validity.{IsValid}
 use Rattle.m51_module.proofs.Units.{one_root}
-use Rattle.m51_module.proofs.Owning.{contains_behind, first_or_behind, none_in_empty}
-use Rattle.m51_resolve.specs.declared.segment.JoinedSegment.{JoinedSegment}
-use Rattle.m51_resolve.specs.Joining.{segments_of}
-use Rattle.m51_resolve.specs.Rules.{AreResolved}
-use Rattle.m51_graph.specs.declared.parts.GraphParts.{GraphParts}
-use Rattle.m51_graph.specs.Graph.{IsGraph}
 use Rattle.m51_graph.specs.Graph as graph
-use Rattle.m51_graph.specs.Graphs.{graph_of}
-use Rattle.m51_graph.proofs.Climbing.{tally, tally_mono}
-use Rattle.m51_place.specs.declared.numbered.Numbered.{Numbered}
-use Rattle.m51_place.specs.declared.placing.Placing.{Placing}
-use Rattle.m51_place.specs.declared.ranked.Ranked.{Ranked}
-use Rattle.m51_place.specs.Bound.{bytes_passing, count_below, covered_bytes, covers_byte, IsWeight}
-use Rattle.m51_place.specs.Fixed.{fixed_of, shared_extents}
-use Rattle.m51_place.specs.Order.{order_of, own_at, root_number}
-use Rattle.m51_place.specs.Overlay.{before_overlaid, FindsRun, OverlaysData, PlacingIsTight}
-use Rattle.m51_place.specs.Placement.{located_of, parts_of, place_after, placing_from, placing_with}
+use Rattle.m51_graph.proofs.Climbing.{tally_mono}
+use Rattle.m51_place.specs.Bound.{count_below, covered_bytes, IsWeight}
+use Rattle.m51_place.specs.Overlay.{FindsRun, PlacingIsTight}
+use Rattle.m51_place.specs.Placement.{placing_from, placing_with}
 use Rattle.m51_place.proofs.Bytes.{all_bytes, bytes_below, has_byte, has_byte_tells, none_yet, some_yet}
 use Rattle.m51_place.proofs.Heights.{free_bytes, own_of, under_all, unit_bytes}
 use Rattle.m51_place.proofs.LeastWeight.{count_is, least}
@@ -50,7 +26,8 @@ use Rattle.m51_place.proofs.Ranks.{order_ranked}
 use Rattle.m51_place.proofs.Rising.{in_order}
 use Rattle.m51_place.proofs.Segments.{all_joined, graph_is, IsJoined, IsOf}
 use Rattle.m51_place.proofs.SoundLayout.{lies_in, root_out, sound}
-use Rattle.m51_place.proofs.Splitting.{all_from, first_is_not, fixed_bare, from_overlaid, lone_before, order_either, pairs_from, place_on, split}
+use Rattle.m51_place.proofs.Splitting.{all_from, first_is_not, fixed_bare, from_overlaid, lone_before, order_either}
+use Rattle.m51_place.proofs.Splitting.{pairs_from, place_on, split}
 use Rattle.m51_place.proofs.Spots.{IsSpot}
 use Rattle.m51_place.proofs.Tops.{AreTops, tops}
 use Rattle.m51_place.proofs.Totals.{free_total, unit_total}
@@ -75,9 +52,11 @@ both_ways : (a b : ℕ) → a ≤ b → b ≤ a → a ≡ b
 both_ways a b h k = omega (arith, h, k)
 
 -- what lies in a range counts no more than its length
-in_range_most : (n : ℕ) (test : ℕ → Bool) (base size : ℕ) → ((byte : ℕ) → test byte ≡ true → (base ≤ byte) × (byte < base + size)) → count_below test n ≤ size
+in_range_most : (n : ℕ) (test : ℕ → Bool) (base size : ℕ)
+    → ((byte : ℕ) → test byte ≡ true → (base ≤ byte) × (byte < base + size)) → count_below test n ≤ size
 in_range_most n test base size h =
-    let mono = tally_mono test (has_byte base size) n (λ byte passes. (has_byte_tells base size byte).1 (h byte passes)) in
+    let mono =
+    tally_mono test (has_byte base size) n (λ byte passes. (has_byte_tells base size byte).1 (h byte passes)) in
     omega (arith, mono, tally_range n base size, range_most n base size, count_is test n)
 
 -- the extent that is placed so
@@ -88,30 +67,40 @@ record IsImage (xs : List Numbered) (p : Placed) : Type 0 where
 
 from_image : (xs : List Numbered) (p : Placed) → Contains (map (λ (e : Numbered). e.placed) xs) p → IsImage xs p
 from_image [] p h = absurd (none_in_empty p h)
-from_image (x ∷ xs) p h = elim (first_or_behind x.placed (map (λ (e : Numbered). e.placed) xs) p h) as (λ _. IsImage (x ∷ xs) p) [
-  | inl same ↦ record { e = x; there = (0, omega arith, refl); is = same }
-  | inr behind ↦ let rest = from_image xs p behind in record { e = rest.e; there = contains_behind x xs rest.e rest.there; is = rest.is }
-]
+from_image (x ∷ xs) p h =
+    elim (first_or_behind x.placed (map (λ (e : Numbered). e.placed) xs) p h) as (λ _. IsImage (x ∷ xs) p) [
+      | inl same ↦ record { e = x; there = (0, omega arith, refl); is = same }
+      | inr behind ↦ let rest = from_image xs p behind in
+          record { e = rest.e; there = contains_behind x xs rest.e rest.there; is = rest.is }
+    ]
 
 -- an overlaid extent has an own unit
-pub not_bare : (g : GraphParts) (segments : List JoinedSegment) (e : Numbered) (number : Option ℕ) → IsSpot g segments e → e.number ≡ number → e.placed.mark ≡ Overlaid → option_map_or (own_at g) number None ≡ None → ⊥
+pub not_bare : (g : GraphParts) (segments : List JoinedSegment) (e : Numbered) (number : Option ℕ) → IsSpot g segments e
+    → e.number ≡ number → e.placed.mark ≡ Overlaid → option_map_or (own_at g) number None ≡ None → ⊥
 not_bare g segments e None spot is mark none = spot.free is (subst (λ (m : Mark). IsSegment m) (sym mark) tt)
-not_bare g segments e (Some n) spot is mark none = let own = (spot.numbered n is).overlaid mark in none-some own.0 (sym none ∙ own.1)
+not_bare g segments e (Some n) spot is mark none = let own = (spot.numbered n is).overlaid mark in
+    none-some own.0 (sym none ∙ own.1)
 
 -- the layout of a placing is that of what was placed
-pub record IsOfLocated (g : GraphParts) (count : ℕ) (found : Result (List Numbered) Refusal) (p : Placing) : Type 0 where
+pub record IsOfLocated (g : GraphParts) (count : ℕ) (found : Result (List Numbered) Refusal)
+    (p : Placing) : Type 0 where
   pub located : List Numbered
   pub is : found ≡ Ok located
   pub placing : placing_with g count located ≡ p
 
-pub of_located : (g : GraphParts) (count : ℕ) (found : Result (List Numbered) Refusal) (p : Placing) → placing_from g count found ≡ Ok p → IsOfLocated g count found p
+pub of_located : (g : GraphParts) (count : ℕ) (found : Result (List Numbered) Refusal) (p : Placing)
+    → placing_from g count found ≡ Ok p → IsOfLocated g count found p
 of_located g count (Ok located) p h = record { located = located; is = refl; placing = cc h }
 of_located g count (Err refusal) p h = absurd (cc h)
 
 module _ (modules : List ModuleParts) (controls : List (ℕ × Control)) (g : GraphParts) (low high weight : ℕ)
-    (valid : All IsValid modules) (resolved : AreResolved modules) (kept : AreKept controls) (is : IsGraph g) (graph_is_of : graph_of modules controls ≡ Ok g)
-    (data_only : OverlaysData (segments_of modules) g) (finds : FindsRun g (fixed_of modules controls (segments_of modules)) (order_of g controls (segments_of modules)) low high)
-    (located : List Numbered) (located_is : located_of modules controls g ≡ Ok located) (h : IsWeight (parts_of g located) weight) where
+    (valid : All IsValid modules) (resolved : AreResolved modules) (kept : AreKept controls) (is : IsGraph g)
+    (graph_is_of : graph_of modules controls ≡ Ok g)
+    (data_only : OverlaysData (segments_of modules) g)
+    (finds : FindsRun g (fixed_of modules controls (segments_of modules))
+    (order_of g controls (segments_of modules)) low high)
+    (located : List Numbered) (located_is : located_of modules controls g ≡ Ok located)
+    (h : IsWeight (parts_of_layout g located) weight) where
   abbrev segments : List JoinedSegment
   segments = segments_of modules
 
@@ -122,7 +111,7 @@ module _ (modules : List ModuleParts) (controls : List (ℕ × Control)) (g : Gr
   order = order_of g controls segments
 
   abbrev l : LayoutParts
-  l = parts_of g located
+  l = parts_of_layout g located
 
   shape : IsOf segments controls g
   shape = graph_is modules controls g graph_is_of
@@ -146,18 +135,27 @@ module _ (modules : List ModuleParts) (controls : List (ℕ × Control)) (g : Gr
   -- the extents placed before it are plain
   front_plain : All (λ (e : Numbered). own_of g e ≡ None) finds.extents
   front_plain =
-      let added = adds_plain g (before_overlaid order) fixed finds.extents (lone_before g segments order (order_ranked g controls segments)) finds.placed in
+      let added =
+      adds_plain g (before_overlaid order) fixed finds.extents
+      (lone_before g segments order (order_ranked g controls segments)) finds.placed in
       subst (λ (es : List Numbered). All (λ (e : Numbered). own_of g e ≡ None) es) (sym added.are)
-      (All-append (λ (e : Numbered). own_of g e ≡ None) fixed added.later (fixed_bare g modules controls segments shape joined kept.each) added.plain)
+      (All-append (λ (e : Numbered). own_of g e ≡ None) fixed added.later
+      (fixed_bare g modules controls segments shape joined kept.each) added.plain)
 
   all_tops : AreTops (layout_graph l) (weight_of l) vectors (sum_by (λ (c : Chain). c.bytes) h.chains)
   all_tops = tops (layout_graph l) (weight_of l) (one_root l layout_sound) vectors h.chains h.heaviest
 
-  holds : (k root : ℕ) (more : List ℕ) → k < 7 → graph.IsRootAt g (get_or vectors k 0) root → IsWalk g.edges root more → all_tops.top k + sum_along (weight_of l) (root ∷ more) ≤ all_tops.top (suc k)
-  holds k root more below is_root walk = all_tops.holds k root more below (root_out segments controls g shape is located whole (get_or vectors k 0) root is_root) walk
+  holds : (k root : ℕ) (more : List ℕ) → k < 7 → graph.IsRootAt g (get_or vectors k 0) root → IsWalk g.edges root more
+      → all_tops.top k + sum_along (weight_of l) (root ∷ more) ≤ all_tops.top (suc k)
+  holds k root more below is_root walk =
+      all_tops.holds k root more below
+      (root_out segments controls g shape is located whole (get_or vectors k 0) root is_root) walk
 
   free_there : (unit : ℕ) → root_number g unit ≡ 7 → h.free unit ≡ true
-  free_there unit end = (h.tells unit).1 (λ vector lies. no_root g is unit end vector (lies_in segments controls g shape is located whole vector unit lies))
+  free_there unit end =
+      (h.tells unit).1
+      (λ vector lies. no_root g is unit end vector
+      (lies_in segments controls g shape is located whole vector unit lies))
 
   total : (unit : ℕ) → sum_by (unit_bytes g unit) located ≤ weight_of l unit
   total = unit_total segments controls g shape is located whole data_only
@@ -166,11 +164,15 @@ module _ (modules : List ModuleParts) (controls : List (ℕ × Control)) (g : Gr
   plain_at e there = All-contains (λ (x : Numbered). own_of g x ≡ None) finds.extents e front_plain there
 
   abbrev Piles : Type 0
-  Piles = ArePiled g is (weight_of l) low high all_tops.top h.free all_tops.rises holds free_there finds.extents finds.run plain_at located total
+  Piles = ArePiled g is
+      (weight_of l)
+      low high all_tops.top h.free all_tops.rises holds free_there finds.extents finds.run plain_at located total
 
   piles : Piles
   piles =
-      piled_from g is (weight_of l) low high all_tops.top h.free all_tops.rises holds free_there finds.extents finds.run plain_at located total
+      piled_from g is
+      (weight_of l)
+      low high all_tops.top h.free all_tops.rises holds free_there finds.extents finds.run plain_at located total
       (from_overlaid order) (first_is_not g controls segments data_only)
       (all_from (IsEither g) order (order_either g controls segments data_only))
       (pairs_from order (in_order g controls segments).rises) rest_placed
@@ -179,11 +181,19 @@ module _ (modules : List ModuleParts) (controls : List (ℕ × Control)) (g : Gr
   done = piles.done
 
   abbrev Laid : Numbered → Type 0
-  Laid e = IsLaid g is (weight_of l) low high all_tops.top h.free all_tops.rises holds free_there finds.extents finds.run plain_at done [] e
+  Laid e = IsLaid g is
+      (weight_of l)
+      low high all_tops.top h.free all_tops.rises holds free_there finds.extents finds.run plain_at done [] e
 
   -- sums over the overlaid segments are at most those over all
   part_sum : (f : Numbered → ℕ) → sum_by f done ≤ sum_by f located
-  part_sum f = omega (arith, ap (sum_by f) piles.are, sum_by-append f (finds.extents ++ done) piles.others, sum_by-append f finds.extents done)
+  part_sum f =
+      omega (
+        arith,
+        ap (sum_by f) piles.are,
+        sum_by-append f (finds.extents ++ done) piles.others,
+        sum_by-append f finds.extents done,
+      )
 
   -- where an overlaid segment lies
   record IsIn (byte : ℕ) : Type 0 where
@@ -199,9 +209,17 @@ module _ (modules : List ModuleParts) (controls : List (ℕ × Control)) (g : Gr
       let some : 0 < laid.t.segment.size = omega (arith, inside.0, inside.1, size) in
       let from = laid.from some in
       let till = laid.till some in
-      let unit_most : sum_by (unit_bytes g laid.unit) done ≤ weight_of l laid.unit = omega (arith, part_sum (unit_bytes g laid.unit), total laid.unit) in
-      let most = under_all g (weight_of l) low all_tops.top h.free all_tops.rises holds (root_above g is) (few_roots g is) free_there done laid.unit (laid.base + laid.t.segment.size) unit_most (laid.ends some) in
-      let free : sum_by (free_bytes g h.free) done ≤ bytes_passing l h.free 0 l.placed = omega (arith, part_sum (free_bytes g h.free), free_total segments controls g shape is located whole data_only h.free) in
+      let unit_most : sum_by (unit_bytes g laid.unit) done ≤ weight_of l laid.unit =
+      omega (arith, part_sum (unit_bytes g laid.unit), total laid.unit) in
+      let most =
+      under_all g (weight_of l) low all_tops.top h.free all_tops.rises holds (root_above g is)
+      (few_roots g is) free_there done laid.unit (laid.base + laid.t.segment.size) unit_most (laid.ends some) in
+      let free : sum_by (free_bytes g h.free) done ≤ bytes_passing l h.free 0 l.placed =
+      omega (
+        arith,
+        part_sum (free_bytes g h.free),
+        free_total segments controls g shape is located whole data_only h.free,
+      ) in
       let last : all_tops.top 7 ≡ sum_by (λ (c : Chain). c.bytes) h.chains = all_tops.last in
       record {
         from = omega (arith, from, base, inside.0);
@@ -210,7 +228,8 @@ module _ (modules : List ModuleParts) (controls : List (ℕ × Control)) (g : Gr
       }
 
   bare_out : (e : Numbered) → Contains located e → e.placed.mark ≡ Overlaid → own_of g e ≡ None → ⊥
-  bare_out e there mark none = not_bare g segments e e.number (All-contains (IsSpot g segments) located e whole.spots there) refl mark none
+  bare_out e there mark none =
+      not_bare g segments e e.number (All-contains (IsSpot g segments) located e whole.spots there) refl mark none
 
   covered_in : (byte : ℕ) → list_any (covers_byte byte) l.placed ≡ true → IsIn byte
   covered_in byte covers =
@@ -219,10 +238,15 @@ module _ (modules : List ModuleParts) (controls : List (ℕ × Control)) (g : Gr
       let both = and_parts (is_data p) (has_byte p.base p.size byte) any.4 in
       let image = from_image located p (any.0, any.2, any.3) in
       let e : Numbered = image.e in
-      let mark : e.placed.mark ≡ Overlaid = ap (λ (x : Placed). x.mark) image.is ∙ (data_kind p.kind p.reloc p.mark both.0).1 in
-      let has : has_byte e.placed.base e.placed.size byte ≡ true = ap (λ (x : Placed). has_byte x.base x.size byte) image.is ∙ both.1 in
-      elim (Contains-append_cases (finds.extents ++ done) piles.others e (subst (λ (es : List Numbered). Contains es e) piles.are image.there)) as (λ _. IsIn byte) [
-        | inr other ↦ absurd (bare_out e image.there mark (All-contains (λ (x : Numbered). own_of g x ≡ None) piles.others e piles.plain_others other))
+      let mark : e.placed.mark ≡ Overlaid = ap (λ (x : Placed). x.mark) image.is
+      ∙ (data_kind p.kind p.reloc p.mark both.0).1 in
+      let has : has_byte e.placed.base e.placed.size byte ≡ true =
+      ap (λ (x : Placed). has_byte x.base x.size byte) image.is ∙ both.1 in
+      elim (Contains-append_cases (finds.extents ++ done) piles.others e
+      (subst (λ (es : List Numbered). Contains es e) piles.are image.there)) as (λ _. IsIn byte) [
+        | inr other ↦ absurd
+            (bare_out e image.there mark
+            (All-contains (λ (x : Numbered). own_of g x ≡ None) piles.others e piles.plain_others other))
         | inl part ↦ elim (Contains-append_cases finds.extents done e part) as (λ _. IsIn byte) [
           | inl front ↦ absurd (bare_out e image.there mark (plain_at e front))
           | inr in_done ↦ laid_in e byte (All-contains Laid done e piles.laid in_done) has
@@ -232,16 +256,19 @@ module _ (modules : List ModuleParts) (controls : List (ℕ × Control)) (g : Gr
   tight : (covered_bytes l ≡ weight) × (low ≤ high) × (weight ≤ high - low)
   tight =
       let test : ℕ → Bool = λ byte. list_any (covers_byte byte) l.placed in
-      let most = in_range_most 256 test low weight (λ byte covers. let at = covered_in byte covers in (at.from, at.weighs)) in
+      let most =
+      in_range_most 256 test low weight (λ byte covers. let at = covered_in byte covers in (at.from, at.weighs)) in
       let run_is : low + (high - low) ≡ high = omega (arith, finds.run.order) in
-      let room = in_range_most 256 test low (high - low) (λ byte covers. let at = covered_in byte covers in (at.from, omega (arith, at.till, run_is))) in
+      let room =
+      in_range_most 256 test low (high - low)
+      (λ byte covers. let at = covered_in byte covers in (at.from, omega (arith, at.till, run_is))) in
       let bound = least l weight layout_sound h in
       (both_ways _ _ most bound, finds.run.order, le_trans bound room)
 
 pub placing_tight : PlacingIsTight
 placing_tight modules controls g p low high weight valid resolved kept is graph_is_of placed data_only finds h =
     let of = of_located g (length (segments_of modules)) (located_of modules controls g) p placed in
-    let same : parts_of g of.located ≡ p.layout = ap (λ (x : Placing). x.layout) of.placing in
+    let same : parts_of_layout g of.located ≡ p.layout = ap (λ (x : Placing). x.layout) of.placing in
     subst (λ (l : LayoutParts). (covered_bytes l ≡ weight) × (low ≤ high) × (weight ≤ high - low)) same
     (tight modules controls g low high weight valid resolved kept is graph_is_of data_only finds of.located of.is
     (subst (λ (l : LayoutParts). IsWeight l weight) (sym same) h))

@@ -95,8 +95,8 @@ first_met earlier e = position (λ (q : Numbered). share (extent_at q.placed) (e
 
 abbrev pub shared_at : List Numbered → Numbered → Option ℕ → Option Refusal
 shared_at earlier e None = None
-shared_at earlier e (Some place) =
-    option_map (λ (q : Numbered). L9 q.placed.title e.placed.title) (slice_get earlier place)
+shared_at earlier e (Some index) =
+    option_map (λ (q : Numbered). L9 q.placed.title e.placed.title) (slice_get earlier index)
 
 -- L9: the first extent that meets an earlier one, and the first that it meets
 abbrev pub shared_after : List Numbered → List Numbered → Option Refusal

@@ -53,9 +53,10 @@ pub record IsNext (l : LayoutParts) (best : List ℕ) (u v : ℕ) : Type 0 where
   pub least : (w : ℕ) → w < v → HasEdge l.edges u w → weight_of l u + slice_index best w ≢ slice_index best u
 
 -- the walk from the unit that is extended as long as that adds bytes
-abbrev pub GoesOn : LayoutParts → List ℕ → ℕ → List ℕ → Type 0
-GoesOn l best u [] = slice_index best u ≡ weight_of l u
-GoesOn l best u (v ∷ more) = (slice_index best u ≢ weight_of l u) × IsNext l best u v × GoesOn l best v more
+abbrev pub FollowsHeaviest : LayoutParts → List ℕ → ℕ → List ℕ → Type 0
+FollowsHeaviest l best u [] = slice_index best u ≡ weight_of l u
+FollowsHeaviest l best u (v ∷ more) = (slice_index best u ≢ weight_of l u) × IsNext l best u v
+    × FollowsHeaviest l best v more
 
 -- the edge leads from the unit to one whose heaviest walk has, with the bytes of the unit, as many bytes as that from
 -- the unit
@@ -84,11 +85,11 @@ Steps l best unit (Some v) = (slice_index best unit ≢ weight_of l unit) × IsN
 pub record IsFront (l : LayoutParts) (best : List ℕ) (root unit : ℕ) (units : List ℕ) : Type 0 where
   pub front : List ℕ
   pub are : units ≡ root ∷ front
-  pub goes : (more : List ℕ) → GoesOn l best unit more → GoesOn l best root (front ++ more)
+  pub goes : (more : List ℕ) → FollowsHeaviest l best unit more → FollowsHeaviest l best root (front ++ more)
   pub below : unit < length l.units
 
 -- the units of the heaviest walk from a root
 pub record IsHeaviestFrom (l : LayoutParts) (best : List ℕ) (root : ℕ) (units : List ℕ) : Type 0 where
   pub more : List ℕ
   pub are : units ≡ root ∷ more
-  pub goes : GoesOn l best root more
+  pub goes : FollowsHeaviest l best root more

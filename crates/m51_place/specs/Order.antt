@@ -37,13 +37,13 @@ class_number (Some CodeClass) = 5
 class_number None = 6
 
 -- the names that a line orders of this class
-abbrev pub names_in : Option Class → Control → List (List ℕ)
-names_in (Some class) (Order other names) = if same_class class other then names else []
-names_in class other = []
+abbrev pub names_ordered_by : Option Class → Control → List (List ℕ)
+names_ordered_by (Some class) (Order other names) = if same_class class other then names else []
+names_ordered_by class other = []
 
 -- the names that lines order of this class, in the order of lines and names
 abbrev pub ordered_names : List (ℕ × Control) → Option Class → List (List ℕ)
-ordered_names controls class = flat_map (λ (line : ℕ × Control). names_in class line.1) controls
+ordered_names controls class = flat_map (λ (line : ℕ × Control). names_ordered_by class line.1) controls
 
 -- the kind is IDATA
 abbrev pub is_idata : Kind → Bool
@@ -55,9 +55,9 @@ abbrev pub is_stack : JoinedSegment → Bool
 is_stack j = is_idata j.kind && bytes_eq j.title (codes "?STACK")
 
 -- the group of a plain segment: by its first naming, if a line orders it
-abbrev pub plain_group : JoinedSegment → Option ℕ → Group
-plain_group j (Some naming) = Named naming
-plain_group j None = if is_stack j then Stack else Plain
+abbrev pub group_unless_overlaid : JoinedSegment → Option ℕ → Group
+group_unless_overlaid j (Some naming) = Named naming
+group_unless_overlaid j None = if is_stack j then Stack else Plain
 
 -- the first naming of the segment among those of its class, if a line orders it
 abbrev pub naming_of : List (ℕ × Control) → JoinedSegment → Option ℕ
@@ -71,7 +71,7 @@ root_number g unit = position_or_len (λ vector. lies_under (leads g.edges) g.ro
 -- the group of a segment with this own unit, if it is overlaid: then by the root above the unit and the unit's level
 abbrev pub group_of : GraphParts → List (ℕ × Control) → JoinedSegment → Option ℕ → Group
 group_of g controls j (Some unit) = Overlaid (root_number g unit) (level_of g.edges unit)
-group_of g controls j None = plain_group j (naming_of controls j)
+group_of g controls j None = group_unless_overlaid j (naming_of controls j)
 
 -- the rank of a segment: by class, by group, and by joined number
 abbrev pub rank_of : GraphParts → List (ℕ × Control) → ℕ → JoinedSegment → Option ℕ → Rank
@@ -99,18 +99,18 @@ group_number (Overlaid root level) = 2
 group_number Stack = 3
 
 -- in its group a named segment comes by its naming, and an overlaid one by the root above its unit
-abbrev pub first_of : Group → ℕ
-first_of (Named naming) = naming
-first_of Plain = 0
-first_of (Overlaid root level) = root
-first_of Stack = 0
+abbrev pub first_sort_key : Group → ℕ
+first_sort_key (Named naming) = naming
+first_sort_key Plain = 0
+first_sort_key (Overlaid root level) = root
+first_sort_key Stack = 0
 
 -- and then by the level of the unit
-abbrev pub second_of : Group → ℕ
-second_of (Named naming) = 0
-second_of Plain = 0
-second_of (Overlaid root level) = level
-second_of Stack = 0
+abbrev pub second_sort_key : Group → ℕ
+second_sort_key (Named naming) = 0
+second_sort_key Plain = 0
+second_sort_key (Overlaid root level) = level
+second_sort_key Stack = 0
 
 -- the first number is less, or it is the same and what follows decides
 abbrev pub before_by : ℕ → ℕ → Bool → Bool
@@ -120,7 +120,7 @@ before_by one two next = nat_lt one two || (nat_eq one two && next)
 abbrev pub group_before : Group → Group → Bool → Bool
 group_before a b next =
     before_by (group_number a) (group_number b)
-    (before_by (first_of a) (first_of b) (before_by (second_of a) (second_of b) next))
+    (before_by (first_sort_key a) (first_sort_key b) (before_by (second_sort_key a) (second_sort_key b) next))
 
 -- one rank comes before another
 abbrev pub comes_before : Rank → Rank → Bool

@@ -67,8 +67,8 @@ abbrev pub is_number : ℕ → Numbered → Bool
 is_number number e = option_map_or (nat_eq number) e.number false
 
 -- the index of the joined segment of that number
-unfoldable pub place_of : List Numbered → ℕ → ℕ
-place_of located number = unwrap_or (position (is_number number) located) 0
+unfoldable pub joined_index : List Numbered → ℕ → ℕ
+joined_index located number = unwrap_or (position (is_number number) located) 0
 
 -- the owners of the extent, if it is overlaid
 abbrev pub owners_of_extent : GraphParts → Numbered → List ℕ
@@ -84,10 +84,10 @@ owner_pairs g index [] = []
 owner_pairs g index (e ∷ more) = pairs_with index (owners_of_extent g e) ++ owner_pairs g (index + 1) more
 
 -- the parts of a layout with these extents
-abbrev pub parts_of : GraphParts → List Numbered → LayoutParts
-parts_of g located = record {
+abbrev pub parts_of_layout : GraphParts → List Numbered → LayoutParts
+parts_of_layout g located = record {
   placed = map (λ (e : Numbered). e.placed) located;
-  units = map (place_of located) g.units;
+  units = map (joined_index located) g.units;
   edges = g.edges;
   owners = owner_pairs g 0 located;
 }
@@ -101,7 +101,7 @@ located_of modules controls g =
 -- the layout of these extents, and the index among them of each of `count` joined segments
 abbrev pub placing_with : GraphParts → ℕ → List Numbered → Placing
 placing_with g count located =
-    record { layout = parts_of g located; places = map (place_of located) (range_with_len 0 count) }
+    record { layout = parts_of_layout g located; indices = map (joined_index located) (range_with_len 0 count) }
 
 abbrev pub placing_from : GraphParts → ℕ → Result (List Numbered) Refusal → Result Placing Refusal
 placing_from g count (Ok located) = Ok (placing_with g count located)

@@ -26,7 +26,7 @@ pub record IsPlacedAs (l : LayoutParts) (index : ℕ) (j : JoinedSegment) : Type
 
 -- Each joined segment has an index: that of an extent of the layout, which is the segment.
 pub record ArePlaces (segments : List JoinedSegment) (p : Placing) : Type 0 where
-  pub len : length p.places ≡ length segments
-  pub below : (k : ℕ) → k < length p.places → slice_index p.places k < length p.layout.placed
+  pub len : length p.indices ≡ length segments
+  pub below : (k : ℕ) → k < length p.indices → slice_index p.indices k < length p.layout.placed
   pub each : (number : ℕ) (j : JoinedSegment) → slice_get segments number ≡ Some j
-      → IsPlacedAs p.layout (slice_index p.places number) j
+      → IsPlacedAs p.layout (slice_index p.indices number) j

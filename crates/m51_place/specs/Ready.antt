@@ -11,7 +11,7 @@ pub record IsNumbered (g : GraphParts) (e : Numbered) : Type 0 where
   pub inside : (number : ℕ) → e.number ≡ Some number → number < length g.own
 
 -- the segment is a joined segment of the graph, and its kind allows its type
-pub record IsReady (g : GraphParts) (t : Ranked) : Type 0 where
+pub record IsPlaceable (g : GraphParts) (t : Ranked) : Type 0 where
   pub inside : t.number < length g.own
   pub kind : t.segment.kind ≢ Number
   pub reloc : allows t.segment.kind t.segment.reloc ≡ true

@@ -5,7 +5,7 @@ ghost use Rattle.m51_module.specs.Cells.{extent_at};
 ghost use Rattle.std.specs.List.{All};
 ghost use Rattle.m51_place.specs.Bases.{share};
 ghost use Rattle.m51_place.specs.Placement.{base_for};
-ghost use Rattle.m51_place.specs.Ready.{IsNumbered, IsReady};
+ghost use Rattle.m51_place.specs.Ready.{IsNumbered, IsPlaceable};
 
 use crate::conflicts::in_the_way;
 use crate::{Numbered, Ranked};
@@ -85,7 +85,7 @@ pub(crate) fn base_for(
     earlier: &[Numbered],
     ranked: &Ranked,
 ) -> Result<Option<u16>, NoMemory>
-    requires ranked { IsReady graph.now ranked.now }
+    requires ranked { IsPlaceable graph.now ranked.now }
     requires earlier { All (IsNumbered graph.now) earlier.now }
     ensures { IfOk result (λ base. base ≡ base_for graph.now earlier.now ranked.now) }
 {

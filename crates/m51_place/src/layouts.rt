@@ -5,7 +5,8 @@ ghost use Rattle.std.specs.List.{All, range_with_len};
 ghost use Rattle.m51_cells.specs.declared.limits.TheConstants.{MOST_SEGMENTS};
 ghost use Rattle.m51_graph.specs.Drawing.{edge_test};
 ghost use Rattle.m51_place.specs.Conflicts.{callers_of, is_argument_at, owners_at, owners_with};
-ghost use Rattle.m51_place.specs.Placement.{is_number, owner_pairs, owners_of_extent, pairs_with, parts_of, place_of};
+ghost use Rattle.m51_place.specs.Placement.{is_number, owner_pairs, owners_of_extent, pairs_with, parts_of_layout};
+ghost use Rattle.m51_place.specs.Placement.{joined_index};
 ghost use Rattle.m51_place.specs.Ready.{IsNumbered};
 
 use crate::Numbered;
@@ -26,20 +27,20 @@ fn is_number(number: u16, extent: &Numbered) -> bool
 
 // The index of the joined segment of that number among these extents.
 fn first_numbered(located: &[Numbered], number: u16) -> Option<usize>
-    ensures place { result ≡ position (is_number number) located.now }
-    ensures inside { IfSome result (λ place. place < length located.now) }
+    ensures index { result ≡ position (is_number number) located.now }
+    ensures inside { IfSome result (λ index. index < length located.now) }
 {
     located.iter().position(|extent| is_number(number, extent))
 }
 
 // The same; 0 if none of them has that number.
-#[tactic(auto, unfolding(crate::specs::Placement::place_of))]
-fn place_of(located: &[Numbered], number: u16) -> u16
+#[tactic(auto, unfolding(crate::specs::Placement::joined_index))]
+fn joined_index(located: &[Numbered], number: u16) -> u16
     requires { length located.now < 65536 }
-    ensures { result ≡ place_of located.now number }
+    ensures { result ≡ joined_index located.now number }
 {
     match first_numbered(located, number) {
-        Some(place) => place as u16,
+        Some(index) => index as u16,
         None => 0,
     }
 }
@@ -47,30 +48,30 @@ fn place_of(located: &[Numbered], number: u16) -> u16
 // The indices of the joined segments of these numbers.
 fn places_of(alloc: Global, located: &[Numbered], numbers: &[u16]) -> Result<Vec<u16>, NoMemory>
     requires { length located.now < 65536 }
-    ensures { IfOk result (λ places. places.items ≡ map (place_of located.now) numbers.now) }
+    ensures { IfOk result (λ indices. indices.items ≡ map (joined_index located.now) numbers.now) }
 {
-    let mut places = Vec::new(alloc);
+    let mut indices = Vec::new(alloc);
     for number in numbers {
-        places.push(place_of(located, *number))?;
+        indices.push(joined_index(located, *number))?;
     }
-    Ok(places)
+    Ok(indices)
 }
 
 // The indices of the extents of the first `count` joined segments.
-pub(crate) fn places(
+pub(crate) fn indices(
     alloc: Global,
     located: &[Numbered],
     count: usize,
 ) -> Result<Vec<u16>, NoMemory>
     requires few { length located.now < 65536 }
     requires count { count ≤ MOST_SEGMENTS }
-    ensures { IfOk result (λ places. places.items ≡ map (place_of located.now) (range_with_len 0 count)) }
+    ensures { IfOk result (λ indices. indices.items ≡ map (joined_index located.now) (range_with_len 0 count)) }
 {
-    let mut places = Vec::new(alloc);
+    let mut indices = Vec::new(alloc);
     for number in 0..count {
-        places.push(place_of(located, number as u16))?;
+        indices.push(joined_index(located, number as u16))?;
     }
-    Ok(places)
+    Ok(indices)
 }
 
 // The extents only.
@@ -183,14 +184,14 @@ fn owner_pairs(
 }
 
 // The parts of the layout of what was placed.
-pub(crate) fn parts_of(
+pub(crate) fn parts_of_layout(
     alloc: Global,
     graph: &Graph,
     located: &[Numbered],
 ) -> Result<LayoutParts, NoMemory>
     requires few { length located.now < 65536 }
     requires numbered { All (IsNumbered graph.now) located.now }
-    ensures { IfOk result (λ parts. parts ≡ parts_of graph.now located.now) }
+    ensures { IfOk result (λ parts. parts ≡ parts_of_layout graph.now located.now) }
 {
     let parts = graph.parts();
     let placed = placed_of(alloc, located)?;

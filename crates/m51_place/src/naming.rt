@@ -2,7 +2,7 @@
 ghost use Rattle.std.specs.Prelude.{◌≡◌, position, IfOk};
 ghost use Rattle.std.specs.Str.{bytes_eq};
 ghost use Rattle.m51_place.specs.Naming.{AreNamings};
-ghost use Rattle.m51_place.specs.Order.{names_in, naming_of, ordered_names};
+ghost use Rattle.m51_place.specs.Order.{names_ordered_by, naming_of, ordered_names};
 
 use m51_cells::{Name, NoMemory};
 use m51_control::{Class, Control, class_of, same_class};
@@ -25,8 +25,8 @@ pub struct Namings {
 }
 
 // The names that a line orders of this class.
-fn names_in(class: Option<Class>, control: &Control) -> &[Name]
-    ensures { result.now ≡ names_in class control.now }
+fn names_ordered_by(class: Option<Class>, control: &Control) -> &[Name]
+    ensures { result.now ≡ names_ordered_by class control.now }
 {
     match (class, control) {
         (Some(class), Control::Order(other, names)) if same_class(class, *other) =>
@@ -45,7 +45,7 @@ fn ordered_names(
 {
     let mut names = Vec::new(alloc);
     for line in controls {
-        names.extend_from_slice(names_in(class, &line.1))?;
+        names.extend_from_slice(names_ordered_by(class, &line.1))?;
     }
     Ok(names)
 }

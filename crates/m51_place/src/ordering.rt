@@ -8,9 +8,11 @@ ghost use Rattle.m51_module.specs.Roots.{vectors};
 ghost use Rattle.m51_graph.specs.Graphs.{lies_under};
 ghost use Rattle.m51_graph.specs.Leading.{leads};
 ghost use Rattle.m51_place.specs.Naming.{AreNamings};
-ghost use Rattle.m51_place.specs.Order.{before_by, class_number, comes_before, first_of, group_before, group_number};
-ghost use Rattle.m51_place.specs.Order.{group_of, is_idata, is_stack, order_of, own_at, plain_group, put, put_all};
-ghost use Rattle.m51_place.specs.Order.{rank_of, ranked_of, ranked_from, root_number, second_of};
+ghost use Rattle.m51_place.specs.Order.{before_by, class_number, comes_before, first_sort_key, group_before};
+ghost use Rattle.m51_place.specs.Order.{group_number};
+ghost use Rattle.m51_place.specs.Order.{group_of, is_idata, is_stack, order_of, own_at, group_unless_overlaid, put};
+ghost use Rattle.m51_place.specs.Order.{put_all};
+ghost use Rattle.m51_place.specs.Order.{rank_of, ranked_of, ranked_from, root_number, second_sort_key};
 
 use crate::naming::{Namings, class_namings, naming_of};
 use crate::{Group, Rank, Ranked};
@@ -48,8 +50,8 @@ fn group_number(group: Group) -> usize
 }
 
 // The first key within a group: the naming of a named segment, the root of an overlaid one.
-fn first_of(group: Group) -> usize
-    ensures { result ≡ first_of group }
+fn first_sort_key(group: Group) -> usize
+    ensures { result ≡ first_sort_key group }
 {
     match group {
         Group::Named { naming } => naming,
@@ -59,8 +61,8 @@ fn first_of(group: Group) -> usize
 }
 
 // The second key within a group: the level of the unit of an overlaid segment.
-fn second_of(group: Group) -> u16
-    ensures { result ≡ second_of group }
+fn second_sort_key(group: Group) -> u16
+    ensures { result ≡ second_sort_key group }
 {
     match group {
         Group::Overlaid { root: _, level } => level,
@@ -85,9 +87,9 @@ fn is_stack(segment: &JoinedSegment) -> bool
     is_idata(segment.kind) && segment.title.bytes() == b"?STACK".as_slice()
 }
 
-// The group of a plain segment.
-fn plain_group(segment: &JoinedSegment, naming: Option<usize>) -> Group
-    ensures { result ≡ plain_group segment.now naming }
+// The group of a segment that is not overlaid: by its naming, if a line orders it.
+fn group_unless_overlaid(segment: &JoinedSegment, naming: Option<usize>) -> Group
+    ensures { result ≡ group_unless_overlaid segment.now naming }
 {
     match naming {
         Some(naming) => Group::Named { naming },
@@ -102,9 +104,9 @@ fn root_number(graph: &Graph, unit: u16) -> usize
     ensures { result ≡ root_number graph.now unit }
 {
     let mut bits = graph.roots_of(unit);
-    for place in 0..7 {
+    for index in 0..7 {
         if bits % 2 == 1 {
-            return place;
+            return index;
         }
         bits /= 2;
     }
@@ -123,11 +125,11 @@ fn group_before(one: Group, two: Group, next: bool) -> bool
     ensures { result ≡ group_before one two next }
 {
     let by_second = before_by(
-        usize::from(second_of(one)),
-        usize::from(second_of(two)),
+        usize::from(second_sort_key(one)),
+        usize::from(second_sort_key(two)),
         next,
     );
-    let by_first = before_by(first_of(one), first_of(two), by_second);
+    let by_first = before_by(first_sort_key(one), first_sort_key(two), by_second);
     before_by(group_number(one), group_number(two), by_first)
 }
 
@@ -139,10 +141,10 @@ fn comes_before(one: &Rank, two: &Rank) -> bool
     before_by(class_number(one.class), class_number(two.class), by_group)
 }
 
-// The index in the order of the first segment before which one of this rank comes.
+// The index of the first segment in the order that one of this rank comes before.
 fn first_after(order: &[Ranked], rank: &Rank) -> Option<usize>
-    ensures place { result ≡ position (λ t. comes_before rank.now t.rank) order.now }
-    ensures inside { IfSome result (λ place. place < length order.now) }
+    ensures index { result ≡ position (λ t. comes_before rank.now t.rank) order.now }
+    ensures inside { IfSome result (λ index. index < length order.now) }
 {
     order
         .iter()
@@ -150,12 +152,12 @@ fn first_after(order: &[Ranked], rank: &Rank) -> Option<usize>
 }
 
 // The index in the order for one of this rank: the end, where it comes before none.
-fn place_for(order: &[Ranked], rank: &Rank) -> usize
-    ensures place { result ≡ unwrap_or (position (λ t. comes_before rank.now t.rank) order.now) (length order.now) }
+fn index_for(order: &[Ranked], rank: &Rank) -> usize
+    ensures index { result ≡ unwrap_or (position (λ t. comes_before rank.now t.rank) order.now) (length order.now) }
     ensures inside { result ≤ length order.now }
 {
     match first_after(order, rank) {
-        Some(place) => place,
+        Some(index) => index,
         None => order.len(),
     }
 }
@@ -164,12 +166,12 @@ fn place_for(order: &[Ranked], rank: &Rank) -> usize
 fn put(order: &mut Vec<Ranked>, ranked: &Ranked) -> Result<(), NoMemory>
     ensures { OnOk result (order.new.items ≡ put ranked.now order.old.items) }
 {
-    let place = place_for(order, &ranked.rank);
-    order.insert(place, *ranked)?;
+    let index = index_for(order, &ranked.rank);
+    order.insert(index, *ranked)?;
     Ok(())
 }
 
-// The group of a segment with this own unit, if it is overlaid.
+// The group of a segment; `own` is its unit if it is overlaid.
 fn group_of(
     graph: &Graph,
     namings: &Namings,
@@ -186,7 +188,7 @@ fn group_of(
             root: root_number(graph, unit),
             level: graph.level(unit),
         },
-        None => plain_group(segment, naming_of(namings, controls, segment)),
+        None => group_unless_overlaid(segment, naming_of(namings, controls, segment)),
     }
 }
 
@@ -249,7 +251,9 @@ fn in_order(alloc: Global, ranked: &[Ranked]) -> Result<Vec<Ranked>, NoMemory>
 
 /// The relocatable segments in the order in which they are placed.
 ///
-/// Source: RL51 guide.
+/// Error: out of memory.
+///
+/// Source: RL51 guide; own choice ("Order of placing").
 pub(crate) fn order(
     alloc: Global,
     graph: &Graph,

@@ -9,11 +9,11 @@ ghost use Rattle.m51_graph.specs.Graphs.{graph_of};
 ghost use Rattle.m51_place.specs.declared.numbered.Numbered.{Numbered};
 ghost use Rattle.m51_place.specs.Places.{ArePlaces};
 ghost use Rattle.m51_place.specs.Placement.{layout_of, located_at, located_of, mark_of, place_after, placing_of};
-ghost use Rattle.m51_place.specs.Ready.{IsNumbered, IsReady};
+ghost use Rattle.m51_place.specs.Ready.{IsNumbered, IsPlaceable};
 
 use crate::bases::base_for;
 use crate::fixed::{add, fixed};
-use crate::layouts::{parts_of, places};
+use crate::layouts::{indices, parts_of_layout};
 use crate::ordering::order;
 use crate::sharing::check_shared;
 use crate::{Numbered, Ranked};
@@ -31,7 +31,7 @@ use std::alloc::Global;
 pub struct Placing {
     pub layout: Layout,
     /// For each joined segment its index among the placed extents.
-    pub places: Units,
+    pub indices: Units,
 }
 
 // The mark of a relocatable segment with this own unit.
@@ -69,7 +69,7 @@ fn place_after(
     earlier: Vec<Numbered>,
     order: &[Ranked],
 ) -> Result<Vec<Numbered>, Refusal>
-    requires order { All (IsReady graph.now) order.now }
+    requires order { All (IsPlaceable graph.now) order.now }
     requires earlier { All (IsNumbered graph.now) earlier.items }
     ensures { Gives (λ (located : Vec Numbered). located.items) but_memory result
         (place_after graph.now earlier.items order.now) }
@@ -122,19 +122,19 @@ pub fn place_all(
 ) -> Result<Placing, Refusal>
     requires { graph_of joined.now controls.now ≡ Ok graph.now }
     ensures value { Gives (λ p. p) but_memory result (placing_of joined.now controls.now graph.now) }
-    ensures places { IfOk result (λ p. ArePlaces (segments_of joined.now) p) }
+    ensures indices { IfOk result (λ p. ArePlaces (segments_of joined.now) p) }
 {
     // For the proof only: reading modules, lines and graph exposes their invariants.
     let _modules = joined.modules();
     let _lines = controls.lines();
     let _parts = graph.parts();
     let located = locate(alloc, joined, graph, controls)?;
-    let places = places(alloc, &located, joined.segments().len())?;
-    let parts = parts_of(alloc, graph, &located)?;
+    let indices = indices(alloc, &located, joined.segments().len())?;
+    let parts = parts_of_layout(alloc, graph, &located)?;
     let layout = Layout::make(alloc, parts)?;
     Ok(Placing {
         layout,
-        places: ListOf::of(places),
+        indices: ListOf::of(indices),
     })
 }
 
@@ -151,6 +151,6 @@ pub fn place(
     requires { graph_of joined.now controls.now ≡ Ok graph.now }
     ensures { Gives (λ l. l) but_memory result (layout_of joined.now controls.now graph.now) }
 {
-    let Placing { layout, places: _ } = place_all(alloc, joined, graph, controls)?;
+    let Placing { layout, indices: _ } = place_all(alloc, joined, graph, controls)?;
     Ok(layout)
 }

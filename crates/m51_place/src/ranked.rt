@@ -4,7 +4,7 @@ use m51_resolve::JoinedSegment;
 
 /// The groups of a class, in the order in which they are placed.
 ///
-/// Source: RL51 guide.
+/// Source: RL51 guide; own choice ("Order of placing").
 #[derive(Clone, Copy)]
 pub enum Group {
     /// A plain segment that a control line orders.
@@ -27,7 +27,7 @@ pub enum Group {
 
 /// Where a segment is in the order: by class, by group, and by joined number.
 ///
-/// Source: RL51 guide.
+/// Source: RL51 guide; own choice ("Order of placing").
 #[derive(Clone, Copy)]
 pub struct Rank {
     pub class: Option<Class>,

@@ -9,8 +9,8 @@ use m51_module::Refusal;
 
 // The index of the first earlier extent that shares a cell with this one.
 fn first_met(earlier: &[Numbered], extent: &Numbered) -> Option<usize>
-    ensures place { result ≡ first_met earlier.now extent.now }
-    ensures inside { IfSome result (λ place. place < length earlier.now) }
+    ensures index { result ≡ first_met earlier.now extent.now }
+    ensures inside { IfSome result (λ index. index < length earlier.now) }
 {
     let cells = cells(&extent.placed);
     earlier
@@ -23,8 +23,8 @@ fn check_next(earlier: &[Numbered], extent: &Numbered) -> Result<(), Refusal>
     ensures { result ≡ passed (shared_at earlier.now extent.now (first_met earlier.now extent.now)) }
 {
     match first_met(earlier, extent) {
-        Some(place) => Err(Refusal::L9 {
-            one: earlier[place].placed.title,
+        Some(index) => Err(Refusal::L9 {
+            one: earlier[index].placed.title,
             two: extent.placed.title,
         }),
         None => Ok(()),
@@ -37,8 +37,8 @@ fn check_next(earlier: &[Numbered], extent: &Numbered) -> Result<(), Refusal>
 pub(crate) fn check_shared(fixed: &[Numbered]) -> Result<(), Refusal>
     ensures { result ≡ passed (shared_extents fixed.now) }
 {
-    for (place, extent) in fixed.iter().enumerate() {
-        check_next(&fixed[..place], extent)?;
+    for (index, extent) in fixed.iter().enumerate() {
+        check_next(&fixed[..index], extent)?;
     }
     Ok(())
 }

@@ -8,7 +8,7 @@ use Rattle.std.proofs.lemmas.List.Sums.{AllPass-from_list_all}
 use Rattle.m51_cells.specs.declared.kind.Kind.TheVariants as kind
 use Rattle.m51_expr.specs.Value.{plain, fault, bit_address}
 use Rattle.m51_expr.specs.Meanings.{Meanings}
-use Rattle.m51_expr.specs.Bits.{placed_bit, bit_of}
+use Rattle.m51_expr.specs.Bits.{placed_bit, dotted_bit}
 use Rattle.m51_sfr.specs.Registers.{Register, Row, table}
 use Rattle.m51_predefined.specs.Laws.{HasBits, BytesHaveBits}
 
@@ -46,7 +46,7 @@ has_address a bit h below =
     ∙ cond-true (is_high a) (Some (a + bit)) None parts.1
 
 dot_is : (names : Meanings) (a bit : ℕ) → bit < 8 → bit_address a bit ≡ Some (a + bit)
-    → bit_of names (plain a kind.Direct) bit ≡ Ok (plain (a + bit) kind.Bits)
+    → dotted_bit names (plain a kind.Direct) bit ≡ Ok (plain (a + bit) kind.Bits)
 dot_is names a bit below e =
     cond-false (ltb 7 bit) (fault 10) (placed_bit (plain a kind.Direct) bit (bit_address a bit))
     (le-ltb 7 bit (omega (arith, below)))

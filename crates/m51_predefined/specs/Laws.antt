@@ -6,7 +6,7 @@ use Rattle.m51_cells.specs.declared.kind.Kind.TheVariants as kind
 use Rattle.m51_expr.specs.Words.{is_reserved}
 use Rattle.m51_expr.specs.Value.{plain, bit_address}
 use Rattle.m51_expr.specs.Meanings.{Meanings}
-use Rattle.m51_expr.specs.Bits.{bit_of}
+use Rattle.m51_expr.specs.Bits.{dotted_bit}
 use Rattle.m51_sfr.specs.Registers.{Register, Row, bits, has_register, registers, table}
 use Rattle.m51_predefined.specs.Predefined.{predefined_of}
 
@@ -34,7 +34,7 @@ pub record HasBits (r : Register) : Type 0 where
   pub named : All (λ (b : Row). b.address < 8) r.bits
   pub addresses : (bit : ℕ) → bit < 8 → bit_address r.address bit ≡ Some (r.address + bit)
   pub dot : (names : Meanings) (bit : ℕ) → bit < 8
-      → bit_of names (plain r.address kind.Direct) bit ≡ Ok (plain (r.address + bit) kind.Bits)
+      → dotted_bit names (plain r.address kind.Direct) bit ≡ Ok (plain (r.address + bit) kind.Bits)
 
 -- all such registers
 abbrev pub BytesHaveBits : Type 0

@@ -50,8 +50,8 @@ abbrev pub titles_of : List Placed → List (List ℕ)
 titles_of placed = map (λ p. p.title) placed
 
 -- the title of that number
-abbrev pub title_of : List (List ℕ) → ℕ → List ℕ
-title_of titles segment = slice_index_or titles segment []
+abbrev pub numbered_title : List (List ℕ) → ℕ → List ℕ
+numbered_title titles segment = slice_index_or titles segment []
 
 -- an event
 abbrev pub event_text : List (List ℕ) → Event → List ℕ
@@ -59,7 +59,7 @@ event_text titles (Transfer why leaves target) =
     codes "EVENT V1 " ++ why_text why ++ codes " FROM " ++ hex4 leaves ++ codes " TO " ++ hex4 target
 event_text titles (Outside cell at) = codes "EVENT V2 " ++ cell_text cell.space cell.at ++ codes " AT " ++ hex4 at
 event_text titles (Unwritten cell segment at) =
-    codes "EVENT V3 " ++ cell_text cell.space cell.at ++ codes " IN " ++ title_of titles segment
+    codes "EVENT V3 " ++ cell_text cell.space cell.at ++ codes " IN " ++ numbered_title titles segment
     ++ codes " AT " ++ hex4 at
 event_text titles (Reserved at) = codes "EVENT V4 AT " ++ hex4 at
 event_text titles (PowerDown at) = codes "EVENT V5 AT " ++ hex4 at

@@ -12,13 +12,13 @@ use Rattle.m51_module.specs.declared.source.SourceFile.{SourceFile}
 abbrev pub blanks : ℕ → List ℕ
 blanks count = replicate count 32
 
--- a text right-aligned in `places` columns, and whole where it is longer
+-- a text right-aligned in this number of columns, and whole where it is longer
 unfoldable pub right_in : ℕ → List ℕ → List ℕ
-right_in places text = blanks (places - length text) ++ text
+right_in columns text = blanks (columns - length text) ++ text
 
--- a text left-aligned in `places` columns
+-- a text left-aligned in this number of columns
 unfoldable pub left_in : ℕ → List ℕ → List ℕ
-left_in places text = text ++ blanks (places - length text)
+left_in columns text = text ++ blanks (columns - length text)
 
 -- a place in four digits, or as many blanks
 abbrev pub place_text : Option ℕ → List ℕ

@@ -14,7 +14,7 @@ use Rattle.m51_module.specs.declared.placed.Mark.TheVariants.{Bank, Reserve, Abs
 use Rattle.m51_module.specs.declared.placed.Placed.{Placed}
 use Rattle.m51_module.specs.Roots.{vectors}
 use Rattle.m51_module.specs.Walks.{Edges, has_edge}
-use Rattle.m51_print.specs.Lines.{titles_of, title_of}
+use Rattle.m51_print.specs.Lines.{titles_of, numbered_title}
 
 -- the word of a kind, left-aligned in 5 columns; NUMBER has none
 abbrev pub kind_text : Kind → List ℕ
@@ -60,7 +60,7 @@ root_titles byte = map title_at (roots_among byte vectors)
 
 -- the title of a unit
 unfoldable pub unit_title : LayoutParts → ℕ → List ℕ
-unit_title l unit = title_of (titles_of l.placed) (slice_index l.units unit)
+unit_title l unit = numbered_title (titles_of l.placed) (slice_index l.units unit)
 
 -- the units to which an edge leads from this one, by number
 abbrev pub targets_of : LayoutParts → ℕ → List ℕ

@@ -2,7 +2,8 @@
 ghost use Rattle.std.specs.Prelude.{◌≡◌, ◌≤◌, ◌+◌, ◌++◌, ◌<◌, length, take, option_copied};
 ghost use Rattle.std.specs.Option.{ForSome};
 ghost use Rattle.m51_cells.specs.Cells.{IsDataCell};
-ghost use Rattle.m51_print.specs.Lines.{entry_line, why_text, cell_text, titles_of, title_of, event_text, HasText};
+ghost use Rattle.m51_print.specs.Lines.{entry_line, why_text, cell_text, titles_of, numbered_title, event_text};
+ghost use Rattle.m51_print.specs.Lines.{HasText};
 ghost use Rattle.m51_print.specs.Lines.{counts_text, last_line};
 
 use crate::putting::{put, put_decimal, put_digit, put_hex2, put_hex4};
@@ -60,7 +61,7 @@ fn why_text(why: Why) -> &'static [u8]
 // Puts a cell of internal RAM or of external data memory.
 fn put_cell(into: &mut [u8; 128], at: usize, cell: Cell) -> usize
     requires room { at + 6 ≤ 128 }
-    requires place { IsDataCell cell }
+    requires cell { IsDataCell cell }
     ensures bound { result ≤ at + 6 }
     ensures written { take result into.new ≡ take at into.old ++ cell_text cell.space cell.at }
 {
@@ -81,9 +82,9 @@ fn put_cell(into: &mut [u8; 128], at: usize, cell: Cell) -> usize
 
 // The title of a placed extent.
 #[tactic(auto, using(crate::proofs::PlacedTitles::title_at))]
-fn title_of(placed: &[Placed], segment: u16) -> &[u8]
+fn numbered_title(placed: &[Placed], segment: u16) -> &[u8]
     requires { segment < length placed.now }
-    ensures title { result.now ≡ title_of (titles_of placed.now) segment }
+    ensures title { result.now ≡ numbered_title (titles_of placed.now) segment }
     ensures bound { length result.now ≤ 31 }
 {
     placed[usize::from(segment)].title.bytes()
@@ -118,7 +119,7 @@ fn put_event(into: &mut [u8; 128], event: &Event, placed: &[Placed]) -> usize
             let at = put(into, 0, b"EVENT V3 ");
             let at = put_cell(into, at, cell);
             let at = put(into, at, b" IN ");
-            let at = put(into, at, title_of(placed, segment));
+            let at = put(into, at, numbered_title(placed, segment));
             let at = put(into, at, b" AT ");
             put_hex4(into, at, pc)
         }

@@ -46,7 +46,7 @@ fn push_path(text: &mut Vec<u8>, path: &[Start]) -> Result<(), NoMemory>
     }
 }
 
-/// Appends the line of a procedure.
+// Appends the line of a start other than the reset.
 #[tactic(auto, unfolding(crate::specs::Stack::proc_line))]
 fn push_proc_line(text: &mut Vec<u8>, at: u16, unit: &Name, depth: u16) -> Result<(), NoMemory>
     ensures { OnOk result (text.new.items ≡ text.old.items ++ proc_line at unit.now depth) }
@@ -60,7 +60,7 @@ fn push_proc_line(text: &mut Vec<u8>, at: u16, unit: &Name, depth: u16) -> Resul
     push_text(text, b"\n")
 }
 
-// Appends the lines of the procedures.
+// Appends the lines of these starts.
 fn push_procs(text: &mut Vec<u8>, layout: &Layout, procs: &[Proc]) -> Result<(), NoMemory>
     requires { All (λ proc. proc.unit < length layout.now.units) procs.now }
     ensures { OnOk result (text.new.items ≡ text.old.items ++ flat_map (line_of_proc layout.now) procs.now) }
@@ -71,7 +71,7 @@ fn push_procs(text: &mut Vec<u8>, layout: &Layout, procs: &[Proc]) -> Result<(),
     Ok(())
 }
 
-/// Appends the line of a root.
+// Appends the line of a root.
 #[tactic(auto, unfolding(crate::specs::Stack::root_line))]
 fn push_root_line(
     text: &mut Vec<u8>,
@@ -150,7 +150,7 @@ fn push_placed(text: &mut Vec<u8>, rule: &[u8], start: Start, at: u16) -> Result
     push_hex4(text, at)
 }
 
-// Appends the start that calls itself.
+// Appends the refusal K4 with the start that calls itself.
 fn push_recursion(text: &mut Vec<u8>, start: Start) -> Result<(), NoMemory>
     ensures { OnOk result (text.new.items ≡ text.old.items ++ stack_words (StackError.K4 start)) }
 {

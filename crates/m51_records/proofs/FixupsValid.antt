@@ -1,5 +1,6 @@
 -- The fixups of a module are valid where each passes the tests of the reader after those before it.
-use Rattle.std.proofs.Common.{◌≡◌, ◌≢◌, ℕ, zero, suc, ◌+◌, ◌-◌, ◌<◌, ◌≤◌, true, false, eqb, List, [], ◌∷◌, ◌++◌, length, Option, Some, None, refl, sym, ap, subst, ◌∙◌, arith, All, AllPairs, length-append}
+use Rattle.std.proofs.Common.{◌≡◌, ◌≢◌, ℕ, zero, suc, ◌+◌, ◌-◌, ◌<◌, ◌≤◌, true, false, eqb, List, [], ◌∷◌, ◌++◌, length}
+use Rattle.std.proofs.Common.{Option, Some, None, refl, sym, ap, subst, ◌∙◌, arith, All, AllPairs, length-append}
 use Rattle.std.specs.Prelude.{not, ◌&&◌, ◌||◌, nat_le, nat_lt}
 use Rattle.std.proofs.lemmas.Bool.{eqb-true, eq-eqb, leb-true, le-leb, lt-ltb, ltb-true, and_from, and_parts, or_right}
 use Rattle.std.proofs.lemmas.List.Folds.{Any-from_list_any, list_any_at}
@@ -9,7 +10,8 @@ use Rattle.m51_module.specs.declared.content.Form.TheVariants.{Word, Inblock, Co
 use Rattle.m51_module.specs.declared.content.Piece.{Piece}
 use Rattle.m51_module.specs.declared.segment.Segment.{Segment}
 use Rattle.m51_module.specs.declared.symbol.External.{External}
-use Rattle.m51_module.specs.Validity.{numbered, field_len, IsBitNumber, IsHeld, IsPieceValid, IsFixupValid, FieldBefore, EarlierSegmentOf, BeforeIn}
+use Rattle.m51_module.specs.Validity.{numbered, field_len, IsBitNumber, IsHeld, IsPieceValid, IsFixupValid, FieldBefore}
+use Rattle.m51_module.specs.Validity.{EarlierSegmentOf, BeforeIn}
 use Rattle.m51_module.proofs.FieldLengths.{some_byte}
 use Rattle.m51_records.specs.Contents.{latest}
 use Rattle.m51_records.specs.Fixups.{field_segment_follows, field_follows, holds, is_held, is_inside, is_bit}
@@ -22,19 +24,28 @@ use Rattle.m51_records.proofs.FixupLaws.{IsFixupTested}
 -- ---- the order
 
 abbrev Passes : Fixup → Option Fixup → Type 0
-Passes f previous = (field_segment_follows previous f.segment ≡ true) × (field_follows previous f.segment f.offset ≡ true)
+Passes f previous = (field_segment_follows previous f.segment ≡ true)
+    × (field_follows previous f.segment f.offset ≡ true)
 
 before_from : (g f : Fixup) → Passes f (Some g) → FieldBefore g f
 before_from g f t = test_split (eqb g.segment f.segment) (FieldBefore g f)
-    (λ same. let fits : nat_le (g.offset + field_len g.form) f.offset ≡ true = subst (λ b. (not b || nat_le (g.offset + field_len g.form) f.offset) ≡ true) same t.1 in
+    (λ same. let fits : nat_le (g.offset + field_len g.form) f.offset ≡ true =
+    subst (λ b. (not b || nat_le (g.offset + field_len g.form) f.offset) ≡ true) same t.1 in
     BeforeIn (eqb-true g.segment f.segment same) (leb-true (g.offset + field_len g.form) f.offset fits))
-    (λ other. let ne : g.segment ≢ f.segment = eqb_no g.segment f.segment other in EarlierSegmentOf (omega (arith, leb-true g.segment f.segment t.0, ne)))
+    (λ other. let ne : g.segment ≢ f.segment = eqb_no g.segment f.segment other in
+    EarlierSegmentOf (omega (arith, leb-true g.segment f.segment t.0, ne)))
 
 before_to : (g f : Fixup) → FieldBefore g f → Passes f (Some g)
-before_to g f (EarlierSegmentOf less) =
-    (le-leb g.segment f.segment (omega (arith, less)), ap (λ b. not b || nat_le (g.offset + field_len g.form) f.offset) (false_of (eqb g.segment f.segment) (λ e. omega (arith, less, eqb-true g.segment f.segment e))))
-before_to g f (BeforeIn same fits) =
-    (le-leb g.segment f.segment (omega (arith, same)), ap (λ b. not (eqb g.segment f.segment) || b) (le-leb (g.offset + field_len g.form) f.offset fits) ∙ or_right (not (eqb g.segment f.segment)) true refl)
+before_to g f (EarlierSegmentOf less) = (
+  le-leb g.segment f.segment (omega (arith, less)),
+  ap (λ b. not b || nat_le (g.offset + field_len g.form) f.offset)
+      (false_of (eqb g.segment f.segment) (λ e. omega (arith, less, eqb-true g.segment f.segment e))),
+)
+before_to g f (BeforeIn same fits) = (
+  le-leb g.segment f.segment (omega (arith, same)),
+  ap (λ b. not (eqb g.segment f.segment) || b)
+      (le-leb (g.offset + field_len g.form) f.offset fits) ∙ or_right (not (eqb g.segment f.segment)) true refl,
+)
 
 short_field : (form : Form) → field_len form ≤ 2
 short_field Word = omega arith
@@ -70,36 +81,57 @@ module _ (pieces : List Piece) (segment : ℕ) where
   held_of offset h =
       let a = Any-from_list_any (holds segment offset) pieces h in
       let p : Piece = a.1 in
-      let t = and_parts (eqb p.segment segment) (nat_le p.offset offset && nat_lt (offset - p.offset) (length p.bytes)) a.4 in
+      let t = and_parts (eqb p.segment segment)
+      (nat_le p.offset offset && nat_lt (offset - p.offset) (length p.bytes)) a.4 in
       let u = and_parts (nat_le p.offset offset) (nat_lt (offset - p.offset) (length p.bytes)) t.1 in
       let from : p.offset ≤ offset = leb-true p.offset offset u.0 in
       let room : offset - p.offset < length p.bytes = ltb-true (offset - p.offset) (length p.bytes) u.1 in
-      record { piece = p; is = (a.0, a.2, a.3); same = eqb-true p.segment segment t.0; from = from; below = omega (arith, from, room) }
+      record {
+        piece = p;
+        is = (a.0, a.2, a.3);
+        same = eqb-true p.segment segment t.0;
+        from = from;
+        below =
+            omega (arith, from, room);
+      }
 
   held_from : (offset : ℕ) → IsHeld pieces segment offset → is_held pieces segment offset ≡ true
   held_from offset h =
       let p : Piece = h.piece in
       let room : offset - p.offset < length p.bytes = omega (arith, h.from, h.below) in
       let passes : holds segment offset p ≡ true =
-      and_from (eqb p.segment segment) (nat_le p.offset offset && nat_lt (offset - p.offset) (length p.bytes)) (eq-eqb p.segment segment h.same)
-      (and_from (nat_le p.offset offset) (nat_lt (offset - p.offset) (length p.bytes)) (le-leb p.offset offset h.from) (lt-ltb (offset - p.offset) (length p.bytes) room)) in
-      list_any_at (holds segment offset) pieces h.is.0 p h.is.1 (subst (λ q. holds segment offset q ≡ true) (sym h.is.2) passes)
+      and_from (eqb p.segment segment) (nat_le p.offset offset && nat_lt (offset - p.offset) (length p.bytes))
+      (eq-eqb p.segment segment h.same)
+      (and_from (nat_le p.offset offset) (nat_lt (offset - p.offset) (length p.bytes)) (le-leb p.offset offset h.from)
+      (lt-ltb (offset - p.offset) (length p.bytes) room)) in
+      list_any_at (holds segment offset) pieces h.is.0 p h.is.1
+      (subst (λ q. holds segment offset q ≡ true) (sym h.is.2) passes)
 
-  inside_of : (offset : ℕ) (form : Form) → is_inside pieces segment offset form ≡ true → (k : ℕ) → k < field_len form → IsHeld pieces segment (offset + k)
-  inside_of offset form h zero less = subst (IsHeld pieces segment) (omega arith) (held_of offset (and_parts (is_held pieces segment offset) (eqb (field_len form) 1 || is_held pieces segment (offset + 1)) h).0)
+  inside_of : (offset : ℕ) (form : Form) → is_inside pieces segment offset form ≡ true → (k : ℕ) → k < field_len form
+      → IsHeld pieces segment (offset + k)
+  inside_of offset form h zero less =
+      subst (IsHeld pieces segment) (omega arith)
+      (held_of offset
+      (and_parts (is_held pieces segment offset) (eqb (field_len form) 1 || is_held pieces segment (offset + 1)) h).0)
   inside_of offset form h (suc zero) less =
-      let two : eqb (field_len form) 1 ≡ false = false_of (eqb (field_len form) 1) (λ e. omega (arith, less, eqb-true (field_len form) 1 e)) in
-      let second : (eqb (field_len form) 1 || is_held pieces segment (offset + 1)) ≡ true = (and_parts (is_held pieces segment offset) (eqb (field_len form) 1 || is_held pieces segment (offset + 1)) h).1 in
+      let two : eqb (field_len form) 1 ≡ false =
+      false_of (eqb (field_len form) 1) (λ e. omega (arith, less, eqb-true (field_len form) 1 e)) in
+      let second : (eqb (field_len form) 1 || is_held pieces segment (offset + 1)) ≡ true =
+      (and_parts (is_held pieces segment offset)
+      (eqb (field_len form) 1 || is_held pieces segment (offset + 1)) h).1 in
       held_of (offset + 1) (subst (λ b. (b || is_held pieces segment (offset + 1)) ≡ true) two second)
   inside_of offset form h (suc (suc k)) less = absurd (omega (arith, less, short_field form))
 
-  inside_from : (offset : ℕ) (form : Form) → ((k : ℕ) → k < field_len form → IsHeld pieces segment (offset + k)) → is_inside pieces segment offset form ≡ true
+  inside_from : (offset : ℕ) (form : Form) → ((k : ℕ) → k < field_len form → IsHeld pieces segment (offset + k))
+      → is_inside pieces segment offset form ≡ true
   inside_from offset form h =
       and_from (is_held pieces segment offset) (eqb (field_len form) 1 || is_held pieces segment (offset + 1))
       (held_from offset (subst (IsHeld pieces segment) (omega arith) (h 0 (some_byte form))))
       (test_split (eqb (field_len form) 1) ((eqb (field_len form) 1 || is_held pieces segment (offset + 1)) ≡ true)
       (λ one. ap (λ b. b || is_held pieces segment (offset + 1)) one)
-      (λ two. ap (λ b. eqb (field_len form) 1 || b) (held_from (offset + 1) (h 1 (omega (arith, some_byte form, eqb_no (field_len form) 1 two)))) ∙ or_right (eqb (field_len form) 1) true refl))
+      (λ two. ap (λ b. eqb (field_len form) 1 || b)
+      (held_from (offset + 1) (h 1 (omega (arith, some_byte form, eqb_no (field_len form) 1 two))))
+      ∙ or_right (eqb (field_len form) 1) true refl))
 
 -- ---- validity
 
@@ -110,20 +142,32 @@ module _ (segments : List Segment) (externals : List External) (pieces : List Pi
     pub each : All (IsFixupValid segments externals pieces) fixups
     pub order : AllPairs FieldBefore fixups
 
-  pub fixups_push : (before : List Fixup) (f : Fixup) → AreFixups before → IsFixupTested segments externals pieces before f → AreFixups (before ++ f ∷ [])
+  pub fixups_push : (before : List Fixup) (f : Fixup) → AreFixups before
+      → IsFixupTested segments externals pieces before f → AreFixups (before ++ f ∷ [])
   fixups_push before f v t = record {
     few = omega (arith, length-append before (f ∷ []), ltb-true (length before) 65535 t.few);
-    each = all_push (IsFixupValid segments externals pieces) before f v.each (record { bit = bit_of f.form f.bit t.bit; target = t.target; held = inside_of pieces f.segment f.offset f.form t.inside });
+    each = all_push (IsFixupValid segments externals pieces) before f v.each
+        (record {
+          bit = bit_of f.form f.bit t.bit;
+          target = t.target;
+          held =
+              inside_of pieces f.segment f.offset f.form t.inside;
+        });
     order = pairs_push FieldBefore before f v.order
-        (all_follow FieldBefore f before v.order (λ g last h k below is next. before_chain g last f h next) (passes_follow f (latest before) (t.ascends, t.follows)));
+        (all_follow FieldBefore f before v.order (λ g last h k below is next. before_chain g last f h next)
+        (passes_follow f (latest before) (t.ascends, t.follows)));
   }
 
-  pub fixups_last : All (IsPieceValid segments) pieces → (before : List Fixup) (f : Fixup) → AreFixups (before ++ f ∷ []) → IsFixupTested segments externals pieces before f
+  pub fixups_last : All (IsPieceValid segments) pieces → (before : List Fixup) (f : Fixup)
+      → AreFixups (before ++ f ∷ []) → IsFixupTested segments externals pieces before f
   fixups_last content before f v =
       let valid = all_last (IsFixupValid segments externals pieces) before f v.each in
-      let passes : Passes f (latest before) = follow_passes f (latest before) (last_follows FieldBefore f before (pairs_last FieldBefore before f v.order)) in
+      let passes : Passes f (latest before) =
+      follow_passes f (latest before)
+      (last_follows FieldBefore f before (pairs_last FieldBefore before f v.order)) in
       let first = valid.held 0 (some_byte f.form) in
-      let piece : IsPieceValid segments first.piece = subst (IsPieceValid segments) first.is.2 (content first.is.0 first.piece first.is.1) in
+      let piece : IsPieceValid segments first.piece =
+      subst (IsPieceValid segments) first.is.2 (content first.is.0 first.piece first.is.1) in
       record {
         few = lt-ltb (length before) 65535 (omega (arith, length-append before (f ∷ []), v.few));
         segment = piece.segment;

@@ -1,5 +1,6 @@
 -- The record of a piece: what is read is written so, what is written is read, and and_parts are valid together.
-use Rattle.std.proofs.Common.{◌≡◌, ◌≢◌, ℕ, ◌+◌, ◌-◌, ◌<◌, ◌≤◌, Bool, true, false, cond, eqb, min, List, [], ◌∷◌, ◌++◌, length, drop, Option, Some, None, Ok, refl, sym, ap, subst, ◌∙◌, arith, All, AllPairs}
+use Rattle.std.proofs.Common.{◌≡◌, ◌≢◌, ℕ, ◌+◌, ◌-◌, ◌<◌, ◌≤◌, Bool, true, false, cond, eqb, min, List, [], ◌∷◌, ◌++◌}
+use Rattle.std.proofs.Common.{length, drop, Option, Some, None, Ok, refl, sym, ap, subst, ◌∙◌, arith, All, AllPairs}
 use Rattle.std.specs.Prelude.{◌&&◌, nat_le, nat_lt}
 use Rattle.std.proofs.lemmas.Bool.{eqb-true, eq-eqb, leb-true, le-leb, lt-ltb, ltb-true, and_from, and_parts}
 use Rattle.std.proofs.Math.Nat.{min-eq_left}
@@ -10,8 +11,10 @@ use Rattle.m51_cells.specs.Kinds.{is_code}
 use Rattle.m51_cells.proofs.KindLaws.{code_is}
 use Rattle.m51_frame.specs.Fields.{checked, or_absent, pair}
 use Rattle.m51_frame.specs.Pieces.{ends_before}
-use Rattle.m51_records.specs.Contents.{piece_contents, latest, segment_follows, code_segment_at, piece_follows, piece_offset_at, content_at, piece_in}
-use Rattle.m51_records.proofs.Tools.{on_ok, ok_is, checked_ok, absent_ok, all_push, all_front, all_last, pairs_push, pairs_front, pairs_last}
+use Rattle.m51_records.specs.Contents.{piece_contents, latest, segment_follows, code_segment_at, piece_follows}
+use Rattle.m51_records.specs.Contents.{piece_offset_at, content_at, piece_in}
+use Rattle.m51_records.proofs.Tools.{on_ok, ok_is, checked_ok, absent_ok, all_push, all_front, all_last, pairs_push}
+use Rattle.m51_records.proofs.Tools.{pairs_front, pairs_last}
 use Rattle.m51_records.proofs.FieldLaws.{IsBytes}
 use Rattle.m51_records.proofs.NameLaws.{false_of}
 use Rattle.m51_records.proofs.SegmentLaws.{pair_field, pair_tested}
@@ -35,37 +38,62 @@ module _ (segments : List Segment) where
     pub size : segment.size ≡ y.1
     pub bytes_are : bytes ≡ y.0 ∷ y.2
 
-  code_segment_field : (previous : Option Piece) (end : ℕ) (bytes : List ℕ) (y : ℕ × ℕ × List ℕ) → code_segment_at segments previous end bytes ≡ Ok y → IsCodeSegment previous bytes y
+  code_segment_field : (previous : Option Piece) (end : ℕ) (bytes : List ℕ) (y : ℕ × ℕ × List ℕ)
+      → code_segment_at segments previous end bytes ≡ Ok y → IsCodeSegment previous bytes y
   unfolding code_segment_at
   code_segment_field previous end [] y e = absurd cc
   code_segment_field previous end (n ∷ rest) y e =
       on_ok (or_absent (numbered segments n) end (n ∷ rest)) _ y (IsCodeSegment previous (n ∷ rest) y) (λ s e1 h1.
       let c = checked_ok (is_code s.kind && segment_follows previous n) end (n ∷ rest) (n, s.size, rest) y h1 in
-      subst (IsCodeSegment previous (n ∷ rest)) c.1 (record { segment = s; is = absent_ok (numbered segments n) end (n ∷ rest) s e1; ascends = c.0; size = refl; bytes_are = refl })) e
+      subst (IsCodeSegment previous (n ∷ rest)) c.1
+      (record {
+        segment = s;
+        is = absent_ok (numbered segments n) end (n ∷ rest) s e1;
+        ascends = c.0;
+        size =
+            refl;
+        bytes_are = refl;
+      })) e
 
-  code_segment_again : (previous : Option Piece) (end n : ℕ) (s : Segment) (rest : List ℕ) → numbered segments n ≡ Some s → (is_code s.kind && segment_follows previous n) ≡ true → code_segment_at segments previous end (n ∷ rest) ≡ Ok (n, s.size, rest)
+  code_segment_again : (previous : Option Piece) (end n : ℕ) (s : Segment) (rest : List ℕ) → numbered segments n
+      ≡ Some s → (is_code s.kind && segment_follows previous n) ≡ true
+      → code_segment_at segments previous end (n ∷ rest) ≡ Ok (n, s.size, rest)
   unfolding code_segment_at
   code_segment_again previous end n s rest h k = rw (h, k) refl
 
-  offset_field : (previous : Option Piece) (segment end : ℕ) (bytes : List ℕ) (y : ℕ × List ℕ) → IsBytes bytes → piece_offset_at previous segment end bytes ≡ Ok y → (bytes ≡ pair y.0 ++ y.1) × IsBytes y.1 × (piece_follows previous segment y.0 ≡ true)
+  offset_field : (previous : Option Piece) (segment end : ℕ) (bytes : List ℕ) (y : ℕ × List ℕ) → IsBytes bytes
+      → piece_offset_at previous segment end bytes ≡ Ok y → (bytes ≡ pair y.0 ++ y.1) × IsBytes y.1
+      × (piece_follows previous segment y.0 ≡ true)
   unfolding piece_offset_at
-  offset_field previous segment end bytes y fits e = pair_field (λ n. piece_follows previous segment n) end bytes y fits e
+  offset_field previous segment end bytes y fits e =
+      pair_field (λ n. piece_follows previous segment n) end bytes y fits e
 
-  offset_again : (previous : Option Piece) (segment end n : ℕ) (rest : List ℕ) → piece_follows previous segment n ≡ true → piece_offset_at previous segment end (pair n ++ rest) ≡ Ok (n, rest)
+  offset_again : (previous : Option Piece) (segment end n : ℕ) (rest : List ℕ) → piece_follows previous segment n ≡ true
+      → piece_offset_at previous segment end (pair n ++ rest) ≡ Ok (n, rest)
   unfolding piece_offset_at
   offset_again previous segment end n rest h = pair_tested (λ n. piece_follows previous segment n) end n rest h
 
-  content_field : (size offset end : ℕ) (bytes y : List ℕ) → content_at size offset end bytes ≡ Ok y → (bytes ≡ y) × ((nat_lt 0 (length y) && nat_le (offset + min (length y) 1024) size) ≡ true) × (nat_le (length y) 1024 ≡ true)
+  content_field : (size offset end : ℕ) (bytes y : List ℕ) → content_at size offset end bytes ≡ Ok y → (bytes ≡ y)
+      × ((nat_lt 0 (length y) && nat_le (offset + min (length y) 1024) size) ≡ true) × (nat_le (length y) 1024 ≡ true)
   unfolding content_at
   content_field size offset end bytes y e =
       on_ok (checked (nat_lt 0 (length bytes) && nat_le (offset + min (length bytes) 1024) size) end bytes bytes) _ y
-      ((bytes ≡ y) × ((nat_lt 0 (length y) && nat_le (offset + min (length y) 1024) size) ≡ true) × (nat_le (length y) 1024 ≡ true)) (λ inside e1 h1.
-      let a = checked_ok (nat_lt 0 (length bytes) && nat_le (offset + min (length bytes) 1024) size) end bytes bytes inside e1 in
+      ((bytes ≡ y) × ((nat_lt 0 (length y) && nat_le (offset + min (length y) 1024) size) ≡ true)
+      × (nat_le (length y) 1024 ≡ true)) (λ inside e1 h1.
+      let a = checked_ok
+      (nat_lt 0 (length bytes) && nat_le (offset + min (length bytes) 1024) size) end bytes bytes inside e1 in
       let b = checked_ok (nat_le (length inside) 1024) end (drop 1024 inside) inside y h1 in
-      let whole : bytes ≡ y = a.1 ∙ b.1 in
-      (whole, subst (λ (t : List ℕ). (nat_lt 0 (length t) && nat_le (offset + min (length t) 1024) size) ≡ true) whole a.0, subst (λ (t : List ℕ). nat_le (length t) 1024 ≡ true) b.1 b.0)) e
+      let whole : bytes ≡ y = a.1 ∙ b.1 in (
+        whole,
+        subst
+            (λ (t : List ℕ). (nat_lt 0 (length t) && nat_le (offset + min (length t) 1024) size) ≡ true) whole a.0,
+        subst
+            (λ (t : List ℕ). nat_le (length t) 1024 ≡ true) b.1 b.0,
+      )) e
 
-  content_again : (size offset end : ℕ) (bytes : List ℕ) → (nat_lt 0 (length bytes) && nat_le (offset + min (length bytes) 1024) size) ≡ true → nat_le (length bytes) 1024 ≡ true → content_at size offset end bytes ≡ Ok bytes
+  content_again : (size offset end : ℕ) (bytes : List ℕ)
+      → (nat_lt 0 (length bytes) && nat_le (offset + min (length bytes) 1024) size) ≡ true → nat_le (length bytes) 1024
+      ≡ true → content_at size offset end bytes ≡ Ok bytes
   unfolding content_at
   content_again size offset end bytes h k = rw (h, k) refl
 
@@ -73,27 +101,43 @@ module _ (segments : List Segment) where
   abbrev PieceTaken : List Piece → List ℕ → Piece → Type 0
   PieceTaken before bytes p = (bytes ≡ piece_contents p) × IsPieceTested before p
 
-  piece_built : (before : List Piece) (end : ℕ) (bytes : List ℕ) (number size : ℕ) (r1 : List ℕ) (offset : ℕ) (r2 content : List ℕ) → IsBytes bytes → code_segment_at segments (latest before) end bytes ≡ Ok (number, size, r1)
-      → piece_offset_at (latest before) number end r1 ≡ Ok (offset, r2) → content_at size offset end r2 ≡ Ok content → PieceTaken before bytes (record { segment = number; offset = offset; bytes = content })
+  piece_built : (before : List Piece) (end : ℕ) (bytes : List ℕ) (number size : ℕ) (r1 : List ℕ) (offset : ℕ)
+      (r2 content : List ℕ) → IsBytes bytes → code_segment_at segments (latest before) end bytes ≡ Ok (number, size, r1)
+      → piece_offset_at (latest before) number end r1 ≡ Ok (offset, r2) → content_at size offset end r2 ≡ Ok content
+      → PieceTaken before bytes (record { segment = number; offset = offset; bytes = content })
   piece_built before end bytes number size r1 offset r2 content fits e1 e2 e3 =
       let cf = code_segment_field (latest before) end bytes (number, size, r1) e1 in
       let fits1 : (number < 256) × IsBytes r1 = subst IsBytes cf.bytes_are fits in
       let vf = offset_field (latest before) number end r1 (offset, r2) fits1.1 e2 in
       let bf = content_field size offset end r2 content e3 in
       let t1 : r1 ≡ pair offset ++ content = vf.0 ∙ ap (λ (t : List ℕ). pair offset ++ t) bf.0 in
-      let whole : bytes ≡ number ∷ (pair offset ++ content) = cf.bytes_are ∙ ap (λ (t : List ℕ). number ∷ t) t1 in
-      (whole, record { segment = cf.segment; is = cf.is; ascends = cf.ascends; follows = vf.2; inside = subst (λ n. (nat_lt 0 (length content) && nat_le (offset + min (length content) 1024) n) ≡ true) (sym cf.size) bf.1; most = bf.2 })
+      let whole : bytes ≡ number ∷ (pair offset ++ content) = cf.bytes_are ∙ ap (λ (t : List ℕ). number ∷ t) t1 in (
+        whole,
+        record {
+          segment = cf.segment;
+          is = cf.is;
+          ascends = cf.ascends;
+          follows = vf.2;
+          inside =
+              subst (λ n. (nat_lt 0 (length content) && nat_le (offset + min (length content) 1024) n) ≡ true)
+              (sym cf.size) bf.1;
+          most = bf.2;
+        },
+      )
 
-  pub piece_takes : (before : List Piece) (end : ℕ) (bytes : List ℕ) (p : Piece) → IsBytes bytes → piece_in segments before end bytes ≡ Ok p → (bytes ≡ piece_contents p) × IsPieceTested before p
+  pub piece_takes : (before : List Piece) (end : ℕ) (bytes : List ℕ) (p : Piece) → IsBytes bytes
+      → piece_in segments before end bytes ≡ Ok p → (bytes ≡ piece_contents p) × IsPieceTested before p
   unfolding piece_in
   piece_takes before end bytes p fits e =
       on_ok (code_segment_at segments (latest before) end bytes) _ p (PieceTaken before bytes p) (λ number e1 h1.
       on_ok (piece_offset_at (latest before) number.0 end number.2) _ p (PieceTaken before bytes p) (λ offset e2 h2.
       on_ok (content_at number.1 offset.0 end offset.1) _ p (PieceTaken before bytes p) (λ content e3 h3.
       let made : Piece = record { segment = number.0; offset = offset.0; bytes = content } in
-      subst (PieceTaken before bytes) (ok_is made p h3) (piece_built before end bytes number.0 number.1 number.2 offset.0 offset.1 content fits e1 e2 e3)) h2) h1) e
+      subst (PieceTaken before bytes) (ok_is made p h3)
+      (piece_built before end bytes number.0 number.1 number.2 offset.0 offset.1 content fits e1 e2 e3)) h2) h1) e
 
-  pub piece_again : (before : List Piece) (end : ℕ) (p : Piece) → IsPieceTested before p → piece_in segments before end (piece_contents p) ≡ Ok p
+  pub piece_again : (before : List Piece) (end : ℕ) (p : Piece) → IsPieceTested before p
+      → piece_in segments before end (piece_contents p) ≡ Ok p
   unfolding piece_in
   piece_again before end p t =
       rw (
@@ -117,30 +161,48 @@ eqb_no m n h e = let t : eqb m n ≡ true = eq-eqb m n e in cc
 
 ends_is : (q p : Piece) → q.segment ≡ p.segment → ends_before q p.offset ≡ true → LiesBefore q p
 ends_is q p same h = test_split (eqb (length q.bytes) (p.offset - q.offset)) (LiesBefore q p)
-    (λ t. let long : eqb (length q.bytes) 1024 ≡ true = subst (λ b. cond b (eqb (length q.bytes) 1024) (nat_lt (length q.bytes) (p.offset - q.offset)) ≡ true) t h in
+    (λ t. let long : eqb (length q.bytes) 1024 ≡ true =
+    subst (λ b. cond b (eqb (length q.bytes) 1024) (nat_lt (length q.bytes) (p.offset - q.offset)) ≡ true) t h in
     let len : length q.bytes ≡ 1024 = eqb-true (length q.bytes) 1024 long in
     let room : length q.bytes ≡ p.offset - q.offset = eqb-true (length q.bytes) (p.offset - q.offset) t in
     Touching same (omega (arith, len, room)) len)
-    (λ f. let less : nat_lt (length q.bytes) (p.offset - q.offset) ≡ true = subst (λ b. cond b (eqb (length q.bytes) 1024) (nat_lt (length q.bytes) (p.offset - q.offset)) ≡ true) f h in
+    (λ f. let less : nat_lt (length q.bytes) (p.offset - q.offset) ≡ true =
+    subst (λ b. cond b (eqb (length q.bytes) 1024) (nat_lt (length q.bytes) (p.offset - q.offset)) ≡ true) f h in
     Apart same (omega (arith, ltb-true (length q.bytes) (p.offset - q.offset) less)))
 
 lies_from : (q p : Piece) → Passes p (Some q) → LiesBefore q p
 lies_from q p t = test_split (eqb q.segment p.segment) (LiesBefore q p)
-    (λ same. ends_is q p (eqb-true q.segment p.segment same) (subst (λ b. cond b (ends_before q p.offset) true ≡ true) same t.1))
-    (λ other. let ne : q.segment ≢ p.segment = eqb_no q.segment p.segment other in EarlierSegment (omega (arith, leb-true q.segment p.segment t.0, ne)))
+    (λ same. ends_is q p (eqb-true q.segment p.segment same)
+    (subst (λ b. cond b (ends_before q p.offset) true ≡ true) same t.1))
+    (λ other. let ne : q.segment ≢ p.segment = eqb_no q.segment p.segment other in
+    EarlierSegment (omega (arith, leb-true q.segment p.segment t.0, ne)))
 
 passes_same : (q p : Piece) → q.segment ≡ p.segment → ends_before q p.offset ≡ true → Passes p (Some q)
-passes_same q p same h = (le-leb q.segment p.segment (omega (arith, same)), ap (λ b. cond b (ends_before q p.offset) true) (eq-eqb q.segment p.segment same) ∙ h)
+passes_same q p same h = (
+  le-leb q.segment p.segment (omega (arith, same)),
+  ap (λ b. cond b (ends_before q p.offset) true)
+      (eq-eqb q.segment p.segment same) ∙ h,
+)
 
 lies_to : (q p : Piece) → LiesBefore q p → Passes p (Some q)
-lies_to q p (EarlierSegment less) =
-    (le-leb q.segment p.segment (omega (arith, less)), ap (λ b. cond b (ends_before q p.offset) true) (false_of (eqb q.segment p.segment) (λ e. omega (arith, less, eqb-true q.segment p.segment e))))
+lies_to q p (EarlierSegment less) = (
+  le-leb q.segment p.segment (omega (arith, less)),
+  ap (λ b. cond b (ends_before q p.offset) true)
+      (false_of (eqb q.segment p.segment) (λ e. omega (arith, less, eqb-true q.segment p.segment e))),
+)
 lies_to q p (Apart same less) =
-    let other : eqb (length q.bytes) (p.offset - q.offset) ≡ false = false_of (eqb (length q.bytes) (p.offset - q.offset)) (λ e. omega (arith, less, eqb-true (length q.bytes) (p.offset - q.offset) e)) in
-    passes_same q p same (ap (λ b. cond b (eqb (length q.bytes) 1024) (nat_lt (length q.bytes) (p.offset - q.offset))) other ∙ lt-ltb (length q.bytes) (p.offset - q.offset) (omega (arith, less)))
+    let other : eqb (length q.bytes) (p.offset - q.offset) ≡ false =
+    false_of (eqb (length q.bytes) (p.offset - q.offset))
+    (λ e. omega (arith, less, eqb-true (length q.bytes) (p.offset - q.offset) e)) in
+    passes_same q p same
+    (ap (λ b. cond b (eqb (length q.bytes) 1024) (nat_lt (length q.bytes) (p.offset - q.offset))) other
+    ∙ lt-ltb (length q.bytes) (p.offset - q.offset) (omega (arith, less)))
 lies_to q p (Touching same meets long) =
-    let room : eqb (length q.bytes) (p.offset - q.offset) ≡ true = eq-eqb (length q.bytes) (p.offset - q.offset) (omega (arith, meets)) in
-    passes_same q p same (ap (λ b. cond b (eqb (length q.bytes) 1024) (nat_lt (length q.bytes) (p.offset - q.offset))) room ∙ eq-eqb (length q.bytes) 1024 long)
+    let room : eqb (length q.bytes) (p.offset - q.offset) ≡ true =
+    eq-eqb (length q.bytes) (p.offset - q.offset) (omega (arith, meets)) in
+    passes_same q p same
+    (ap (λ b. cond b (eqb (length q.bytes) 1024) (nat_lt (length q.bytes) (p.offset - q.offset))) room
+    ∙ eq-eqb (length q.bytes) 1024 long)
 
 -- the order of pieces is transitive, as each has a byte
 pub lies_chain : (p q r : Piece) → 0 < length q.bytes → LiesBefore p q → LiesBefore q r → LiesBefore p r
@@ -172,38 +234,53 @@ module _ (segments : List Segment) where
 
   piece_valid : (before : List Piece) (p : Piece) → IsPieceTested segments before p → IsPieceValid segments p
   piece_valid before p t =
-      let inside = and_parts (nat_lt 0 (length p.bytes)) (nat_le (p.offset + min (length p.bytes) 1024) t.segment.size) t.inside in
+      let inside =
+      and_parts (nat_lt 0 (length p.bytes))
+      (nat_le (p.offset + min (length p.bytes) 1024) t.segment.size) t.inside in
       let most : length p.bytes ≤ 1024 = leb-true (length p.bytes) 1024 t.most in
-      let all : p.offset + min (length p.bytes) 1024 ≤ t.segment.size = leb-true (p.offset + min (length p.bytes) 1024) t.segment.size inside.1 in
+      let all : p.offset + min (length p.bytes) 1024 ≤ t.segment.size =
+      leb-true (p.offset + min (length p.bytes) 1024) t.segment.size inside.1 in
       record {
         some = ltb-true 0 (length p.bytes) inside.0;
         most = most;
         segment = t.segment;
         is = t.is;
-        code = code_is t.segment.kind (and_parts (is_code t.segment.kind) (segment_follows (latest before) p.segment) t.ascends).0;
+        code = code_is t.segment.kind
+            (and_parts (is_code t.segment.kind) (segment_follows (latest before) p.segment) t.ascends).0;
         inside = subst (λ n. p.offset + n ≤ t.segment.size) (min-eq_left most) all;
       }
 
-  pub pieces_push : (before : List Piece) (p : Piece) → ArePieces before → IsPieceTested segments before p → ArePieces (before ++ p ∷ [])
+  pub pieces_push : (before : List Piece) (p : Piece) → ArePieces before → IsPieceTested segments before p
+      → ArePieces (before ++ p ∷ [])
   pieces_push before p v t =
-      let passes : Passes p (latest before) = ((and_parts (is_code t.segment.kind) (segment_follows (latest before) p.segment) t.ascends).1, t.follows) in
+      let passes : Passes p (latest before) =
+      ((and_parts (is_code t.segment.kind) (segment_follows (latest before) p.segment) t.ascends).1, t.follows) in
       record {
         each = all_push (IsPieceValid segments) before p v.each (piece_valid before p t);
         order = pairs_push LiesBefore before p v.order
-            (all_follow LiesBefore p before v.order (λ q last h k below is next. lies_chain q last p (subst (λ (u : Piece). 0 < length u.bytes) is (v.each k last below).some) h next) (passes_follow p (latest before) passes));
+            (all_follow LiesBefore p before v.order
+            (λ q last h k below is next. lies_chain q last p
+            (subst (λ (u : Piece). 0 < length u.bytes) is (v.each k last below).some) h next)
+            (passes_follow p (latest before) passes));
       }
 
   pub pieces_last : (before : List Piece) (p : Piece) → ArePieces (before ++ p ∷ []) → IsPieceTested segments before p
   pieces_last before p v =
       let valid = all_last (IsPieceValid segments) before p v.each in
-      let passes : Passes p (latest before) = follow_passes p (latest before) (last_follows LiesBefore p before (pairs_last LiesBefore before p v.order)) in
-      let inside : p.offset + min (length p.bytes) 1024 ≤ valid.segment.size = subst (λ n. p.offset + n ≤ valid.segment.size) (sym (min-eq_left valid.most)) valid.inside in
+      let passes : Passes p (latest before) =
+      follow_passes p (latest before) (last_follows LiesBefore p before (pairs_last LiesBefore before p v.order)) in
+      let inside : p.offset + min (length p.bytes) 1024 ≤ valid.segment.size =
+      subst (λ n. p.offset + n ≤ valid.segment.size) (sym (min-eq_left valid.most)) valid.inside in
       record {
         segment = valid.segment;
         is = valid.is;
-        ascends = and_from (is_code valid.segment.kind) (segment_follows (latest before) p.segment) (ap is_code valid.code) passes.0;
+        ascends =
+            and_from (is_code valid.segment.kind) (segment_follows (latest before) p.segment)
+            (ap is_code valid.code) passes.0;
         follows = passes.1;
-        inside = and_from (nat_lt 0 (length p.bytes)) (nat_le (p.offset + min (length p.bytes) 1024) valid.segment.size) (lt-ltb 0 (length p.bytes) valid.some) (le-leb (p.offset + min (length p.bytes) 1024) valid.segment.size inside);
+        inside = and_from (nat_lt 0 (length p.bytes)) (nat_le (p.offset + min (length p.bytes) 1024) valid.segment.size)
+            (lt-ltb 0 (length p.bytes) valid.some)
+            (le-leb (p.offset + min (length p.bytes) 1024) valid.segment.size inside);
         most = le-leb (length p.bytes) 1024 valid.most;
       }
 

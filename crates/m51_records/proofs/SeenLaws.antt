@@ -6,23 +6,28 @@ use Rattle.std.specs.List.{list_any}
 use Rattle.std.specs.Prelude.{map, ◌||◌}
 use Rattle.std.proofs.lemmas.List.{map-append}
 use Rattle.indexmap.specs.IndexSet.{insert_key}
-use Rattle.m51_frame.specs.Fields.{is_among}
+use Rattle.m51_frame.specs.Fields.{is_name_among}
 use Rattle.m51_records.specs.WorkNames.{items_of}
 
 -- a test of the values of a function
-pub any_map : {X Y : Type 0} (f : X → Y) (p : Y → Bool) (xs : List X) → list_any p (map f xs) ≡ list_any (λ x. p (f x)) xs
+pub any_map : {X Y : Type 0} (f : X → Y) (p : Y → Bool) (xs : List X) → list_any p (map f xs)
+    ≡ list_any (λ x. p (f x)) xs
 any_map f p [] = refl
 any_map f p (x ∷ xs) = ap (λ b. p (f x) || b) (any_map f p xs)
 
-pub among_is : (name : List ℕ) (keys : List (Vec ℕ)) → list_any (λ (k : Vec ℕ). pointwise nat_eq name k.items) keys ≡ is_among (items_of keys) name
+pub among_is : (name : List ℕ) (keys : List (Vec ℕ)) → list_any (λ (k : Vec ℕ). pointwise nat_eq name k.items) keys
+    ≡ is_name_among (items_of keys) name
 among_is name [] = refl
 among_is name (k ∷ keys) = ap (λ b. pointwise nat_eq name k.items || b) (among_is name keys)
 
-put_by : (b : Bool) (keys : List (Vec ℕ)) (key : Vec ℕ) → b ≡ false → items_of (cond b keys (keys ++ key ∷ [])) ≡ items_of keys ++ key.items ∷ []
+put_by : (b : Bool) (keys : List (Vec ℕ)) (key : Vec ℕ) → b ≡ false → items_of (cond b keys (keys ++ key ∷ []))
+    ≡ items_of keys ++ key.items ∷ []
 put_by true keys key h = absurd (cc h)
 put_by false keys key h = map-append (λ (k : Vec ℕ). k.items) keys (key ∷ [])
 
 -- a new name goes last
-pub put_last : (keys : List (Vec ℕ)) (key : Vec ℕ) → is_among (items_of keys) key.items ≡ false
-    → items_of (insert_key (λ (a b : Vec ℕ). pointwise nat_eq a.items b.items) keys key) ≡ items_of keys ++ key.items ∷ []
-put_last keys key h = put_by (list_any (λ (k : Vec ℕ). pointwise nat_eq key.items k.items) keys) keys key (among_is key.items keys ∙ h)
+pub put_last : (keys : List (Vec ℕ)) (key : Vec ℕ) → is_name_among (items_of keys) key.items ≡ false
+    → items_of (insert_key (λ (a b : Vec ℕ). pointwise nat_eq a.items b.items) keys key)
+    ≡ items_of keys ++ key.items ∷ []
+put_last keys key h =
+    put_by (list_any (λ (k : Vec ℕ). pointwise nat_eq key.items k.items) keys) keys key (among_is key.items keys ∙ h)

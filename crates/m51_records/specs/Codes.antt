@@ -36,8 +36,8 @@ reloc_number Inpage = 3
 reloc_number InblockType = 4
 reloc_number Page = 5
 
-abbrev pub reloc_of : ℕ → Option Reloc
-reloc_of number = slice_get relocs number
+abbrev pub reloc_by_code : ℕ → Option Reloc
+reloc_by_code number = slice_get relocs number
 
 -- the forms of fixups in the order of their numbers
 abbrev pub forms : List Form
@@ -53,5 +53,5 @@ form_number Inblock = 5
 form_number Bit = 6
 form_number Conv = 7
 
-abbrev pub form_of : ℕ → Option Form
-form_of number = slice_get forms number
+abbrev pub form_by_code : ℕ → Option Form
+form_by_code number = slice_get forms number

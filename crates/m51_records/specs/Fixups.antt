@@ -13,7 +13,7 @@ use Rattle.m51_module.specs.declared.segment.Segment.{Segment}
 use Rattle.m51_module.specs.declared.symbol.External.{External}
 use Rattle.m51_module.specs.Validity.{numbered, field_len}
 use Rattle.m51_module.specs.declared.object_error.ObjError.{ObjError}
-use Rattle.m51_records.specs.Codes.{form_number, form_of}
+use Rattle.m51_records.specs.Codes.{form_number, form_by_code}
 use Rattle.m51_records.specs.Contents.{latest}
 use Rattle.m51_frame.specs.Fields.{◌>>=◌, checked, or_broken, or_absent, byte_at, pair, pair_at, ended}
 
@@ -67,7 +67,7 @@ is_inside pieces segment offset form =
 unfoldable pub form_at : List Piece → ℕ → ℕ → ℕ → List ℕ → Result (Form × List ℕ) ObjError
 form_at pieces segment offset end bytes = do
   number ← byte_at end bytes
-  form ← or_broken (form_of number.0) end bytes
+  form ← or_broken (form_by_code number.0) end bytes
   checked (is_inside pieces segment offset form) end bytes (form, number.1)
 
 -- 0 to 7 for CONV, and 0 else
@@ -81,11 +81,11 @@ bit_at form end bytes = do
   checked (is_bit form bit.0) end bytes bit
 
 -- the segment or external of that number
-abbrev pub target_of : List Segment → List External → ℕ → ℕ → ℕ → List ℕ → Result Base ObjError
-target_of segments externals zero number end field = do
+abbrev pub target_by_number : List Segment → List External → ℕ → ℕ → ℕ → List ℕ → Result Base ObjError
+target_by_number segments externals zero number end field = do
   segment ← or_absent (numbered segments number) end field
   Ok (InSegment number)
-target_of segments externals (suc more) number end field = do
+target_by_number segments externals (suc more) number end field = do
   external ← or_absent (numbered externals number) end field
   Ok (OfExternal number)
 
@@ -99,7 +99,7 @@ unfoldable pub target_at : List Segment → List External → ℕ → List ℕ �
 target_at segments externals end bytes = do
   tag ← tag_at end bytes
   number ← byte_at end tag.1
-  target ← target_of segments externals tag.0 number.0 end tag.1
+  target ← target_by_number segments externals tag.0 number.0 end tag.1
   Ok (target, number.1)
 
 -- the addend, the last field

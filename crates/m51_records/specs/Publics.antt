@@ -23,16 +23,16 @@ abbrev pub public_contents : Public → List ℕ
 public_contents p = kind_number p.kind ∷ base_number p.base ∷ (pair p.number ++ text_field p.name)
 
 -- the segment of that number, which has the kind; 0 is none
-abbrev pub base_of : List Segment → Kind → ℕ → ℕ → List ℕ → Result Base ObjError
-base_of segments kind zero end field = Ok NoBase
-base_of segments kind (suc before) end field = do
+abbrev pub base_of_public : List Segment → Kind → ℕ → ℕ → List ℕ → Result Base ObjError
+base_of_public segments kind zero end field = Ok NoBase
+base_of_public segments kind (suc before) end field = do
   segment ← or_absent (numbered segments (suc before)) end field
   checked (same_kind segment.kind kind) end field (InSegment (suc before))
 
 unfoldable pub public_base_at : List Segment → Kind → ℕ → List ℕ → Result (Base × List ℕ) ObjError
 public_base_at segments kind end bytes = do
   number ← byte_at end bytes
-  base ← base_of segments kind number.0 end bytes
+  base ← base_of_public segments kind number.0 end bytes
   Ok (base, number.1)
 
 -- no public before has the name

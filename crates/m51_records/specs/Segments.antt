@@ -10,7 +10,7 @@ use Rattle.m51_cells.specs.Kinds.{same_kind, is_absolute, allows, may_overlay, l
 use Rattle.m51_module.specs.Arguments.{is_argument_name}
 use Rattle.m51_module.specs.declared.segment.Segment.{Segment}
 use Rattle.m51_module.specs.declared.object_error.ObjError.{ObjError}
-use Rattle.m51_records.specs.Codes.{kind_number, kind_of, reloc_number, reloc_of}
+use Rattle.m51_records.specs.Codes.{kind_number, kind_of, reloc_number, reloc_by_code}
 use Rattle.m51_frame.specs.Fields.{◌>>=◌, checked, or_broken, byte_at, pair, pair_at, text_field, text_at, same}
 use Rattle.m51_frame.specs.Fields.{upper_name, ended}
 
@@ -38,7 +38,7 @@ segment_kind_at end bytes = do
 unfoldable pub reloc_at : Kind → ℕ → List ℕ → Result (Reloc × List ℕ) ObjError
 reloc_at kind end bytes = do
   number ← byte_at end bytes
-  reloc ← or_broken (reloc_of number.0) end bytes
+  reloc ← or_broken (reloc_by_code number.0) end bytes
   checked (allows kind reloc) end bytes (reloc, number.1)
 
 -- what the flags say of OVERLAYABLE and of ARGUMENT, where no other bit is set

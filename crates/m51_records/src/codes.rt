@@ -1,6 +1,6 @@
 //! The numbers of kinds, types and forms in records.
 ghost use Rattle.std.specs.Prelude.{◌≡◌, ◌<◌};
-ghost use Rattle.m51_records.specs.Codes.{kind_number, kind_of, reloc_number, reloc_of, form_number, form_of};
+ghost use Rattle.m51_records.specs.Codes.{kind_number, kind_of, reloc_number, reloc_by_code, form_number, form_by_code};
 
 use m51_cells::{Kind, Reloc};
 use m51_module::Form;
@@ -65,8 +65,8 @@ pub(crate) fn kind_number(kind: Kind) -> u8
 /// The type of a number, if one has it.
 ///
 /// Source: own choice ("Object records").
-pub(crate) fn reloc_of(number: u8) -> Option<Reloc>
-    ensures { result ≡ reloc_of number }
+pub(crate) fn reloc_by_code(number: u8) -> Option<Reloc>
+    ensures { result ≡ reloc_by_code number }
 {
     RELOCS.get(usize::from(number)).copied()
 }
@@ -90,8 +90,8 @@ pub(crate) fn reloc_number(reloc: Reloc) -> u8
 /// The form of a number, if one has it.
 ///
 /// Source: own choice ("Object records").
-pub(crate) fn form_of(number: u8) -> Option<Form>
-    ensures { result ≡ form_of number }
+pub(crate) fn form_by_code(number: u8) -> Option<Form>
+    ensures { result ≡ form_by_code number }
 {
     FORMS.get(usize::from(number)).copied()
 }

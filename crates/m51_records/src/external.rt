@@ -1,7 +1,7 @@
 //! The record of an external.
 ghost use Rattle.std.specs.Prelude.{◌≡◌, ◌<◌, ◌++◌, ◌∷◌, [], false, IfOk, length, map};
 ghost use Rattle.m51_module.specs.declared.symbol.External.{External};
-ghost use Rattle.m51_frame.specs.Fields.{Reads, is_among};
+ghost use Rattle.m51_frame.specs.Fields.{Reads, is_name_among};
 ghost use Rattle.m51_records.specs.Externals.{external_contents, kind_at, external_in};
 ghost use Rattle.m51_records.specs.declared.types.TheConstants.{EXTERNAL};
 
@@ -84,7 +84,7 @@ fn read_external(
 ) -> Result<External, ObjError>
     requires { seen.now ≡ map (λ (e : External). e.name) before.now }
     ensures value { Reads (λ x. x) result (external_in before.now end contents.now) }
-    ensures new { IfOk result (λ e. is_among seen.now e.name ≡ false) }
+    ensures new { IfOk result (λ e. is_name_among seen.now e.name ≡ false) }
 {
     if before.len() >= MOST_EXTERNALS {
         return Err(broken(end, contents));

@@ -7,11 +7,11 @@ ghost use Rattle.m51_records.specs.Contents.{latest};
 ghost use Rattle.m51_frame.specs.Fields.{Reads};
 ghost use Rattle.m51_records.specs.Fixups.{target_fields, fixup_contents, field_segment_follows, fixup_segment_at};
 ghost use Rattle.m51_records.specs.Fixups.{field_follows, fixup_offset_at, holds, is_held, is_inside, form_at, is_bit};
-ghost use Rattle.m51_records.specs.Fixups.{bit_at, target_of, tag_at, target_at, addend_at, fixup_in};
+ghost use Rattle.m51_records.specs.Fixups.{bit_at, target_by_number, tag_at, target_at, addend_at, fixup_in};
 ghost use Rattle.m51_records.specs.WorkPieces.{ends_by, EndBy, ArePassed};
 ghost use Rattle.m51_records.specs.declared.types.TheConstants.{FIXUP};
 
-use crate::codes::{form_number, form_of};
+use crate::codes::{form_by_code, form_number};
 use crate::record::{Reader, Record};
 use crate::types::FIXUP;
 use m51_cells::{Base, MOST_FIXUPS, NoMemory};
@@ -173,7 +173,7 @@ fn form_at<'a>(
     ensures { Reads (λ x. (x.0, x.1.now)) result (form_at pieces.now segment offset end bytes.now) }
 {
     let (number, rest) = byte_at(end, bytes)?;
-    let Some(form) = form_of(number) else {
+    let Some(form) = form_by_code(number) else {
         return Err(broken(end, bytes));
     };
     if !is_inside_after(pieces, passed, segment, offset, form) {
@@ -216,7 +216,7 @@ fn tag_at(end: u32, bytes: &[u8]) -> Result<(u8, &[u8]), ObjError>
 }
 
 // The target of that tag and number. O5 where it does not exist.
-fn target_of(
+fn target_by_number(
     segments: &[Segment],
     externals: &[External],
     tag: u8,
@@ -224,7 +224,7 @@ fn target_of(
     end: u32,
     field: &[u8],
 ) -> Result<Base, ObjError>
-    ensures { Reads (λ x. x) result (target_of segments.now externals.now tag number end field.now) }
+    ensures { Reads (λ x. x) result (target_by_number segments.now externals.now tag number end field.now) }
 {
     if tag == 0 {
         if segment_numbered(segments, number).is_none() {
@@ -250,7 +250,7 @@ fn target_at<'a>(
 {
     let (tag, field) = tag_at(end, bytes)?;
     let (number, rest) = byte_at(end, field)?;
-    let target = target_of(segments, externals, tag, number, end, field)?;
+    let target = target_by_number(segments, externals, tag, number, end, field)?;
     Ok((target, rest))
 }
 

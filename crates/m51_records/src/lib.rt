@@ -17,7 +17,7 @@ mod types;
 mod writing;
 
 pub use laws::{one_number, one_spelling};
-pub use m51_frame::{broken, checksum_place, pair, pair_at, place, record_at, record_bytes};
+pub use m51_frame::{broken, checksum_place, offset_of, pair, pair_at, record_at, record_bytes};
 pub use m51_module::ObjError;
 pub use reading::{module_at, read_module};
 pub use types::LIBRARY_HEADER;

@@ -2,8 +2,8 @@
 ghost use Rattle.std.specs.Prelude.{◌≡◌, ◌<◌, ◌++◌, ◌∷◌, [], false, IfOk, length, map};
 ghost use Rattle.m51_module.specs.Validity.{numbered};
 ghost use Rattle.m51_module.specs.declared.symbol.Public.{Public};
-ghost use Rattle.m51_frame.specs.Fields.{Reads, is_among};
-ghost use Rattle.m51_records.specs.Publics.{base_number, public_contents, base_of, public_base_at, public_in};
+ghost use Rattle.m51_frame.specs.Fields.{Reads, is_name_among};
+ghost use Rattle.m51_records.specs.Publics.{base_number, public_contents, base_of_public, public_base_at, public_in};
 ghost use Rattle.m51_records.specs.declared.types.TheConstants.{PUBLIC};
 
 use crate::codes::kind_number;
@@ -18,14 +18,14 @@ use std::alloc::Global;
 
 // What a public of the kind is counted from, by the number of its segment. O5 where there is none, O4 where it has
 // another kind.
-fn base_of(
+fn base_of_public(
     segments: &[Segment],
     kind: Kind,
     number: u8,
     end: u32,
     field: &[u8],
 ) -> Result<Base, ObjError>
-    ensures { Reads (λ x. x) result (base_of segments.now kind number end field.now) }
+    ensures { Reads (λ x. x) result (base_of_public segments.now kind number end field.now) }
 {
     if number == 0 {
         return Ok(Base::None);
@@ -52,7 +52,7 @@ fn public_base_at<'a>(
     ensures { Reads (λ x. (x.0, x.1.now)) result (public_base_at segments.now kind end bytes.now) }
 {
     let (number, rest) = byte_at(end, bytes)?;
-    let base = base_of(segments, kind, number, end, bytes)?;
+    let base = base_of_public(segments, kind, number, end, bytes)?;
     Ok((base, rest))
 }
 
@@ -100,7 +100,7 @@ fn read_public(
 ) -> Result<Public, ObjError>
     requires { seen.now ≡ map (λ (p : Public). p.name) before.now }
     ensures value { Reads (λ x. x) result (public_in segments.now before.now end contents.now) }
-    ensures new { IfOk result (λ p. is_among seen.now p.name ≡ false) }
+    ensures new { IfOk result (λ p. is_name_among seen.now p.name ≡ false) }
 {
     let (kind, rest) = kind_at(end, contents)?;
     let (base, rest) = public_base_at(segments, kind, end, rest)?;

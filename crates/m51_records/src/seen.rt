@@ -1,6 +1,6 @@
 //! The names that records before a record have.
 ghost use Rattle.std.specs.Prelude.{◌≡◌, ◌<◌, false, [], ◌∷◌, ◌++◌, IfOk, OnOk};
-ghost use Rattle.m51_frame.specs.Fields.{Reads, is_among, new_name_at};
+ghost use Rattle.m51_frame.specs.Fields.{Reads, is_name_among, new_name_at};
 
 use indexmap::IndexSet;
 use m51_cells::{Name, NoMemory};
@@ -42,7 +42,7 @@ impl SeenNames {
     ///
     /// Source: own choice ("Object records").
     pub(crate) fn has(&self, name: &Name) -> bool
-        ensures { result ≡ is_among self.now name.now }
+        ensures { result ≡ is_name_among self.now name.now }
     {
         self.names.contains(name.bytes())
     }
@@ -51,7 +51,7 @@ impl SeenNames {
     ///
     /// Source: own choice ("Object records").
     pub(crate) fn note(&mut self, alloc: Global, name: &Name) -> Result<(), NoMemory>
-        requires { is_among self.old name.now ≡ false }
+        requires { is_name_among self.old name.now ≡ false }
         ensures { OnOk result (self.new ≡ self.old ++ name.now ∷ []) }
     {
         let key = Vec::from_slice(alloc, name.bytes())?;
@@ -67,7 +67,7 @@ impl SeenNames {
 #[tactic(auto, unfolding(m51_frame::specs::Fields::new_name_at))]
 pub(crate) fn new_name_at(seen: &SeenNames, end: u32, bytes: &[u8]) -> Result<Name, ObjError>
     ensures value { Reads (λ x. x) result (new_name_at seen.now end bytes.now) }
-    ensures new { IfOk result (λ name. is_among seen.now name ≡ false) }
+    ensures new { IfOk result (λ name. is_name_among seen.now name ≡ false) }
 {
     let (text, rest) = text_at(end, bytes)?;
     let Some(name) = upper_name(text) else {

@@ -7,7 +7,7 @@ ghost use Rattle.m51_records.specs.Segments.{size_at, names_segment, no_text, se
 ghost use Rattle.m51_records.specs.Segments.{segment_name_at, segment_in};
 ghost use Rattle.m51_records.specs.declared.types.TheConstants.{SEGMENT};
 
-use crate::codes::{kind_number, kind_of, reloc_number, reloc_of};
+use crate::codes::{kind_number, kind_of, reloc_by_code, reloc_number};
 use crate::record::{Reader, Record};
 use crate::types::SEGMENT;
 use m51_cells::{
@@ -42,7 +42,7 @@ fn reloc_at(kind: Kind, end: u32, bytes: &[u8]) -> Result<(Reloc, &[u8]), ObjErr
     ensures { Reads (λ x. (x.0, x.1.now)) result (reloc_at kind end bytes.now) }
 {
     let (number, rest) = byte_at(end, bytes)?;
-    match reloc_of(number) {
+    match reloc_by_code(number) {
         Some(reloc) => {
             if !allows(kind, reloc) {
                 return Err(broken(end, bytes));

@@ -1,12 +1,8 @@
 -- Segments that are parts of one.
-use Rattle.std.proofs.Common.{◌≡◌, Bool, true, false, cond, ◌&&◌, ◌||◌, List, [], ◌∷◌, ◌++◌, refl, sym, ap, ◌∙◌}
-use Rattle.std.specs.List.{filter, list_any}
-use Rattle.std.specs.Str.{bytes_eq}
-use Rattle.std.proofs.lemmas.Bool.{and_parts, or_right}
-use Rattle.std.proofs.lemmas.List.Folds.{list_any-append}
-use Rattle.std.proofs.lemmas.Slice.Eq.{bytes_eq-Decides}
-use Rattle.m51_module.specs.declared.segment.Segment.{Segment}
-use Rattle.m51_resolve.specs.Joining.{are_parts, is_relocatable}
+use Rattle.m51_resolve.proofs.Common.{◌≡◌, Bool, true, false, cond, ◌&&◌, ◌||◌, List, [], ◌∷◌, ◌++◌, refl, sym, ap, ◌∙◌}
+use Rattle.m51_resolve.proofs.Common.{filter, list_any, bytes_eq, or_right, list_any-append, bytes_eq-Decides, Segment}
+use Rattle.m51_resolve.proofs.Common.{are_parts, is_relocatable}
+use Rattle.std.proofs.lemmas.Bool.{and_parts}
 
 -- what is not true is false
 pub not_true : (x : Bool) → (x ≡ true → ⊥) → x ≡ false
@@ -50,11 +46,14 @@ pub apart_back : (a b : Segment) → are_parts a b ≡ false → are_parts b a �
 apart_back a b h = not_true (are_parts b a) (λ e. let k = parts_back b a e in cc)
 
 -- so they find the same among any
-pub any_same : (a b : Segment) → are_parts a b ≡ true → (ys : List Segment) → list_any (are_parts a) ys ≡ list_any (are_parts b) ys
+pub any_same : (a b : Segment) → are_parts a b ≡ true → (ys : List Segment) → list_any (are_parts a) ys
+    ≡ list_any (are_parts b) ys
 any_same a b h [] = refl
-any_same a b h (y ∷ ys) = ap (λ r. r || list_any (are_parts a) ys) (same_parts a b h y) ∙ ap (λ r. are_parts b y || r) (any_same a b h ys)
+any_same a b h (y ∷ ys) = ap (λ r. r || list_any (are_parts a) ys) (same_parts a b h y)
+    ∙ ap (λ r. are_parts b y || r) (any_same a b h ys)
 
-pub filter_same : (a b : Segment) → are_parts a b ≡ true → (ys : List Segment) → filter (are_parts a) ys ≡ filter (are_parts b) ys
+pub filter_same : (a b : Segment) → are_parts a b ≡ true → (ys : List Segment) → filter (are_parts a) ys
+    ≡ filter (are_parts b) ys
 filter_same a b h [] = refl
 filter_same a b h (y ∷ ys) =
     ap (λ r. cond r (y ∷ filter (are_parts a) ys) (filter (are_parts a) ys)) (same_parts a b h y)
@@ -64,7 +63,8 @@ filter_same a b h (y ∷ ys) =
 pub absolute_apart : (a : Segment) → is_relocatable a.reloc ≡ false → (y : Segment) → are_parts a y ≡ false
 absolute_apart a h y = ap (λ r. r && is_relocatable y.reloc && bytes_eq a.name y.name) h
 
-pub absolute_none : (a : Segment) → is_relocatable a.reloc ≡ false → (ys : List Segment) → list_any (are_parts a) ys ≡ false
+pub absolute_none : (a : Segment) → is_relocatable a.reloc ≡ false → (ys : List Segment) → list_any (are_parts a) ys
+    ≡ false
 absolute_none a h [] = refl
 absolute_none a h (y ∷ ys) = ap (λ r. r || list_any (are_parts a) ys) (absolute_apart a h y) ∙ absolute_none a h ys
 
@@ -80,4 +80,5 @@ pub any_more : (p : Segment → Bool) (xs ys : List Segment) → list_any p xs �
 any_more p xs ys h = list_any-append p xs ys ∙ ap (λ b. b || list_any p ys) h
 
 pub any_last : (p : Segment → Bool) (xs : List Segment) (x : Segment) → p x ≡ true → list_any p (xs ++ x ∷ []) ≡ true
-any_last p xs x h = list_any-append p xs (x ∷ []) ∙ ap (λ b. list_any p xs || (b || false)) h ∙ or_right (list_any p xs) true refl
+any_last p xs x h = list_any-append p xs (x ∷ []) ∙ ap (λ b. list_any p xs || (b || false)) h
+    ∙ or_right (list_any p xs) true refl

@@ -1,20 +1,16 @@
 -- The table of the names that modules define.
-use Rattle.std.proofs.Common.{◌≡◌, ℕ, suc, ◌+◌, ◌<◌, ◌≤◌, Bool, true, false, cond, not, ◌&&◌, ◌||◌, List, [], ◌∷◌, ◌++◌, length, drop, get_or, refl, sym, ap, ◌∙◌, arith, Option, Some, None, is_some}
-use Rattle.std.specs.Prelude.{◌==◌, option_map}
-use Rattle.std.specs.List.{list_any}
-use Rattle.std.specs.Option.{option_or}
-use Rattle.std.specs.Str.{bytes_eq}
+use Rattle.m51_resolve.proofs.Common.{◌≡◌, ℕ, suc, ◌+◌, ◌<◌, ◌≤◌, Bool, true, false, cond, not, ◌&&◌, ◌||◌, List, []}
+use Rattle.m51_resolve.proofs.Common.{◌∷◌, ◌++◌, length, drop, get_or, refl, sym, ap, ◌∙◌, arith, Option, Some, None}
+use Rattle.m51_resolve.proofs.Common.{is_some, option_map, list_any, option_or, bytes_eq, list_any-append}
+use Rattle.m51_resolve.proofs.Common.{bytes_eq-Decides, ModuleParts, Public, defines, has_public, Defined, Definition}
+use Rattle.m51_resolve.proofs.Common.{definition_among, definition_from, public_definition, AreAskedFor, wanted_in}
+use Rattle.m51_resolve.proofs.Common.{AreDefinitions, definition_in, shared_in, entry_by_name}
+use Rattle.std.specs.Prelude.{◌==◌}
 use Rattle.std.proofs.lemmas.Bool.{eq-eqb, ne_eqb}
 use Rattle.std.proofs.lemmas.List.{at_drop_more, drop_all}
-use Rattle.std.proofs.lemmas.List.Folds.{list_any-append}
-use Rattle.std.proofs.lemmas.Slice.Eq.{bytes_eq-Decides}
-use Rattle.m51_module.specs.declared.parts.ModuleParts.{ModuleParts}
-use Rattle.m51_module.specs.declared.symbol.Public.{Public}
-use Rattle.m51_module.specs.Library.{defines, has_public}
-use Rattle.m51_resolve.specs.declared.definitions.Defined.{Defined}
-use Rattle.m51_resolve.specs.declared.publics.Definition.{Definition}
-use Rattle.m51_resolve.specs.Publics.{definition_among, definition_from, definition_of}
-use Rattle.m51_resolve.specs.WorkNames.{AreAskedFor, NotesAsked, wanted_in, again, AreDefinitions, defined_by, definition_at, definition_in, first_defined, is_shared, noted, Notes, shared_in, two_define, value_in}
+use Rattle.m51_resolve.specs.WorkNames.{NotesAsked, again, defined_by}
+use Rattle.m51_resolve.specs.WorkNames.{definition_at, first_defined, is_shared, noted, Notes}
+use Rattle.m51_resolve.specs.WorkNames.{two_define}
 use Rattle.m51_resolve.proofs.Entries.{definition_number}
 
 -- with the mark that another module defines the name, where it has one of these publics
@@ -33,17 +29,20 @@ one_shared false false any = refl
 
 -- the publics of one more module of a name that is known
 known_by : (q : Bool) (x : Defined) (number index : ℕ) (name : List ℕ) (p : Public) (more : List Public)
-    → ((y : Defined) → noted (Some y) number (index + 1) name more ≡ Some (shares y number (list_any (λ z. bytes_eq z.name name) more)))
+    → ((y : Defined) → noted (Some y) number (index + 1) name more
+    ≡ Some (shares y number (list_any (λ z. bytes_eq z.name name) more)))
     → noted (cond q (Some (again (Some x) (definition_at number index p))) (Some x)) number (index + 1) name more
     ≡ Some (shares x number (q || list_any (λ z. bytes_eq z.name name) more))
 known_by true x number index name p more h =
     h (again (Some x) (definition_at number index p))
-    ∙ ap (λ s. Some (record { first = x.first; shared = s })) (one_shared x.shared (not (x.first.number == number)) (list_any (λ z. bytes_eq z.name name) more))
+    ∙ ap (λ s. Some (record { first = x.first; shared = s }))
+    (one_shared x.shared (not (x.first.number == number)) (list_any (λ z. bytes_eq z.name name) more))
 known_by false x number index name p more h = h x
 
 noted_known : (x : Defined) (number index : ℕ) (name : List ℕ) (ps : List Public)
     → noted (Some x) number index name ps ≡ Some (shares x number (list_any (λ z. bytes_eq z.name name) ps))
-noted_known x number index name [] = ap (λ s. Some (record { first = x.first; shared = s })) (none_shared x.shared (not (x.first.number == number)))
+noted_known x number index name [] =
+    ap (λ s. Some (record { first = x.first; shared = s })) (none_shared x.shared (not (x.first.number == number)))
 noted_known x number index name (p ∷ more) =
     known_by (bytes_eq p.name name) x number index name p more (λ y. noted_known y number (index + 1) name more)
 
@@ -59,12 +58,15 @@ new_by : (q : Bool) (number index : ℕ) (name : List ℕ) (p : Public) (more : 
 new_by true number index name p more h =
     let any = list_any (λ z. bytes_eq z.name name) more in
     noted_known (unshared (definition_at number index p)) number (index + 1) name more
-    ∙ ap (λ b. Some (record { first = definition_at number index p; shared = not b && any })) (eq-eqb number number refl)
+    ∙ ap (λ b. Some (record { first = definition_at number index p; shared = not b && any }))
+    (eq-eqb number number refl)
 new_by false number index name p more h = h
 
-noted_new : (number index : ℕ) (name : List ℕ) (ps : List Public) → noted None number index name ps ≡ option_map unshared (definition_among number index name ps)
+noted_new : (number index : ℕ) (name : List ℕ) (ps : List Public) → noted None number index name ps
+    ≡ option_map unshared (definition_among number index name ps)
 noted_new number index name [] = refl
-noted_new number index name (p ∷ more) = new_by (bytes_eq p.name name) number index name p more (noted_new number (index + 1) name more)
+noted_new number index name (p ∷ more) =
+    new_by (bytes_eq p.name name) number index name p more (noted_new number (index + 1) name more)
 
 or_none : (a : Option Definition) → option_or a None ≡ a
 or_none None = refl
@@ -76,15 +78,18 @@ or_three (Some d) b c = refl
 
 -- the definition of a name among the modules and one more
 definition_push : (number : ℕ) (name : List ℕ) (ms : List ModuleParts) (m : ModuleParts)
-    → definition_from number name (ms ++ m ∷ []) ≡ option_or (definition_from number name ms) (definition_among (number + length ms) 0 name m.publics)
-definition_push number name [] m = or_none (definition_among number 0 name m.publics) ∙ ap (λ n. definition_among n 0 name m.publics) (plus_none number) where
-  plus_none : (n : ℕ) → n ≡ n + 0
-  plus_none n = omega arith
+    → definition_from number name (ms ++ m ∷ [])
+    ≡ option_or (definition_from number name ms) (definition_among (number + length ms) 0 name m.publics)
+definition_push number name [] m = or_none (definition_among number 0 name m.publics)
+    ∙ ap (λ n. definition_among n 0 name m.publics) (plus_none number) where
+      plus_none : (n : ℕ) → n ≡ n + 0
+      plus_none n = omega arith
 definition_push number name (x ∷ ms) m =
     let a = definition_among number 0 name x.publics in
     ap (option_or a) (definition_push (number + 1) name ms m)
     ∙ or_three a (definition_from (number + 1) name ms) (definition_among (number + 1 + length ms) 0 name m.publics)
-    ∙ ap (λ n. option_or (option_or a (definition_from (number + 1) name ms)) (definition_among n 0 name m.publics)) (next number (length ms)) where
+    ∙ ap (λ n. option_or (option_or a (definition_from (number + 1) name ms)) (definition_among n 0 name m.publics))
+    (next number (length ms)) where
       next : (n l : ℕ) → n + 1 + l ≡ n + suc l
       next n l = omega arith
 
@@ -97,7 +102,8 @@ either true h = refl
 either false true = refl
 either false false = refl
 
-two_by : (hx d t t' h : Bool) → t' ≡ (t || (d && h)) → cond hx (d || (h || false)) t' ≡ (cond hx d t || ((hx || d) && h))
+two_by : (hx d t t' h : Bool) → t' ≡ (t || (d && h)) → cond hx (d || (h || false)) t'
+    ≡ (cond hx d t || ((hx || d) && h))
 two_by true d t t' h e = either d h
 two_by false d t t' h e = e
 
@@ -106,25 +112,31 @@ two_push : (name : List ℕ) (ms : List ModuleParts) (m : ModuleParts)
     → two_define (ms ++ m ∷ []) name ≡ (two_define ms name || (defines ms name && has_public name m))
 two_push name [] m = neither (has_public name m)
 two_push name (x ∷ ms) m =
-    ap (λ b. cond (has_public name x) b (two_define (ms ++ m ∷ []) name)) (list_any-append (has_public name) ms (m ∷ []))
-    ∙ two_by (has_public name x) (defines ms name) (two_define ms name) (two_define (ms ++ m ∷ []) name) (has_public name m) (two_push name ms m)
+    ap (λ b. cond (has_public name x) b (two_define (ms ++ m ∷ []) name))
+    (list_any-append (has_public name) ms (m ∷ []))
+    ∙ two_by (has_public name x) (defines ms name) (two_define ms name) (two_define (ms ++ m ∷ []) name)
+    (has_public name m) (two_push name ms m)
 
-some_by : (q any : Bool) (d : Definition) (later : Option Definition) → is_some later ≡ any → is_some (cond q (Some d) later) ≡ (q || any)
+some_by : (q any : Bool) (d : Definition) (later : Option Definition) → is_some later ≡ any
+    → is_some (cond q (Some d) later) ≡ (q || any)
 some_by true any d later h = refl
 some_by false any d later h = h
 
 -- a module has a public of the name where there is a definition among its publics
-pub among_some : (number index : ℕ) (name : List ℕ) (ps : List Public) → is_some (definition_among number index name ps) ≡ list_any (λ z. bytes_eq z.name name) ps
+pub among_some : (number index : ℕ) (name : List ℕ) (ps : List Public) → is_some (definition_among number index name ps)
+    ≡ list_any (λ z. bytes_eq z.name name) ps
 among_some number index name [] = refl
 among_some number index name (p ∷ more) =
-    some_by (bytes_eq p.name name) (list_any (λ z. bytes_eq z.name name) more) (definition_at number index p) (definition_among number (index + 1) name more)
+    some_by (bytes_eq p.name name) (list_any (λ z. bytes_eq z.name name) more) (definition_at number index p)
+    (definition_among number (index + 1) name more)
     (among_some number (index + 1) name more)
 
 some_or : (a b : Option Definition) → is_some (option_or a b) ≡ (is_some a || is_some b)
 some_or None b = refl
 some_or (Some d) b = refl
 
-from_some : (number : ℕ) (name : List ℕ) (ms : List ModuleParts) → is_some (definition_from number name ms) ≡ defines ms name
+from_some : (number : ℕ) (name : List ℕ) (ms : List ModuleParts) → is_some (definition_from number name ms)
+    ≡ defines ms name
 from_some number name [] = refl
 from_some number name (m ∷ more) =
     some_or (definition_among number 0 name m.publics) (definition_from (number + 1) name more)
@@ -132,7 +144,7 @@ from_some number name (m ∷ more) =
     ∙ ap (λ b. has_public name m || b) (from_some (number + 1) name more)
 
 -- the modules define a name that has a definition
-pub definition_some : (ms : List ModuleParts) (name : List ℕ) → is_some (definition_of ms name) ≡ defines ms name
+pub definition_some : (ms : List ModuleParts) (name : List ℕ) → is_some (public_definition ms name) ≡ defines ms name
 definition_some ms name = from_some 0 name ms
 
 no_two_by : (h d t : Bool) → (h || d) ≡ false → (d ≡ false → t ≡ false) → cond h d t ≡ false
@@ -145,18 +157,24 @@ no_two name [] h = refl
 no_two name (m ∷ more) h = no_two_by (has_public name m) (defines more name) (two_define more name) h (no_two name more)
 
 -- what is known of a name after one more module
-pushed_by : (ms : List ModuleParts) (m : ModuleParts) (name : List ℕ) (o : Option Definition) → definition_of ms name ≡ o
+pushed_by : (ms : List ModuleParts) (m : ModuleParts) (name : List ℕ) (o : Option Definition)
+    → public_definition ms name ≡ o
     → noted (option_map (λ d. record { first = d; shared = two_define ms name }) o) (length ms) 0 name m.publics
-    ≡ option_map (λ d. record { first = d; shared = two_define (ms ++ m ∷ []) name }) (option_or o (definition_among (length ms) 0 name m.publics))
+    ≡ option_map (λ d. record { first = d; shared = two_define (ms ++ m ∷ []) name })
+    (option_or o (definition_among (length ms) 0 name m.publics))
 pushed_by ms m name None is =
     let undefined : defines ms name ≡ false = sym (definition_some ms name) ∙ ap is_some is in
     let no : two_define (ms ++ m ∷ []) name ≡ false =
-    two_push name ms m ∙ ap (λ b. b || (defines ms name && has_public name m)) (no_two name ms undefined) ∙ ap (λ b. b && has_public name m) undefined in
-    noted_new (length ms) 0 name m.publics ∙ ap (λ s. option_map (λ d. record { first = d; shared = s }) (definition_among (length ms) 0 name m.publics)) (sym no)
+    two_push name ms m ∙ ap (λ b. b || (defines ms name && has_public name m)) (no_two name ms undefined)
+    ∙ ap (λ b. b && has_public name m) undefined in
+    noted_new (length ms) 0 name m.publics
+    ∙ ap (λ s. option_map (λ d. record { first = d; shared = s }) (definition_among (length ms) 0 name m.publics))
+    (sym no)
 pushed_by ms m name (Some d) is =
     let defined : defines ms name ≡ true = sym (definition_some ms name) ∙ ap is_some is in
     let number : d.number < 0 + length ms = definition_number 0 name ms d is in
-    let other : (d.number == length ms) ≡ false = ne_eqb d.number (length ms) (λ e. absurd (omega (arith, number, e))) in
+    let other : (d.number == length ms) ≡ false =
+    ne_eqb d.number (length ms) (λ e. absurd (omega (arith, number, e))) in
     let two : two_define (ms ++ m ∷ []) name ≡ (two_define ms name || has_public name m) =
     two_push name ms m ∙ ap (λ b. two_define ms name || (b && has_public name m)) defined in
     noted_known (record { first = d; shared = two_define ms name }) (length ms) 0 name m.publics
@@ -164,36 +182,47 @@ pushed_by ms m name (Some d) is =
     ∙ ap (λ s. Some (record { first = d; shared = s })) (sym two)
 
 -- of one name: the value with the publics of one more module
-push_at : (ms : List ModuleParts) (m : ModuleParts) (name : List ℕ) (old new : Option Defined) (number : ℕ) (ps : List Public) → old ≡ defined_by ms name → new ≡ noted old number 0 name ps
+push_at : (ms : List ModuleParts) (m : ModuleParts) (name : List ℕ) (old new : Option Defined) (number : ℕ)
+    (ps : List Public) → old ≡ defined_by ms name → new ≡ noted old number 0 name ps
     → number ≡ length ms → ps ≡ m.publics → new ≡ defined_by (ms ++ m ∷ []) name
 push_at ms m name old new number ps are notes number_is ps_are =
     notes ∙ ap (λ k. noted k number 0 name ps) are ∙ ap (λ n. noted (defined_by ms name) n 0 name ps) number_is
     ∙ ap (λ xs. noted (defined_by ms name) (length ms) 0 name xs) ps_are
-    ∙ pushed_by ms m name (definition_of ms name) refl
-    ∙ ap (option_map (λ d. record { first = d; shared = two_define (ms ++ m ∷ []) name })) (sym (definition_push 0 name ms m ∙ ap (λ n. option_or (definition_of ms name) (definition_among n 0 name m.publics)) (none_plus (length ms))))
+    ∙ pushed_by ms m name (public_definition ms name) refl
+    ∙ ap (option_map (λ d. record { first = d; shared = two_define (ms ++ m ∷ []) name }))
+    (sym (definition_push 0 name ms m
+    ∙ ap (λ n. option_or (public_definition ms name) (definition_among n 0 name m.publics)) (none_plus (length ms))))
   where
     none_plus : (n : ℕ) → 0 + n ≡ n
     none_plus n = omega arith
 
 -- of the names that are asked for
-pub asked_push : (asked : List (List ℕ)) (ms : List ModuleParts) (m : ModuleParts) (old new : List (List ℕ × Defined)) (number : ℕ) (ps : List Public)
-    → AreAskedFor asked ms old → NotesAsked asked old number ps new → number ≡ length ms → ps ≡ m.publics → AreAskedFor asked (ms ++ m ∷ []) new
+pub asked_push : (asked : List (List ℕ)) (ms : List ModuleParts) (m : ModuleParts) (old new : List (List ℕ × Defined))
+    (number : ℕ) (ps : List Public)
+    → AreAskedFor asked ms old → NotesAsked asked old number ps new → number ≡ length ms → ps ≡ m.publics
+    → AreAskedFor asked (ms ++ m ∷ []) new
 asked_push asked ms m old new number ps are notes number_is ps_are = record {
-  each = λ name is. push_at ms m name (value_in old name) (value_in new name) number ps (are.each name is) (notes.each name is) number_is ps_are;
+  each = λ name is. push_at ms m name (entry_by_name old name) (entry_by_name new name) number ps (are.each name is)
+      (notes.each name is) number_is ps_are;
 }
 
 pub none_asked_for : (asked : List (List ℕ)) → AreAskedFor asked [] []
 none_asked_for asked = record { each = λ name is. refl }
 
 -- the table has the publics of one more module
-pub definitions_push : (ms : List ModuleParts) (m : ModuleParts) (old new : List (List ℕ × Defined)) (number : ℕ) (ps : List Public)
-    → AreDefinitions ms old → Notes old number ps new → number ≡ length ms → ps ≡ m.publics → AreDefinitions (ms ++ m ∷ []) new
+pub definitions_push : (ms : List ModuleParts) (m : ModuleParts) (old new : List (List ℕ × Defined)) (number : ℕ)
+    (ps : List Public)
+    → AreDefinitions ms old → Notes old number ps new → number ≡ length ms → ps ≡ m.publics
+    → AreDefinitions (ms ++ m ∷ []) new
 definitions_push ms m old new number ps are notes number_is ps_are = record {
   each = λ name.
-      notes.each name ∙ ap (λ k. noted k number 0 name ps) (are.each name) ∙ ap (λ n. noted (defined_by ms name) n 0 name ps) number_is
+      notes.each name ∙ ap (λ k. noted k number 0 name ps) (are.each name)
+      ∙ ap (λ n. noted (defined_by ms name) n 0 name ps) number_is
       ∙ ap (λ xs. noted (defined_by ms name) (length ms) 0 name xs) ps_are
-      ∙ pushed_by ms m name (definition_of ms name) refl
-      ∙ ap (option_map (λ d. record { first = d; shared = two_define (ms ++ m ∷ []) name })) (sym (definition_push 0 name ms m ∙ ap (λ n. option_or (definition_of ms name) (definition_among n 0 name m.publics)) (none_plus (length ms))));
+      ∙ pushed_by ms m name (public_definition ms name) refl
+      ∙ ap (option_map (λ d. record { first = d; shared = two_define (ms ++ m ∷ []) name }))
+      (sym (definition_push 0 name ms m
+      ∙ ap (λ n. option_or (public_definition ms name) (definition_among n 0 name m.publics)) (none_plus (length ms))));
 } where
   none_plus : (n : ℕ) → 0 + n ≡ n
   none_plus n = omega arith
@@ -205,93 +234,123 @@ first_is : (o : Option Definition) (s : Bool) → first_defined (option_map (λ 
 first_is None s = refl
 first_is (Some d) s = refl
 
-pub asked_at : (asked : List (List ℕ)) (ms : List ModuleParts) (table : List (List ℕ × Defined)) → AreAskedFor asked ms table → (name : List ℕ) → wanted_in asked name ≡ true
-    → definition_in table name ≡ definition_of ms name
-asked_at asked ms table are name is = ap first_defined (are.each name is) ∙ first_is (definition_of ms name) (two_define ms name)
+pub asked_at : (asked : List (List ℕ)) (ms : List ModuleParts) (table : List (List ℕ × Defined))
+    → AreAskedFor asked ms table → (name : List ℕ) → wanted_in asked name ≡ true
+    → definition_in table name ≡ public_definition ms name
+asked_at asked ms table are name is = ap first_defined (are.each name is)
+    ∙ first_is (public_definition ms name) (two_define ms name)
 
-pub found_at : (ms : List ModuleParts) (table : List (List ℕ × Defined)) → AreDefinitions ms table → (name : List ℕ) → definition_in table name ≡ definition_of ms name
-found_at ms table are name = ap first_defined (are.each name) ∙ first_is (definition_of ms name) (two_define ms name)
+pub found_at : (ms : List ModuleParts) (table : List (List ℕ × Defined)) → AreDefinitions ms table → (name : List ℕ)
+    → definition_in table name ≡ public_definition ms name
+found_at ms table are name = ap first_defined (are.each name)
+    ∙ first_is (public_definition ms name) (two_define ms name)
 
 -- what the table finds is what the modules define
-pub definitions_are : (ms : List ModuleParts) (table : List (List ℕ × Defined)) → AreDefinitions ms table → definition_in table ≡ definition_of ms
+pub definitions_are : (ms : List ModuleParts) (table : List (List ℕ × Defined)) → AreDefinitions ms table
+    → definition_in table ≡ public_definition ms
 definitions_are ms table are = λ i name. found_at ms table are name i
 
-shared_by : (ms : List ModuleParts) (name : List ℕ) (o : Option Definition) → definition_of ms name ≡ o
+shared_by : (ms : List ModuleParts) (name : List ℕ) (o : Option Definition) → public_definition ms name ≡ o
     → is_shared (option_map (λ d. record { first = d; shared = two_define ms name }) o) ≡ two_define ms name
 shared_by ms name None is = sym (no_two name ms (sym (definition_some ms name) ∙ ap is_some is))
 shared_by ms name (Some d) is = refl
 
-pub shared_is : (ms : List ModuleParts) (table : List (List ℕ × Defined)) → AreDefinitions ms table → (name : List ℕ) → shared_in table name ≡ two_define ms name
-shared_is ms table are name = ap is_shared (are.each name) ∙ shared_by ms name (definition_of ms name) refl
+pub shared_is : (ms : List ModuleParts) (table : List (List ℕ × Defined)) → AreDefinitions ms table → (name : List ℕ)
+    → shared_in table name ≡ two_define ms name
+shared_is ms table are name = ap is_shared (are.each name) ∙ shared_by ms name (public_definition ms name) refl
 
 -- the publics from an index on are still to be noted
-pub record NotesFrom (old : List (List ℕ × Defined)) (number : ℕ) (publics : List Public) (index : ℕ) (now : List (List ℕ × Defined)) : Type 0 where
-  pub each : (name : List ℕ) → noted (value_in now name) number index name (drop index publics) ≡ noted (value_in old name) number 0 name publics
+pub record NotesFrom (old : List (List ℕ × Defined)) (number : ℕ) (publics : List Public) (index : ℕ)
+    (now : List (List ℕ × Defined)) : Type 0 where
+  pub each : (name : List ℕ) → noted (entry_by_name now name) number index name (drop index publics)
+      ≡ noted (entry_by_name old name) number 0 name publics
 
-pub note_first : (old : List (List ℕ × Defined)) (number : ℕ) (publics : List Public) → NotesFrom old number publics 0 old
+pub note_first : (old : List (List ℕ × Defined)) (number : ℕ) (publics : List Public)
+    → NotesFrom old number publics 0 old
 note_first old number publics = record { each = λ name. refl }
 
-same_again : (q : Bool) (name own : List ℕ) (table : List (List ℕ × Defined)) (d : Definition) (now : Option Defined) → bytes_eq own name ≡ q
-    → cond q (Some (again (value_in table own) d)) now ≡ cond q (Some (again (value_in table name) d)) now
-same_again true name own table d now h = ap (λ n. Some (again (value_in table n) d)) ((bytes_eq-Decides own name).0 h)
+same_again : (q : Bool) (name own : List ℕ) (table : List (List ℕ × Defined)) (d : Definition) (now : Option Defined)
+    → bytes_eq own name ≡ q
+    → cond q (Some (again (entry_by_name table own) d)) now ≡ cond q (Some (again (entry_by_name table name) d)) now
+same_again true name own table d now h =
+    ap (λ n. Some (again (entry_by_name table n) d)) ((bytes_eq-Decides own name).0 h)
 same_again false name own table d now h = refl
 
 -- one more public is noted
-pub note_more : (old now new : List (List ℕ × Defined)) (number : ℕ) (publics : List Public) (index : ℕ) (p : Public) (d : Definition)
-    → NotesFrom old number publics index now → index < length publics → p ≡ get_or publics index p → d ≡ definition_at number index p
-    → ((name : List ℕ) → value_in new name ≡ cond (bytes_eq p.name name) (Some (again (value_in now p.name) d)) (value_in now name))
+pub note_more : (old now new : List (List ℕ × Defined)) (number : ℕ) (publics : List Public) (index : ℕ) (p : Public)
+    (d : Definition)
+    → NotesFrom old number publics index now → index < length publics → p ≡ get_or publics index p → d
+    ≡ definition_at number index p
+    → ((name : List ℕ) → entry_by_name new name
+    ≡ cond (bytes_eq p.name name) (Some (again (entry_by_name now p.name) d)) (entry_by_name now name))
     → NotesFrom old number publics (index + 1) new
 note_more old now new number publics index p d notes below is d_is puts = record {
   each = λ name.
       let rest = drop (index + 1) publics in
       ap (λ k. noted k number (index + 1) name rest)
-      (puts name ∙ ap (λ e. cond (bytes_eq p.name name) (Some (again (value_in now p.name) e)) (value_in now name)) d_is
-      ∙ same_again (bytes_eq p.name name) name p.name now (definition_at number index p) (value_in now name) refl)
-      ∙ ap (λ x. noted (value_in now name) number index name (x ∷ rest)) is
-      ∙ sym (at_drop_more (λ xs. noted (value_in now name) number index name xs) publics index p below)
+      (puts name
+      ∙ ap (λ e. cond (bytes_eq p.name name) (Some (again (entry_by_name now p.name) e)) (entry_by_name now name)) d_is
+      ∙ same_again (bytes_eq p.name name) name p.name now (definition_at number index p) (entry_by_name now name) refl)
+      ∙ ap (λ x. noted (entry_by_name now name) number index name (x ∷ rest)) is
+      ∙ sym (at_drop_more (λ xs. noted (entry_by_name now name) number index name xs) publics index p below)
       ∙ notes.each name;
 }
 
 -- all are noted
-pub note_all : (old now : List (List ℕ × Defined)) (number : ℕ) (publics : List Public) (index : ℕ) → NotesFrom old number publics index now → length publics ≤ index
+pub note_all : (old now : List (List ℕ × Defined)) (number : ℕ) (publics : List Public) (index : ℕ)
+    → NotesFrom old number publics index now → length publics ≤ index
     → Notes old number publics now
 note_all old now number publics index notes past = record {
-  each = λ name. sym (ap (λ xs. noted (value_in now name) number index name xs) (drop_all index publics past)) ∙ notes.each name;
+  each = λ name. sym (ap (λ xs. noted (entry_by_name now name) number index name xs) (drop_all index publics past))
+      ∙ notes.each name;
 }
 
 -- the same of the names that are asked for
-pub record AsksFrom (asked : List (List ℕ)) (old : List (List ℕ × Defined)) (number : ℕ) (publics : List Public) (index : ℕ) (now : List (List ℕ × Defined)) : Type 0 where
-  pub each : (name : List ℕ) → wanted_in asked name ≡ true → noted (value_in now name) number index name (drop index publics) ≡ noted (value_in old name) number 0 name publics
+pub record AsksFrom (asked : List (List ℕ)) (old : List (List ℕ × Defined)) (number : ℕ) (publics : List Public)
+    (index : ℕ) (now : List (List ℕ × Defined)) : Type 0 where
+  pub each : (name : List ℕ) → wanted_in asked name ≡ true
+      → noted (entry_by_name now name) number index name (drop index publics)
+      ≡ noted (entry_by_name old name) number 0 name publics
 
-pub ask_first : (asked : List (List ℕ)) (old : List (List ℕ × Defined)) (number : ℕ) (publics : List Public) → AsksFrom asked old number publics 0 old
+pub ask_first : (asked : List (List ℕ)) (old : List (List ℕ × Defined)) (number : ℕ) (publics : List Public)
+    → AsksFrom asked old number publics 0 old
 ask_first asked old number publics = record { each = λ name a. refl }
 
-pub ask_more : (asked : List (List ℕ)) (old now new : List (List ℕ × Defined)) (number : ℕ) (publics : List Public) (index : ℕ) (p : Public) (d : Definition)
-    → AsksFrom asked old number publics index now → index < length publics → p ≡ get_or publics index p → d ≡ definition_at number index p
-    → ((name : List ℕ) → wanted_in asked name ≡ true → value_in new name ≡ cond (bytes_eq p.name name) (Some (again (value_in now p.name) d)) (value_in now name))
+pub ask_more : (asked : List (List ℕ)) (old now new : List (List ℕ × Defined)) (number : ℕ) (publics : List Public)
+    (index : ℕ) (p : Public) (d : Definition)
+    → AsksFrom asked old number publics index now → index < length publics → p ≡ get_or publics index p → d
+    ≡ definition_at number index p
+    → ((name : List ℕ) → wanted_in asked name ≡ true → entry_by_name new name
+    ≡ cond (bytes_eq p.name name) (Some (again (entry_by_name now p.name) d)) (entry_by_name now name))
     → AsksFrom asked old number publics (index + 1) new
 ask_more asked old now new number publics index p d notes below is d_is puts = record {
   each = λ name a.
       let rest = drop (index + 1) publics in
       ap (λ k. noted k number (index + 1) name rest)
-      (puts name a ∙ ap (λ e. cond (bytes_eq p.name name) (Some (again (value_in now p.name) e)) (value_in now name)) d_is
-      ∙ same_again (bytes_eq p.name name) name p.name now (definition_at number index p) (value_in now name) refl)
-      ∙ ap (λ x. noted (value_in now name) number index name (x ∷ rest)) is
-      ∙ sym (at_drop_more (λ xs. noted (value_in now name) number index name xs) publics index p below)
+      (puts name a
+      ∙ ap (λ e. cond (bytes_eq p.name name) (Some (again (entry_by_name now p.name) e)) (entry_by_name now name)) d_is
+      ∙ same_again (bytes_eq p.name name) name p.name now (definition_at number index p) (entry_by_name now name) refl)
+      ∙ ap (λ x. noted (entry_by_name now name) number index name (x ∷ rest)) is
+      ∙ sym (at_drop_more (λ xs. noted (entry_by_name now name) number index name xs) publics index p below)
       ∙ notes.each name a;
 }
 
-pub ask_all : (asked : List (List ℕ)) (old now : List (List ℕ × Defined)) (number : ℕ) (publics : List Public) (index : ℕ) → AsksFrom asked old number publics index now → length publics ≤ index
+pub ask_all : (asked : List (List ℕ)) (old now : List (List ℕ × Defined)) (number : ℕ) (publics : List Public)
+    (index : ℕ) → AsksFrom asked old number publics index now → length publics ≤ index
     → NotesAsked asked old number publics now
 ask_all asked old now number publics index notes past = record {
-  each = λ name a. sym (ap (λ xs. noted (value_in now name) number index name xs) (drop_all index publics past)) ∙ notes.each name a;
+  each = λ name a. sym (ap (λ xs. noted (entry_by_name now name) number index name xs) (drop_all index publics past))
+      ∙ notes.each name a;
 }
 
 -- a name that is not asked for
-pub puts_nothing : (asked : List (List ℕ)) (name : List ℕ) (table : List (List ℕ × Defined)) (d : Definition) → wanted_in asked name ≡ false
-    → (other : List ℕ) → wanted_in asked other ≡ true → value_in table other ≡ cond (bytes_eq name other) (Some (again (value_in table name) d)) (value_in table other)
+pub puts_nothing : (asked : List (List ℕ)) (name : List ℕ) (table : List (List ℕ × Defined)) (d : Definition)
+    → wanted_in asked name ≡ false
+    → (other : List ℕ) → wanted_in asked other ≡ true → entry_by_name table other
+    ≡ cond (bytes_eq name other) (Some (again (entry_by_name table name) d)) (entry_by_name table other)
 puts_nothing asked name table d none other some = by (bytes_eq name other) refl
   where
-    by : (b : Bool) → bytes_eq name other ≡ b → value_in table other ≡ cond b (Some (again (value_in table name) d)) (value_in table other)
+    by : (b : Bool) → bytes_eq name other ≡ b → entry_by_name table other
+        ≡ cond b (Some (again (entry_by_name table name) d)) (entry_by_name table other)
     by false e = refl
     by true e = absurd (cc (none, some, (bytes_eq-Decides name other).0 e))

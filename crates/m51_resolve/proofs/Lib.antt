@@ -1,5 +1,6 @@
 pub mod Alike
 pub mod Answering
+pub mod Common
 pub mod DefinedNames
 pub mod Entries
 pub mod FirstSight

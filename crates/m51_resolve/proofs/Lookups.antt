@@ -1,13 +1,12 @@
 -- Looking up what a module has in the list of all.
-use Rattle.std.proofs.Common.{◌≡◌, ℕ, zero, suc, ◌+◌, ◌≤◌, List, [], ◌∷◌, ◌++◌, length, take, drop, refl, sym, ap, ◌∙◌, append_assoc, length-append, zero-add, add_assoc, arith, Option, Some, None}
-use Rattle.std.specs.Prelude.{flat_map, IsSome, option_and_then, slice_get}
-use Rattle.std.proofs.lemmas.List.{append-nil, take-append-le}
+use Rattle.m51_resolve.proofs.Common.{◌≡◌, ℕ, zero, suc, ◌+◌, ◌≤◌, List, [], ◌∷◌, ◌++◌, length, take, drop, refl, sym}
+use Rattle.m51_resolve.proofs.Common.{ap, ◌∙◌, append_assoc, length-append, zero-add, arith, Option, Some, None}
+use Rattle.m51_resolve.proofs.Common.{flat_map, slice_get, append-nil, ModuleParts, Segment, part_after, parts_after}
+use Rattle.std.proofs.Common.{add_assoc}
+use Rattle.std.specs.Prelude.{IsSome, option_and_then}
+use Rattle.std.proofs.lemmas.List.{take-append-le}
 use Rattle.std.proofs.Math.Seq.{take-append-add}
-use Rattle.m51_module.specs.declared.parts.ModuleParts.{ModuleParts}
-use Rattle.m51_module.specs.declared.segment.Segment.{Segment}
 use Rattle.m51_module.specs.Validity.{numbered}
-use Rattle.m51_resolve.specs.Joining.{part_after}
-use Rattle.m51_resolve.specs.Kept.{parts_after}
 
 -- the module of that number has an item of that number, from 1
 pub record IsThere {A : Type 0} (items : ModuleParts → List A) (modules : List ModuleParts) (m s : ℕ) : Type 0 where
@@ -19,23 +18,31 @@ pub record IsThere {A : Type 0} (items : ModuleParts → List A) (modules : List
   pub at : slice_get (items holder) index ≡ Some item
 
 module _ {A : Type 0} (items : ModuleParts → List A) (modules : List ModuleParts) (m : ℕ) where
-  there_at : (s : ℕ) (holder : ModuleParts) (index : ℕ) → s ≡ suc index → slice_get modules m ≡ Some holder → (o : Option A) → slice_get (items holder) index ≡ o → IsSome o
+  there_at : (s : ℕ) (holder : ModuleParts) (index : ℕ) → s ≡ suc index → slice_get modules m ≡ Some holder
+      → (o : Option A) → slice_get (items holder) index ≡ o → IsSome o
       → IsThere items modules m s
   there_at s holder index number is None at h = cc
-  there_at s holder index number is (Some item) at h = record { holder = holder; is = is; index = index; number = number; item = item; at = at }
+  there_at s holder index number is (Some item) at h =
+      record { holder = holder; is = is; index = index; number = number; item = item; at = at }
 
-  there_by : (s : ℕ) (o : Option ModuleParts) → slice_get modules m ≡ o → IsSome (option_and_then (λ (holder : ModuleParts). numbered (items holder) s) o) → IsThere items modules m s
+  there_by : (s : ℕ) (o : Option ModuleParts) → slice_get modules m ≡ o
+      → IsSome (option_and_then (λ (holder : ModuleParts). numbered (items holder) s) o) → IsThere items modules m s
   there_by s None is h = cc
   there_by zero (Some holder) is h = cc
-  there_by (suc index) (Some holder) is h = there_at (suc index) holder index refl is (slice_get (items holder) index) refl h
+  there_by (suc index) (Some holder) is h =
+      there_at (suc index) holder index refl is (slice_get (items holder) index) refl h
 
-  pub there : (s : ℕ) → IsSome (option_and_then (λ (holder : ModuleParts). numbered (items holder) s) (slice_get modules m)) → IsThere items modules m s
+  pub there : (s : ℕ)
+      → IsSome (option_and_then (λ (holder : ModuleParts). numbered (items holder) s) (slice_get modules m))
+      → IsThere items modules m s
   there s h = there_by s (slice_get modules m) refl h
 
   -- and the other way round
-  pub found : (s : ℕ) (t : IsThere items modules m s) → option_and_then (λ (holder : ModuleParts). numbered (items holder) s) (slice_get modules m) ≡ Some t.item
+  pub found : (s : ℕ) (t : IsThere items modules m s)
+      → option_and_then (λ (holder : ModuleParts). numbered (items holder) s) (slice_get modules m) ≡ Some t.item
   found s t =
-      ap (option_and_then (λ (holder : ModuleParts). numbered (items holder) s)) t.is ∙ ap (numbered (items t.holder)) t.number ∙ t.at
+      ap (option_and_then (λ (holder : ModuleParts). numbered (items holder) s)) t.is
+      ∙ ap (numbered (items t.holder)) t.number ∙ t.at
 
 pub get-append : {A : Type 0} (xs ys : List A) (n : ℕ) → slice_get (xs ++ ys) (length xs + n) ≡ slice_get ys n
 get-append [] ys n = ap (slice_get ys) (zero-add n)
@@ -50,29 +57,37 @@ get_left (y ∷ xs) ys (suc n) x h = get_left xs ys n x h
 
 module _ {A : Type 0} (items : ModuleParts → List A) where
   -- an item of a module comes after those of the modules before
-  pub get_flat : (modules : List ModuleParts) (m j : ℕ) (holder : ModuleParts) (item : A) → slice_get modules m ≡ Some holder → slice_get (items holder) j ≡ Some item
+  pub get_flat : (modules : List ModuleParts) (m j : ℕ) (holder : ModuleParts) (item : A) → slice_get modules m
+      ≡ Some holder → slice_get (items holder) j ≡ Some item
       → slice_get (flat_map items modules) (length (flat_map items (take m modules)) + j) ≡ Some item
   get_flat [] m j holder item is at = cc
   get_flat (x ∷ modules) zero j holder item is at =
       let same : x ≡ holder = cc in
-      ap (slice_get (items x ++ flat_map items modules)) (zero-add j) ∙ get_left (items x) (flat_map items modules) j item (ap (λ h. slice_get (items h) j) same ∙ at)
+      ap (slice_get (items x ++ flat_map items modules)) (zero-add j)
+      ∙ get_left (items x) (flat_map items modules) j item (ap (λ h. slice_get (items h) j) same ∙ at)
   get_flat (x ∷ modules) (suc m) j holder item is at =
       let before = flat_map items (take m modules) in
-      ap (slice_get (items x ++ flat_map items modules)) (ap (λ n. n + j) (length-append (items x) before) ∙ add_assoc (length (items x)) (length before) j)
+      ap (slice_get (items x ++ flat_map items modules))
+      (ap (λ n. n + j) (length-append (items x) before) ∙ add_assoc (length (items x)) (length before) j)
       ∙ get-append (items x) (flat_map items modules) (length before + j) ∙ get_flat modules m j holder item is at
 
   -- and these are the items before it
-  pub take_flat : (modules : List ModuleParts) (m j : ℕ) (holder : ModuleParts) → slice_get modules m ≡ Some holder → j ≤ length (items holder)
-      → take (length (flat_map items (take m modules)) + j) (flat_map items modules) ≡ flat_map items (take m modules) ++ take j (items holder)
+  pub take_flat : (modules : List ModuleParts) (m j : ℕ) (holder : ModuleParts) → slice_get modules m ≡ Some holder
+      → j ≤ length (items holder)
+      → take (length (flat_map items (take m modules)) + j) (flat_map items modules)
+      ≡ flat_map items (take m modules) ++ take j (items holder)
   take_flat [] m j holder is inside = cc
   take_flat (x ∷ modules) zero j holder is inside =
       let same : x ≡ holder = cc in
       let inside' : j ≤ length (items x) = omega (arith, inside, ap (λ h. length (items h)) same) in
-      ap (λ n. take n (items x ++ flat_map items modules)) (zero-add j) ∙ take-append-le j (items x) (flat_map items modules) inside' ∙ ap (λ h. take j (items h)) same
+      ap (λ n. take n (items x ++ flat_map items modules)) (zero-add j)
+      ∙ take-append-le j (items x) (flat_map items modules) inside' ∙ ap (λ h. take j (items h)) same
   take_flat (x ∷ modules) (suc m) j holder is inside =
       let before = flat_map items (take m modules) in
-      ap (λ n. take n (items x ++ flat_map items modules)) (ap (λ n. n + j) (length-append (items x) before) ∙ add_assoc (length (items x)) (length before) j)
-      ∙ take-append-add (items x) (flat_map items modules) (length before + j) ∙ ap (λ xs. items x ++ xs) (take_flat modules m j holder is inside)
+      ap (λ n. take n (items x ++ flat_map items modules))
+      (ap (λ n. n + j) (length-append (items x) before) ∙ add_assoc (length (items x)) (length before) j)
+      ∙ take-append-add (items x) (flat_map items modules) (length before + j)
+      ∙ ap (λ xs. items x ++ xs) (take_flat modules m j holder is inside)
       ∙ sym (append_assoc (items x) before (take j (items holder)))
 
 -- the part in the table is that of the segment there
@@ -80,12 +95,15 @@ pub get_part : (before segments : List Segment) (n : ℕ) (s : Segment) → slic
     → slice_get (parts_after before segments) n ≡ Some (part_after (before ++ take n segments) s)
 get_part before [] n s is = cc
 get_part before (x ∷ segments) zero s is =
-    let same : x ≡ s = cc in ap (λ y. Some (part_after before y)) same ∙ ap (λ b. Some (part_after b s)) (sym (append-nil before))
+    let same : x ≡ s = cc in ap (λ y. Some (part_after before y)) same
+    ∙ ap (λ b. Some (part_after b s)) (sym (append-nil before))
 get_part before (x ∷ segments) (suc n) s is =
-    get_part (before ++ x ∷ []) segments n s is ∙ ap (λ b. Some (part_after b s)) (append_assoc before (x ∷ []) (take n segments))
+    get_part (before ++ x ∷ []) segments n s is
+    ∙ ap (λ b. Some (part_after b s)) (append_assoc before (x ∷ []) (take n segments))
 
 -- a list around one of its items
-pub around : {A : Type 0} (xs : List A) (n : ℕ) (x : A) → slice_get xs n ≡ Some x → xs ≡ take n xs ++ x ∷ drop (suc n) xs
+pub around : {A : Type 0} (xs : List A) (n : ℕ) (x : A) → slice_get xs n ≡ Some x → xs
+    ≡ take n xs ++ x ∷ drop (suc n) xs
 around [] n x is = cc
 around (y ∷ xs) zero x is = let same : y ≡ x = cc in ap (λ z. z ∷ xs) same
 around (y ∷ xs) (suc n) x is = ap (λ zs. y ∷ zs) (around xs n x is)

@@ -1,7 +1,7 @@
 -- Where none is found.
-use Rattle.std.proofs.Common.{◌≡◌, ℕ, suc, ◌+◌, ◌<◌, Bool, true, false, cond, not, ◌||◌, List, [], ◌∷◌, length, ap, arith, Some, None}
-use Rattle.std.specs.Prelude.{nat_lt, position}
-use Rattle.std.specs.List.{list_any, position_or_len}
+use Rattle.m51_resolve.proofs.Common.{◌≡◌, ℕ, suc, ◌+◌, ◌<◌, Bool, true, false, cond, not, ◌||◌, List, [], ◌∷◌, length}
+use Rattle.m51_resolve.proofs.Common.{ap, arith, Some, None, nat_lt, position, list_any}
+use Rattle.std.specs.List.{position_or_len}
 use Rattle.std.proofs.lemmas.Bool.Decides.{Decides-ltb}
 use Rattle.m51_resolve.proofs.Alike.{not_true}
 

@@ -1,19 +1,19 @@
 -- The items of all modules in one list.
-use Rattle.std.proofs.Common.{◌≡◌, inl, inr, ℕ, ◌+◌, ◌*◌, ◌<◌, ◌≤◌, List, [], ◌∷◌, ◌++◌, length, take, get_or, refl, sym, ap, ◌∙◌, subst, arith, length-append}
-use Rattle.std.specs.Prelude.{flat_map, slice_index}
-use Rattle.std.proofs.lemmas.List.{append-nil, get_or_default, take_more}
+use Rattle.m51_resolve.proofs.Common.{◌≡◌, inl, inr, ℕ, ◌+◌, ◌*◌, ◌<◌, ◌≤◌, List, [], ◌∷◌, ◌++◌, length, take, get_or}
+use Rattle.m51_resolve.proofs.Common.{refl, sym, ap, ◌∙◌, subst, arith, length-append, flat_map, append-nil, take_more}
+use Rattle.m51_resolve.proofs.Common.{ModuleParts, Segment, AreStarts}
+use Rattle.std.specs.Prelude.{slice_index}
+use Rattle.std.proofs.lemmas.List.{get_or_default}
 use Rattle.std.proofs.lemmas.List.Concat.{flat_map-append}
 use Rattle.std.proofs.Math.ListN.{get_or-append}
 use Rattle.std.proofs.Math.Seq.{get_or-append_seam, take-length}
 use Rattle.m51_cells.specs.declared.limits.TheConstants.{MOST_MODULE_SEGMENTS}
 use Rattle.m51_cells.proofs.Small.{below_or_last}
-use Rattle.m51_module.specs.declared.parts.ModuleParts.{ModuleParts}
-use Rattle.m51_module.specs.declared.segment.Segment.{Segment}
 use Rattle.m51_module.specs.Validity.{IsValid}
-use Rattle.m51_resolve.specs.Kept.{AreStarts}
 
 -- the items of the first `count` modules, and where those of each begin
-pub record AreFlat {A : Type 0} (items : ModuleParts → List A) (modules : List ModuleParts) (count : ℕ) (all : List A) (starts : List ℕ) : Type 0 where
+pub record AreFlat {A : Type 0} (items : ModuleParts → List A) (modules : List ModuleParts) (count : ℕ) (all : List A)
+    (starts : List ℕ) : Type 0 where
   pub few : count ≤ length modules
   pub flat : all ≡ flat_map items (take count modules)
   pub len : length starts ≡ count
@@ -24,37 +24,49 @@ pub record AreSegmentsOf (modules : List ModuleParts) (count : ℕ) (all : List 
   pub most : length all ≤ MOST_MODULE_SEGMENTS * count
   pub valid : (m : ℕ) → m < count → (d : ModuleParts) → IsValid (get_or modules m d)
 
-pub flat_start : {A : Type 0} (items : ModuleParts → List A) (modules : List ModuleParts) → AreFlat items modules 0 [] []
-flat_start items modules = record { few = omega arith; flat = refl; len = refl; each = λ m below. absurd (omega (arith, below)) }
+pub flat_start : {A : Type 0} (items : ModuleParts → List A) (modules : List ModuleParts)
+    → AreFlat items modules 0 [] []
+flat_start items modules =
+    record { few = omega arith; flat = refl; len = refl; each = λ m below. absurd (omega (arith, below)) }
 
 -- the items of one more module
-pub flat_more : {A : Type 0} (items : ModuleParts → List A) (modules : List ModuleParts) (count : ℕ) (all : List A) (starts : List ℕ) (m : ModuleParts) (start : ℕ)
+pub flat_more : {A : Type 0} (items : ModuleParts → List A) (modules : List ModuleParts) (count : ℕ) (all : List A)
+    (starts : List ℕ) (m : ModuleParts) (start : ℕ)
     → AreFlat items modules count all starts → count < length modules → m ≡ get_or modules count m → start ≡ length all
     → AreFlat items modules (count + 1) (all ++ items m) (starts ++ start ∷ [])
 flat_more {A} items modules count all starts m start h below is start_is =
-    let more : take (count + 1) modules ≡ take count modules ++ m ∷ [] = take_more modules count m below ∙ ap (λ x. take count modules ++ x ∷ []) (sym is) in
+    let more : take (count + 1) modules ≡ take count modules ++ m ∷ [] = take_more modules count m below
+    ∙ ap (λ x. take count modules ++ x ∷ []) (sym is) in
     record {
       few = omega arith;
-      flat = ap (λ xs. xs ++ items m) h.flat ∙ ap (λ xs. flat_map items (take count modules) ++ xs) (sym (append-nil (items m)))
+      flat = ap (λ xs. xs ++ items m) h.flat
+          ∙ ap (λ xs. flat_map items (take count modules) ++ xs) (sym (append-nil (items m)))
           ∙ sym (flat_map-append items (take count modules) (m ∷ [])) ∙ ap (flat_map items) (sym more);
       len = omega (arith, h.len, length-append starts (start ∷ []));
-      each = λ k inside. elim (below_or_last k count inside) as (λ _. slice_index (starts ++ start ∷ []) k ≡ length (flat_map items (take k modules))) [
-        | inl less ↦ get_or-append starts (start ∷ []) 0 k (omega (arith, less, h.len)) ∙ h.each k less
-        | inr last ↦ ap (λ n. slice_index (starts ++ start ∷ []) n) (last ∙ sym h.len) ∙ get_or-append_seam starts start [] 0
-            ∙ start_is ∙ ap length h.flat ∙ ap (λ n. length (flat_map items (take n modules))) (sym last)
-      ];
+      each = λ k inside. elim (below_or_last k count inside) as
+          (λ _. slice_index (starts ++ start ∷ []) k ≡ length (flat_map items (take k modules))) [
+            | inl less ↦ get_or-append starts (start ∷ []) 0 k (omega (arith, less, h.len)) ∙ h.each k less
+            | inr last ↦ ap (λ n. slice_index (starts ++ start ∷ []) n) (last ∙ sym h.len)
+                ∙ get_or-append_seam starts start [] 0
+                ∙ start_is ∙ ap length h.flat ∙ ap (λ n. length (flat_map items (take n modules))) (sym last)
+          ];
     }
 
 -- one more valid module
-pub valid_more : (modules : List ModuleParts) (count : ℕ) (m : ModuleParts) → ((k : ℕ) → k < count → (d : ModuleParts) → IsValid (get_or modules k d)) → count < length modules
-    → m ≡ get_or modules count m → IsValid m → (k : ℕ) → k < count + 1 → (d : ModuleParts) → IsValid (get_or modules k d)
-valid_more modules count m valid below is own k inside d = elim (below_or_last k count inside) as (λ _. IsValid (get_or modules k d)) [
-  | inl less ↦ valid k less d
-  | inr last ↦ subst (λ x. IsValid x) (is ∙ get_or_default modules count m d below ∙ ap (λ n. get_or modules n d) (sym last)) own
-]
+pub valid_more : (modules : List ModuleParts) (count : ℕ) (m : ModuleParts)
+    → ((k : ℕ) → k < count → (d : ModuleParts) → IsValid (get_or modules k d)) → count < length modules
+    → m ≡ get_or modules count m → IsValid m → (k : ℕ) → k < count + 1 → (d : ModuleParts)
+    → IsValid (get_or modules k d)
+valid_more modules count m valid below is own k inside d =
+    elim (below_or_last k count inside) as (λ _. IsValid (get_or modules k d)) [
+      | inl less ↦ valid k less d
+      | inr last ↦ subst (λ x. IsValid x)
+          (is ∙ get_or_default modules count m d below ∙ ap (λ n. get_or modules n d) (sym last)) own
+    ]
 
 -- all of them
-pub flat_all : {A : Type 0} (items : ModuleParts → List A) (modules : List ModuleParts) (count : ℕ) (all : List A) (starts : List ℕ) → AreFlat items modules count all starts
+pub flat_all : {A : Type 0} (items : ModuleParts → List A) (modules : List ModuleParts) (count : ℕ) (all : List A)
+    (starts : List ℕ) → AreFlat items modules count all starts
     → length modules ≤ count → (all ≡ flat_map items modules) × AreStarts items modules starts
 flat_all items modules count all starts h past =
     let whole : count ≡ length modules = omega (arith, h.few, past) in (

@@ -1,16 +1,12 @@
 -- The set of the names that modules want.
-use Rattle.std.proofs.Common.{◌≡◌, ℕ, ◌+◌, ◌<◌, ◌≤◌, true, cond, ◌||◌, List, [], ◌∷◌, ◌++◌, length, take, get_or, refl, sym, ap, ◌∙◌}
-use Rattle.std.specs.List.{list_any}
-use Rattle.std.specs.Str.{bytes_eq}
-use Rattle.std.proofs.lemmas.List.Folds.{list_any-append}
-use Rattle.m51_module.specs.declared.parts.ModuleParts.{ModuleParts}
-use Rattle.m51_module.specs.declared.symbol.External.{External}
+use Rattle.m51_resolve.proofs.Common.{◌≡◌, ℕ, ◌+◌, ◌<◌, ◌≤◌, true, cond, ◌||◌, List, [], ◌∷◌, ◌++◌, length, take}
+use Rattle.m51_resolve.proofs.Common.{get_or, refl, sym, ap, ◌∙◌, list_any, bytes_eq, list_any-append, ModuleParts}
+use Rattle.m51_resolve.proofs.Common.{External, wants, AreWanted, wanted_in, Wants}
 use Rattle.m51_module.proofs.NotedNames.{note_all, note_more, note_none, or_last}
-use Rattle.m51_resolve.specs.Choice.{wants}
-use Rattle.m51_resolve.specs.WorkNames.{AreWanted, wanted_in, Wants}
 
 -- the set has the externals of one more module
-pub wanted_push : (ms : List ModuleParts) (m : ModuleParts) (old new : List (List ℕ)) (externals : List External) → AreWanted ms old → Wants old externals new
+pub wanted_push : (ms : List ModuleParts) (m : ModuleParts) (old new : List (List ℕ)) (externals : List External)
+    → AreWanted ms old → Wants old externals new
     → externals ≡ m.externals → AreWanted (ms ++ m ∷ []) new
 wanted_push ms m old new externals are want externals_are = record {
   each = λ name.
@@ -26,11 +22,15 @@ pub want_none : (old : List (List ℕ)) (externals : List External) → Wants ol
 want_none old externals = note_none (λ (e : External). e.name) old externals
 
 -- one more external is noted
-pub want_more : (old now new : List (List ℕ)) (externals : List External) (index : ℕ) (e : External) → Wants old (take index externals) now → index < length externals
-    → e ≡ get_or externals index e → ((name : List ℕ) → wanted_in new name ≡ cond (bytes_eq e.name name) true (wanted_in now name))
+pub want_more : (old now new : List (List ℕ)) (externals : List External) (index : ℕ) (e : External)
+    → Wants old (take index externals) now → index < length externals
+    → e ≡ get_or externals index e
+    → ((name : List ℕ) → wanted_in new name ≡ cond (bytes_eq e.name name) true (wanted_in now name))
     → Wants old (take (index + 1) externals) new
-want_more old now new externals index e want below is puts = note_more (λ (x : External). x.name) old now new externals index e want below is puts
+want_more old now new externals index e want below is puts =
+    note_more (λ (x : External). x.name) old now new externals index e want below is puts
 
 -- all are noted
-pub want_all : (old now : List (List ℕ)) (externals : List External) (index : ℕ) → Wants old (take index externals) now → length externals ≤ index → Wants old externals now
+pub want_all : (old now : List (List ℕ)) (externals : List External) (index : ℕ) → Wants old (take index externals) now
+    → length externals ≤ index → Wants old externals now
 want_all old now externals index want past = note_all (λ (x : External). x.name) old now externals index want past

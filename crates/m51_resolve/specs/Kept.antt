@@ -16,8 +16,8 @@ parts_after before [] = []
 parts_after before (s ∷ more) = part_after before s ∷ parts_after (before ++ s ∷ []) more
 
 -- the parts that the segments of the modules are, in module order
-abbrev pub parts_of : List ModuleParts → List SegmentPart
-parts_of modules = parts_after [] (all_segments modules)
+abbrev pub segment_parts : List ModuleParts → List SegmentPart
+segment_parts modules = parts_after [] (all_segments modules)
 
 -- the publics that resolve the externals of the modules, in module order
 abbrev pub publics_of : List ModuleParts → List Definition
@@ -36,6 +36,6 @@ pub record AreKept (modules : List ModuleParts) (joined : List JoinedSegment) (s
   pub resolved : AreResolved modules
   pub segments : joined ≡ segments_of modules
   pub segment_starts : AreStarts (λ m. m.segments) modules starts
-  pub parts : table ≡ parts_of modules
+  pub parts : table ≡ segment_parts modules
   pub public_starts : AreStarts (λ m. m.externals) modules external_starts
   pub publics : found ≡ publics_of modules

@@ -26,8 +26,8 @@ definition_from number name (m ∷ more) =
     option_or (definition_among number 0 name m.publics) (definition_from (number + 1) name more)
 
 -- the public of the name in the modules; where L1 does not come, there is at most one
-abbrev pub definition_of : List ModuleParts → List ℕ → Option Definition
-definition_of modules name = definition_from 0 name modules
+abbrev pub public_definition : List ModuleParts → List ℕ → Option Definition
+public_definition modules name = definition_from 0 name modules
 
 -- all externals of the modules, in module order
 abbrev pub all_externals : List ModuleParts → List External
@@ -44,13 +44,13 @@ external_at modules m e = option_and_then (λ (chosen : ModuleParts). numbered c
 
 -- the public that resolves an external
 abbrev pub resolving : List ModuleParts → External → Definition
-resolving modules e = unwrap_or (definition_of modules e.name) nowhere
+resolving modules e = unwrap_or (public_definition modules e.name) nowhere
 
 -- The public that resolves an external of a module: the number of its module, and its index there, both from 0.
 abbrev pub public_of : List ModuleParts → ℕ → ℕ → ℕ × ℕ
 public_of modules m e =
     let known : Option Definition =
-    option_and_then (λ (x : External). definition_of modules x.name) (external_at modules m e) in
+    option_and_then (λ (x : External). public_definition modules x.name) (external_at modules m e) in
     let found : Definition = unwrap_or known nowhere in
     (found.number, found.index)
 

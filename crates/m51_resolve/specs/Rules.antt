@@ -16,7 +16,7 @@ use Rattle.m51_module.specs.declared.symbol.External.{External}
 use Rattle.m51_module.specs.Library.{defines}
 use Rattle.m51_resolve.specs.Choice.{chosen_of, members_of}
 use Rattle.m51_resolve.specs.Joining.{all_segments, firsts, parts_with, segments_of}
-use Rattle.m51_resolve.specs.Publics.{all_externals, definition_of, kinds_agree}
+use Rattle.m51_resolve.specs.Publics.{all_externals, public_definition, kinds_agree}
 use Rattle.m51_resolve.specs.declared.publics.Definition.{Definition}
 use Rattle.m51_resolve.specs.declared.segment.JoinedSegment.{JoinedSegment}
 
@@ -32,7 +32,7 @@ shared_public modules = shared_after [] modules
 
 -- L2: the first external that no chosen module defines
 abbrev pub is_undefined : List ModuleParts → External → Bool
-is_undefined modules e = is_none (definition_of modules e.name)
+is_undefined modules e = is_none (public_definition modules e.name)
 
 abbrev pub undefined_external : List ModuleParts → Option (List ℕ)
 undefined_external modules = option_map (λ e. e.name) (find (is_undefined modules) (all_externals modules))
@@ -43,7 +43,7 @@ is_against kind None = false
 is_against kind (Some found) = not (kinds_agree kind found.kind)
 
 abbrev pub is_contrary : List ModuleParts → External → Bool
-is_contrary modules e = is_against e.kind (definition_of modules e.name)
+is_contrary modules e = is_against e.kind (public_definition modules e.name)
 
 abbrev pub contrary_external : List ModuleParts → Option (List ℕ)
 contrary_external modules = option_map (λ e. e.name) (find (is_contrary modules) (all_externals modules))
@@ -77,28 +77,28 @@ abbrev pub large_segment : List ModuleParts → Option (List ℕ)
 large_segment modules = option_map (λ j. j.title) (find is_too_large (segments_of modules))
 
 -- the units: the joined segments of program memory
-abbrev pub units_of : List ModuleParts → List JoinedSegment
-units_of modules = filter (λ j. is_code j.kind) (segments_of modules)
+abbrev pub joined_units : List ModuleParts → List JoinedSegment
+joined_units modules = filter (λ j. is_code j.kind) (segments_of modules)
 
 -- the refusal by a limit, where the count is above it
 abbrev pub more_than : ℕ → Quantity → ℕ → Option Refusal
 more_than most what count = if nat_lt most count then Some (Limit what) else None
 
 -- the first refusal of these
-abbrev pub first_of : List (Option Refusal) → Option Refusal
-first_of [] = None
-first_of (rule ∷ more) = option_or rule (first_of more)
+abbrev pub earliest_refusal : List (Option Refusal) → Option Refusal
+earliest_refusal [] = None
+earliest_refusal (rule ∷ more) = option_or rule (earliest_refusal more)
 
 -- The rules in their order.
 abbrev pub first_refusal : List ModuleParts → Option Refusal
-first_refusal modules = first_of (
+first_refusal modules = earliest_refusal (
     more_than MOST_MODULES Modules (length modules)
     ∷ option_map L1 (shared_public modules)
     ∷ option_map L2 (undefined_external modules)
     ∷ option_map L3 (contrary_external modules)
     ∷ option_map L4 (mixed_segment modules)
     ∷ more_than MOST_SEGMENTS Segments (length (segments_of modules))
-    ∷ more_than MOST_UNITS Units (length (units_of modules))
+    ∷ more_than MOST_UNITS Units (length (joined_units modules))
     ∷ option_map L5 (large_segment modules)
     ∷ [])
 
@@ -108,12 +108,12 @@ unless_refused modules None = Ok modules
 unless_refused modules (Some refusal) = Err refusal
 
 -- the result where these modules are chosen: them, or the refusal of the first rule that fails
-abbrev pub answer_of : List ModuleParts → Result (List ModuleParts) Refusal
-answer_of chosen = unless_refused chosen (first_refusal chosen)
+abbrev pub resolved_or_refused : List ModuleParts → Result (List ModuleParts) Refusal
+resolved_or_refused chosen = unless_refused chosen (first_refusal chosen)
 
 -- The result of resolving.
 abbrev pub resolved_of : List ModuleParts → List (List ModuleParts) → Result (List ModuleParts) Refusal
-resolved_of given libraries = answer_of (chosen_of given (members_of libraries))
+resolved_of given libraries = resolved_or_refused (chosen_of given (members_of libraries))
 
 -- an error as the refusal that it is, or none for out of memory
 abbrev pub but_memory : Refusal → Option Refusal
@@ -128,5 +128,5 @@ pub record AreResolved (modules : List ModuleParts) : Type 0 where
   pub kinds : contrary_external modules ≡ None
   pub parts : mixed_segment modules ≡ None
   pub few_segments : length (segments_of modules) ≤ MOST_SEGMENTS
-  pub few_units : length (units_of modules) ≤ MOST_UNITS
+  pub few_units : length (joined_units modules) ≤ MOST_UNITS
   pub sizes : large_segment modules ≡ None

@@ -8,18 +8,18 @@ use Rattle.m51_module.specs.Library.{defines}
 use Rattle.m51_resolve.specs.declared.publics.Definition.{Definition}
 use Rattle.m51_resolve.specs.Choice.{is_needed, wants}
 
-abbrev pub number_of : Option Definition → Option ℕ
-number_of definition = option_map (λ d. d.number) definition
+abbrev pub defining_module : Option Definition → Option ℕ
+defining_module definition = option_map (λ d. d.number) definition
 
 -- the member that has the name first, by the definitions of members, where none of the chosen modules defines it
 abbrev pub supplier : List ModuleParts → (List ℕ → Option Definition) → List ℕ → Option ℕ
-supplier chosen definition name = if defines chosen name then None else number_of (definition name)
+supplier chosen definition name = if defines chosen name then None else defining_module (definition name)
 
 -- the lesser of two numbers, if there is one
-abbrev pub earlier : Option ℕ → Option ℕ → Option ℕ
-earlier None two = two
-earlier (Some one) None = Some one
-earlier (Some one) (Some two) = Some (min one two)
+abbrev pub lesser_number : Option ℕ → Option ℕ → Option ℕ
+lesser_number None two = two
+lesser_number (Some one) None = Some one
+lesser_number (Some one) (Some two) = Some (min one two)
 
 -- one of the modules has an external of the name
 pub record IsWanted (chosen : List ModuleParts) (name : List ℕ) : Type 0 where

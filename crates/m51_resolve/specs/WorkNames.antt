@@ -14,12 +14,12 @@ use Rattle.m51_module.specs.WorkNames.{NotesNames}
 use Rattle.m51_resolve.specs.declared.definitions.Defined.{Defined}
 use Rattle.m51_resolve.specs.declared.publics.Definition.{Definition}
 use Rattle.m51_resolve.specs.Choice.{wants}
-use Rattle.m51_resolve.specs.Publics.{definition_of, nowhere}
+use Rattle.m51_resolve.specs.Publics.{public_definition, nowhere}
 use Rattle.m51_resolve.specs.Rules.{is_against}
 
 -- what a table has of a name
-abbrev pub value_in : {T : Type 0} → List (List ℕ × T) → List ℕ → Option T
-value_in table name = lookup (bytes_eq name) table
+abbrev pub entry_by_name : {T : Type 0} → List (List ℕ × T) → List ℕ → Option T
+entry_by_name table name = lookup (bytes_eq name) table
 
 -- where a name is defined first, and whether another module defines it too
 abbrev pub first_defined : Option Defined → Option Definition
@@ -31,10 +31,10 @@ is_shared (Some d) = d.shared
 
 -- the same of a table
 abbrev pub definition_in : List (List ℕ × Defined) → List ℕ → Option Definition
-definition_in table name = first_defined (value_in table name)
+definition_in table name = first_defined (entry_by_name table name)
 
 abbrev pub shared_in : List (List ℕ × Defined) → List ℕ → Bool
-shared_in table name = is_shared (value_in table name)
+shared_in table name = is_shared (entry_by_name table name)
 
 -- what is known of a name with one more definition
 abbrev pub again : Option Defined → Definition → Defined
@@ -54,13 +54,13 @@ noted known number index name (p ∷ more) =
 -- the table has these publics of the module of that number too
 pub record Notes (old : List (List ℕ × Defined)) (number : ℕ) (publics : List Public) (new : List (List ℕ × Defined))
     : Type 0 where
-  pub each : (name : List ℕ) → value_in new name ≡ noted (value_in old name) number 0 name publics
+  pub each : (name : List ℕ) → entry_by_name new name ≡ noted (entry_by_name old name) number 0 name publics
 
 -- of the names that are asked for the table has these publics of the module of that number too
 pub record NotesAsked (asked : List (List ℕ)) (old : List (List ℕ × Defined)) (number : ℕ) (publics : List Public)
     (new : List (List ℕ × Defined)) : Type 0 where
   pub each : (name : List ℕ) → wanted_in asked name ≡ true
-      → value_in new name ≡ noted (value_in old name) number 0 name publics
+      → entry_by_name new name ≡ noted (entry_by_name old name) number 0 name publics
 
 -- two of the modules define the name
 abbrev pub two_define : List ModuleParts → List ℕ → Bool
@@ -70,10 +70,10 @@ two_define (m ∷ more) name = if has_public name m then defines more name else 
 -- the table has the publics of these modules
 abbrev pub defined_by : List ModuleParts → List ℕ → Option Defined
 defined_by modules name =
-    option_map (λ d. record { first = d; shared = two_define modules name }) (definition_of modules name)
+    option_map (λ d. record { first = d; shared = two_define modules name }) (public_definition modules name)
 
 pub record AreDefinitions (modules : List ModuleParts) (table : List (List ℕ × Defined)) : Type 0 where
-  pub each : (name : List ℕ) → value_in table name ≡ defined_by modules name
+  pub each : (name : List ℕ) → entry_by_name table name ≡ defined_by modules name
 
 -- the set has the names of these externals too
 abbrev pub Wants : List (List ℕ) → List External → List (List ℕ) → Type 0
@@ -92,7 +92,7 @@ pub record AreNamed (modules : List ModuleParts) (definitions : List (List ℕ �
 -- of the names that are asked for the table has the publics of these modules
 pub record AreAskedFor (asked : List (List ℕ)) (modules : List ModuleParts) (table : List (List ℕ × Defined))
     : Type 0 where
-  pub each : (name : List ℕ) → wanted_in asked name ≡ true → value_in table name ≡ defined_by modules name
+  pub each : (name : List ℕ) → wanted_in asked name ≡ true → entry_by_name table name ≡ defined_by modules name
 
 -- what externals are, by where each name is defined
 abbrev pub undefined_by : (List ℕ → Option Definition) → External → Bool

@@ -10,32 +10,32 @@ use Rattle.m51_module.specs.declared.symbol.External.{External}
 use Rattle.m51_resolve.specs.declared.joining.Growing.{Growing}
 use Rattle.m51_resolve.specs.declared.publics.Definition.{Definition}
 use Rattle.m51_resolve.specs.Joining.{title_of}
-use Rattle.m51_resolve.specs.Rules.{first_of, more_than, shared_public}
+use Rattle.m51_resolve.specs.Rules.{earliest_refusal, more_than, shared_public}
 use Rattle.m51_resolve.specs.WorkJoining.{is_large, is_unit}
 use Rattle.m51_resolve.specs.WorkNames.{contrary_by, undefined_by}
 
 -- the first rules, which publics must meet
 abbrev pub rules_of_publics : List ModuleParts → Option Refusal
 rules_of_publics modules =
-    first_of (more_than MOST_MODULES Modules (length modules) ∷ option_map L1 (shared_public modules) ∷ [])
+    earliest_refusal (more_than MOST_MODULES Modules (length modules) ∷ option_map L1 (shared_public modules) ∷ [])
 
 -- the next, which externals must meet
 abbrev pub rules_of_externals : (List ℕ → Option Definition) → List External → Option Refusal
-rules_of_externals definition externals = first_of (
+rules_of_externals definition externals = earliest_refusal (
     option_map L2 (option_map (λ e. e.name) (find (undefined_by definition) externals))
     ∷ option_map L3 (option_map (λ e. e.name) (find (contrary_by definition) externals))
     ∷ [])
 
 -- those of the numbers of joined segments and units
 abbrev pub rules_of_counts : List Growing → Option Refusal
-rules_of_counts growing = first_of (
+rules_of_counts growing = earliest_refusal (
     more_than MOST_SEGMENTS Segments (length growing)
     ∷ more_than MOST_UNITS Units (length (filter is_unit growing))
     ∷ [])
 
 -- the last, which joined segments must meet
 abbrev pub rules_of_growing : List Growing → Option Refusal
-rules_of_growing growing = first_of (
+rules_of_growing growing = earliest_refusal (
     option_map L4 (option_map (λ g. g.first.name) (find (λ g. g.mixed) growing))
     ∷ rules_of_counts growing
     ∷ option_map L5 (option_map (λ g. title_of g.first) (find is_large growing))

@@ -1,7 +1,7 @@
 //! Chooses modules.
 ghost use Rattle.std.specs.Prelude.{◌≡◌, ℕ, true, List, map, IfOk};
 ghost use Rattle.m51_resolve.specs.Choice.{chosen_of, members_of};
-ghost use Rattle.m51_resolve.specs.Rules.{answer_of, resolved_of};
+ghost use Rattle.m51_resolve.specs.Rules.{resolved_or_refused, resolved_of};
 ghost use Rattle.m51_resolve.specs.WorkChoice.{IsNext, IsWanted};
 ghost use Rattle.m51_resolve.specs.WorkNames.{AreAskedFor, wanted_in};
 
@@ -61,7 +61,7 @@ fn definitions_of(
 // The given modules and those chosen of the members, as far as the answer of a link is known by them.
 fn choose_of(alloc: Global, given: Chosen, members: &[&Module]) -> Result<Chosen, NoMemory>
     ensures { let left = map (λ m. m.now) members.now in
-        IfOk result (λ chosen. answer_of chosen ≡ answer_of (chosen_of given left)) }
+        IfOk result (λ chosen. resolved_or_refused chosen ≡ resolved_or_refused (chosen_of given left)) }
 {
     let asked = given.asked(alloc, members)?;
     let definitions = definitions_of(alloc, &asked, members)?;
@@ -81,7 +81,7 @@ pub(crate) fn choose(
     given: Vec<Module>,
     libraries: &[Library],
 ) -> Result<Chosen, NoMemory>
-    ensures { IfOk result (λ chosen. answer_of chosen ≡ resolved_of given.items libraries.now) }
+    ensures { IfOk result (λ chosen. resolved_or_refused chosen ≡ resolved_of given.items libraries.now) }
 {
     let given = Chosen::of(alloc, given)?;
     let members = members(alloc, libraries)?;

@@ -1,9 +1,9 @@
 //! Modules that are chosen, and the names that they define and need.
 ghost use Rattle.std.specs.Prelude.{◌≡◌, [], ◌∷◌, ◌++◌, length, map, IfOk, OnOk};
-ghost use Rattle.m51_resolve.specs.WorkChoice.{earlier, IsEarliest, IsWanted, number_of, supplier};
+ghost use Rattle.m51_resolve.specs.WorkChoice.{lesser_number, IsEarliest, IsWanted, defining_module, supplier};
 ghost use Rattle.m51_resolve.specs.WorkNames.{AreNamed, AreWanted, definition_in, Wants};
 
-use crate::definitions::{DefinedNames, definition_of, note_publics};
+use crate::definitions::{DefinedNames, note_publics, public_definition};
 use crate::publics::Definition;
 use indexmap::{IndexMap, IndexSet};
 use m51_cells::{Name, NoMemory};
@@ -45,8 +45,8 @@ pub(crate) fn want_externals(
 }
 
 // The number of the module of a definition.
-fn number_of(definition: Option<Definition>) -> Option<usize>
-    ensures { result ≡ number_of definition }
+fn defining_module(definition: Option<Definition>) -> Option<usize>
+    ensures { result ≡ defining_module definition }
 {
     match definition {
         Some(found) => Some(found.number),
@@ -55,8 +55,8 @@ fn number_of(definition: Option<Definition>) -> Option<usize>
 }
 
 // The lesser of two numbers, if there is one.
-fn earlier(one: Option<usize>, two: Option<usize>) -> Option<usize>
-    ensures { result ≡ earlier one two }
+fn lesser_number(one: Option<usize>, two: Option<usize>) -> Option<usize>
+    ensures { result ≡ lesser_number one two }
 {
     match (one, two) {
         (Some(one), Some(two)) => Some(one.min(two)),
@@ -137,9 +137,9 @@ impl Chosen {
     fn supplier(&self, members: &DefinedNames, name: &Name) -> Option<usize>
         ensures { result ≡ supplier self.now (definition_in members.now.entries) name.now }
     {
-        match definition_of(&self.definitions, name) {
+        match public_definition(&self.definitions, name) {
             Some(_) => None,
-            None => number_of(definition_of(members, name)),
+            None => defining_module(public_definition(members, name)),
         }
     }
 
@@ -150,7 +150,7 @@ impl Chosen {
     {
         let mut least = None;
         for name in self.wanted.as_slice() {
-            least = earlier(least, self.supplier(members, name));
+            least = lesser_number(least, self.supplier(members, name));
         }
         least
     }

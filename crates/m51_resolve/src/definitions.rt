@@ -1,7 +1,7 @@
 //! The names that modules define.
 ghost use Rattle.std.specs.Prelude.{◌≡◌, ℕ, bytes_eq, if◌then◌else◌, true, List, Some, OnOk};
 ghost use Rattle.indexmap.specs.IndexMap.{Updates};
-ghost use Rattle.m51_resolve.specs.WorkNames.{again, definition_at, definition_in, shared_in, value_in, Notes};
+ghost use Rattle.m51_resolve.specs.WorkNames.{again, definition_at, definition_in, shared_in, entry_by_name, Notes};
 ghost use Rattle.m51_resolve.specs.WorkNames.{NotesAsked, wanted_in};
 
 use crate::publics::Definition;
@@ -49,7 +49,7 @@ fn definition_at(number: usize, index: usize, public: &Public) -> Definition
 
 // Notes a definition of the name.
 fn note(table: &mut DefinedNames, name: &Name, definition: Definition) -> Result<(), NoMemory>
-    ensures { let known = value_in table.old.entries name.now in
+    ensures { let known = entry_by_name table.old.entries name.now in
         OnOk result (Updates bytes_eq table.old table.new name.now (Some (again known definition))) }
 {
     let known = table.get(name).copied();
@@ -80,8 +80,9 @@ fn note_if(
     definition: Definition,
 ) -> Result<(), NoMemory>
     ensures { OnOk result ((other : List ℕ) → wanted_in asked.now.keys other ≡ true
-        → value_in table.new.entries other ≡ (if bytes_eq name.now other
-        then Some (again (value_in table.old.entries name.now) definition) else value_in table.old.entries other)) }
+        → entry_by_name table.new.entries other ≡ (if bytes_eq name.now other
+        then Some (again (entry_by_name table.old.entries name.now) definition)
+        else entry_by_name table.old.entries other)) }
 {
     if !asked.contains(name) {
         return Ok(());
@@ -106,7 +107,7 @@ pub(crate) fn note_asked(
 }
 
 // The first public of the name, if the table has one.
-pub(crate) fn definition_of(table: &DefinedNames, name: &Name) -> Option<Definition>
+pub(crate) fn public_definition(table: &DefinedNames, name: &Name) -> Option<Definition>
     ensures { result ≡ definition_in table.now.entries name.now }
 {
     table.get(name).copied().map(|known| known.first)

@@ -3,7 +3,7 @@ ghost use Rattle.std.specs.Prelude.{◌≡◌, map, IfOk};
 ghost use Rattle.m51_resolve.specs.Publics.{kinds_agree};
 ghost use Rattle.m51_resolve.specs.WorkNames.{definition_in, resolving_by};
 
-use crate::definitions::{DefinedNames, definition_of};
+use crate::definitions::{DefinedNames, public_definition};
 use m51_cells::{Kind, NoMemory, same_kind};
 use m51_module::External;
 use std::alloc::Global;
@@ -30,7 +30,7 @@ pub(crate) fn kinds_agree(one: Kind, two: Kind) -> bool
 fn resolving(definitions: &DefinedNames, external: &External) -> Definition
     ensures { result ≡ resolving_by (definition_in definitions.now.entries) external.now }
 {
-    definition_of(definitions, &external.name).unwrap_or(Definition {
+    public_definition(definitions, &external.name).unwrap_or(Definition {
         number: 0,
         index: 0,
         kind: Kind::Number,

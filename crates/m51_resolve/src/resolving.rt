@@ -1,7 +1,7 @@
 //! Resolves the modules of a link.
 ghost use Rattle.std.specs.Prelude.{◌≡◌, false, map, IfOk, All};
 ghost use Rattle.m51_cells.specs.Outcome.{Gives};
-ghost use Rattle.m51_resolve.specs.Rules.{answer_of, but_memory, resolved_of};
+ghost use Rattle.m51_resolve.specs.Rules.{resolved_or_refused, but_memory, resolved_of};
 ghost use Rattle.m51_resolve.specs.WorkJoining.{is_large, joined_as};
 ghost use Rattle.m51_resolve.specs.WorkNames.{definition_in, AreDefinitions};
 ghost use Rattle.m51_resolve.specs.WorkRules.{rules_of_counts, rules_of_externals, rules_of_growing};
@@ -115,7 +115,7 @@ fn join_chosen(
     definitions: &DefinedNames,
 ) -> Result<Joined, Refusal>
     requires { AreDefinitions modules.items definitions.now.entries }
-    ensures { Gives (λ joined. joined) but_memory result (answer_of modules.items) }
+    ensures { Gives (λ joined. joined) but_memory result (resolved_or_refused modules.items) }
 {
     check_publics(definitions, &modules)?;
     let externals = all_externals(alloc, &modules)?;

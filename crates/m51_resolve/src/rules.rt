@@ -5,7 +5,7 @@ ghost use Rattle.m51_resolve.specs.Rules.{shared_public};
 ghost use Rattle.m51_resolve.specs.WorkJoining.{is_large, is_unit};
 ghost use Rattle.m51_resolve.specs.WorkNames.{contrary_by, definition_in, shared_in, undefined_by, AreDefinitions};
 
-use crate::definitions::{DefinedNames, definition_of, is_shared};
+use crate::definitions::{DefinedNames, is_shared, public_definition};
 use crate::joining::{Growing, is_relocatable};
 use crate::publics::kinds_agree;
 use m51_cells::{Name, is_code, most_of};
@@ -38,7 +38,7 @@ pub(crate) fn shared_public(definitions: &DefinedNames, modules: &[Module]) -> O
 fn is_undefined(definitions: &DefinedNames, external: &External) -> bool
     ensures { result ≡ undefined_by (definition_in definitions.now.entries) external.now }
 {
-    definition_of(definitions, &external.name).is_none()
+    public_definition(definitions, &external.name).is_none()
 }
 
 // The first of these externals that no module defines.
@@ -56,7 +56,7 @@ pub(crate) fn undefined_external(definitions: &DefinedNames, externals: &[Extern
 fn is_contrary(definitions: &DefinedNames, external: &External) -> bool
     ensures { result ≡ contrary_by (definition_in definitions.now.entries) external.now }
 {
-    match definition_of(definitions, &external.name) {
+    match public_definition(definitions, &external.name) {
         Some(found) => !kinds_agree(external.kind, found.kind),
         None => false,
     }

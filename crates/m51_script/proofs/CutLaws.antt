@@ -68,9 +68,9 @@ cut_sound text parts h =
 cut_where : (n : ℕ) (text part behind rest : List ℕ) → position_or_len is_blank text ≡ n → n < length text
     → take n text ≡ part → drop n text ≡ behind → drop (prefix_len is_blank behind) behind ≡ rest
     → cut text ≡ Some (part, rest)
-cut_where n text part behind rest place inside front back after =
+cut_where n text part behind rest found inside front back after =
     ap (λ n. cond (nat_lt n (length text)) (Some (take n text, drop (prefix_len is_blank (drop n text)) (drop n text)))
-    None) place
+    None) found
     ∙ ap (λ t. cond t (Some (take n text, drop (prefix_len is_blank (drop n text)) (drop n text))) None)
     (lt-ltb n (length text) inside)
     ∙ ap (λ l. Some (take n text, drop (prefix_len is_blank l) l)) back

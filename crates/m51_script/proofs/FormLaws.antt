@@ -13,9 +13,9 @@ use Rattle.m51_script.specs.declared.forms.LineForm.{LineForm}
 use Rattle.m51_script.specs.declared.forms.LineForm.TheVariants.{Fill, Pin, Receive}
 use Rattle.m51_script.specs.Parts.{cut}
 use Rattle.m51_script.specs.Digits.{decimal, hexadecimal}
-use Rattle.m51_script.specs.Grammar.{by_word, fill_of, form_of, letter_p, pin_of, port_of, received, received_as}
+use Rattle.m51_script.specs.Grammar.{form_by_word, fill_of, line_form, letter_p, pin_of, port_of, received, received_as}
 use Rattle.m51_script.specs.Grammar.{receive_of}
-use Rattle.m51_script.specs.Written.{AreBlanks, Writes, WritesByte, WritesCycle, WritesDigit, Fills, Pins, Receives}
+use Rattle.m51_script.specs.Written.{AreBlanks, WritesForm, WritesByte, WritesCycle, WritesDigit, Fills, Pins, Receives}
 use Rattle.m51_script.specs.Written.{ReceivesBit}
 use Rattle.m51_script.specs.Laws.{ReadAsWritten}
 use Rattle.m51_script.proofs.CutLaws.{IsCut, NoBlanks, cut_complete, cut_none, cut_sound, starts, starts_alone}
@@ -26,7 +26,7 @@ cut_at_word : (line word other text : List ℕ) → IsCut line word text → wor
 cut_at_word line word other text k is = subst (λ w. IsCut line w text) is k
 
 fill_sound : (line text : List ℕ) (form : LineForm) → IsCut line (codes "FILL") text → fill_of text ≡ Some form
-    → Writes line form
+    → WritesForm line form
 fill_sound line text form k h =
     let byte = goes_on _ (hexadecimal text) form h in
     Fills {one = k.blanks} {hh = text} {byte = byte.value} k.blank (number_sound 16 4 text byte.value byte.found) k.is
@@ -50,7 +50,7 @@ port_sound (letter ∷ digit) port h =
     (λ _ none. absurd (cc))
 
 pin_sound : (line text : List ℕ) (form : LineForm) → IsCut line (codes "PIN") text → pin_of text ≡ Some form
-    → Writes line form
+    → WritesForm line form
 pin_sound line text form k h =
     let first = goes_on _ (cut text) form h in
     let cycle = goes_on _ (decimal 10 first.value.0) form first.goes in
@@ -72,7 +72,7 @@ pin_sound line text form k h =
 frame_sound : (line text rest cc : List ℕ) (cycle : ℕ) (form : LineForm) (o : Option (List ℕ × List ℕ))
     → IsCut line (codes "RX") text → IsCut text cc rest → WritesCycle cc cycle → cut rest ≡ o
     → option_and_then (λ (frame : ℕ × ℕ). Some (Receive cycle frame.0 frame.1)) (received_as rest o) ≡ Some form
-    → Writes line form
+    → WritesForm line form
 frame_sound line text rest cc cycle form None k one w e h =
     let frame = goes_on (λ (frame : ℕ × ℕ). Some (Receive cycle frame.0 frame.1)) (received_as rest None) form h in
     let byte = goes_on (λ byte. Some (byte, 1)) (hexadecimal rest) frame.value frame.found in
@@ -99,7 +99,7 @@ frame_sound line text rest cc cycle form (Some parts) k one w e h =
     (k.is ∙ ap (λ l. codes "RX" ++ (k.blanks ++ l)) (one.is ∙ ap (λ l. cc ++ (one.blanks ++ l)) two.is)) (sym says)
 
 receive_sound : (line text : List ℕ) (form : LineForm) → IsCut line (codes "RX") text → receive_of text ≡ Some form
-    → Writes line form
+    → WritesForm line form
 receive_sound line text form k h =
     let first = goes_on _ (cut text) form h in
     let cycle = goes_on _ (decimal 10 first.value.0) form first.goes in
@@ -107,9 +107,9 @@ receive_sound line text form k h =
     (cut_sound text first.value first.found)
     (number_sound 10 10 first.value.0 cycle.value cycle.found) refl cycle.goes
 
-word_sound : (line word text : List ℕ) (form : LineForm) → IsCut line word text → by_word word text ≡ Some form
-    → Writes line form
-unfolding by_word
+word_sound : (line word text : List ℕ) (form : LineForm) → IsCut line word text → form_by_word word text ≡ Some form
+    → WritesForm line form
+unfolding form_by_word
 word_sound line word text form k h =
     either (bytes_eq word (codes "FILL")) (fill_of text) _ form h
     (λ is found. fill_sound line text form
@@ -122,21 +122,21 @@ word_sound line word text form k h =
     (cut_at_word line word (codes "RX") text k ((bytes_eq-Decides word (codes "RX")).0 is)) found)
     λ _ h4. absurd (cc)
 
-line_sound : (line : List ℕ) (form : LineForm) → form_of line ≡ Some form → Writes line form
+line_sound : (line : List ℕ) (form : LineForm) → line_form line ≡ Some form → WritesForm line form
 line_sound line form h =
     let parts = goes_on _ (cut line) form h in
     word_sound line parts.value.0 parts.value.1 form (cut_sound line parts.value parts.found) parts.goes
 
-by_fill : (text : List ℕ) → by_word (codes "FILL") text ≡ fill_of text
-unfolding by_word
+by_fill : (text : List ℕ) → form_by_word (codes "FILL") text ≡ fill_of text
+unfolding form_by_word
 by_fill text = refl
 
-by_pin : (text : List ℕ) → by_word (codes "PIN") text ≡ pin_of text
-unfolding by_word
+by_pin : (text : List ℕ) → form_by_word (codes "PIN") text ≡ pin_of text
+unfolding form_by_word
 by_pin text = refl
 
-by_receive : (text : List ℕ) → by_word (codes "RX") text ≡ receive_of text
-unfolding by_word
+by_receive : (text : List ℕ) → form_by_word (codes "RX") text ≡ receive_of text
+unfolding form_by_word
 by_receive text = refl
 
 hex_lacks : (text : List ℕ) (n : ℕ) → WritesByte text n → NoBlanks text
@@ -150,9 +150,10 @@ digit_lacks text n w = number_lacks 10 1 text n (omega arith) w
 
 -- a line of a word, blanks and a text, by its word
 of_word : (line word one text : List ℕ) → NoBlanks word → AreBlanks one
-    → cut (word ++ (one ++ text)) ≡ Some (word, text) → line ≡ word ++ (one ++ text) → form_of line ≡ by_word word text
+    → cut (word ++ (one ++ text)) ≡ Some (word, text) → line ≡ word ++ (one ++ text) → line_form line
+    ≡ form_by_word word text
 of_word line word one text lacks blank found is =
-    ap form_of is ∙ ap (option_and_then (λ (parts : List ℕ × List ℕ). by_word parts.0 parts.1)) found
+    ap line_form is ∙ ap (option_and_then (λ (parts : List ℕ × List ℕ). form_by_word parts.0 parts.1)) found
 
 pin_again : (cc two n three hh : List ℕ) (cycle port level : ℕ) → WritesCycle cc cycle → AreBlanks two
     → WritesDigit n port → AreBlanks three → WritesByte hh level
@@ -205,7 +206,7 @@ two_parts hh three b byte bit wh b3 wb =
     (number_complete 16 4 hh byte wh)
     ∙ ap (option_and_then (λ bit. Some (byte, bit))) (number_complete 10 1 b bit wb)
 
-line_complete : (line : List ℕ) (form : LineForm) → Writes line form → form_of line ≡ Some form
+line_complete : (line : List ℕ) (form : LineForm) → WritesForm line form → line_form line ≡ Some form
 line_complete line form (Fills {one = one} {hh = hh} {byte = byte} b1 wh is says) =
     of_word line (codes "FILL") one hh refl b1
     (cut_complete (codes "FILL") one hh refl b1 (starts_alone hh (hex_lacks hh byte wh))) is

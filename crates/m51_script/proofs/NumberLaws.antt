@@ -7,7 +7,7 @@ use Rattle.std.proofs.lemmas.Bool.{and_from, le-ltb, ltb-false}
 use Rattle.std.proofs.lemmas.Bool.Decides.{nat_tests}
 use Rattle.m51_cells.specs.Blanks.{is_blank}
 use Rattle.m51_lex.specs.Number.{value_in}
-use Rattle.m51_script.specs.Digits.{number_of}
+use Rattle.m51_script.specs.Digits.{number_in_base}
 use Rattle.m51_script.specs.Written.{WritesNumber}
 use Rattle.m51_cells.proofs.Small.{not_zero, positive}
 use Rattle.m51_script.proofs.CutLaws.{NoBlanks}
@@ -18,14 +18,14 @@ number_parts true b v n h = absurd (cc)
 number_parts false true v n h = absurd (cc)
 number_parts false false v n h = (refl, refl, h)
 
-pub number_sound : (base most : ℕ) (text : List ℕ) (n : ℕ) → number_of base most text ≡ Some n
+pub number_sound : (base most : ℕ) (text : List ℕ) (n : ℕ) → number_in_base base most text ≡ Some n
     → WritesNumber base most text n
 number_sound base most text n h =
     let p = number_parts (length text == 0) (nat_lt most (length text)) (value_in base 0 text) n h in
     record { some = positive (length text) p.0; few = ltb-false most (length text) p.1; is = p.2 }
 
 pub number_complete : (base most : ℕ) (text : List ℕ) (n : ℕ) → WritesNumber base most text n
-    → number_of base most text ≡ Some n
+    → number_in_base base most text ≡ Some n
 number_complete base most text n w =
     ap (λ a. cond a None (cond (nat_lt most (length text)) None (value_in base 0 text))) (not_zero (length text) w.some)
     ∙ ap (λ b. cond b None (value_in base 0 text)) (le-ltb most (length text) w.few)

@@ -6,17 +6,17 @@ use Rattle.m51_timers_uart.specs.declared.receiving.Frame.{Frame}
 use Rattle.m51_script.specs.declared.pin_lines.Change.{Change}
 use Rattle.m51_script.specs.declared.reading.Reading.{Reading}
 use Rattle.m51_script.specs.declared.script.Script.{Script}
-use Rattle.m51_script.specs.Reading.{IsRead, read_from}
-use Rattle.m51_script.specs.Timing.{with_line, IsTimed}
+use Rattle.m51_script.specs.Reading.{IsRead, script_from}
+use Rattle.m51_script.specs.Timing.{with_timed_line, IsTimed}
 use Rattle.m51_script.proofs.TimedLaws.{ascends_up, timed_push}
 
 no_lines : lines_of [] ≡ []
 no_lines = refl
 
 pub all_read : (number : ℕ) (r : Reading) (rest : List ℕ) (whole : Result Script ScriptError) → rest ≡ []
-    → read_from number r (lines_of rest) ≡ whole → whole ≡ Ok r.script
-all_read number r rest whole is h = sym h ∙ ap (λ l. read_from number r (lines_of l)) is
-    ∙ ap (read_from number r) no_lines
+    → script_from number r (lines_of rest) ≡ whole → whole ≡ Ok r.script
+all_read number r rest whole is h = sym h ∙ ap (λ l. script_from number r (lines_of l)) is
+    ∙ ap (script_from number r) no_lines
 
 -- lines stay in order up to a later cycle
 pub timed_up : {A : Type 0} (high top : ℕ) (cycles : List ℕ) (items : List A) → IsTimed high cycles items → high ≤ top
@@ -25,7 +25,7 @@ timed_up high top cycles items t le = record { ascends = ascends_up 0 high top c
 
 -- one more PIN line
 pub pin_kept : (r : Reading) (s : Script) (cycle : ℕ) (c : Change) → IsRead r → r.latest ≤ cycle
-    → s ≡ record r.script { pins = with_line cycle c r.script.pins }
+    → s ≡ record r.script { pins = with_timed_line cycle c r.script.pins }
     → IsRead (record { script = s; begun = true; latest = cycle })
 pin_kept r s cycle c h le is =
     subst (λ s. IsRead (record { script = s; begun = true; latest = cycle })) (sym is)
@@ -37,7 +37,7 @@ pin_kept r s cycle c h le is =
 
 -- one more RX line
 pub frame_kept : (r : Reading) (s : Script) (cycle : ℕ) (f : Frame) → IsRead r → r.latest ≤ cycle
-    → s ≡ record r.script { frames = with_line cycle f r.script.frames }
+    → s ≡ record r.script { frames = with_timed_line cycle f r.script.frames }
     → IsRead (record { script = s; begun = true; latest = cycle })
 frame_kept r s cycle f h le is =
     subst (λ s. IsRead (record { script = s; begun = true; latest = cycle })) (sym is)

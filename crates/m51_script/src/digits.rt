@@ -1,7 +1,7 @@
 //! Numbers of a few digits.
 ghost use Rattle.std.specs.Prelude.{◌≡◌, ◌≤◌, length};
 ghost use Rattle.m51_lex.specs.Number.{value_in};
-ghost use Rattle.m51_script.specs.Digits.{decimal, hexadecimal, number_of};
+ghost use Rattle.m51_script.specs.Digits.{decimal, hexadecimal, number_in_base};
 
 // The value of at most ten digits.
 fn value_in(base: u32, digits: &[u8]) -> Option<u64>
@@ -20,10 +20,10 @@ fn value_in(base: u32, digits: &[u8]) -> Option<u64>
 }
 
 // The number of one digit or more, at most `most` of them.
-fn number_of(base: u32, most: usize, text: &[u8]) -> Option<u64>
+fn number_in_base(base: u32, most: usize, text: &[u8]) -> Option<u64>
     requires base { (2 ≤ base) × (base ≤ 16) }
     requires few { most ≤ 10 }
-    ensures { result ≡ number_of base most text.now }
+    ensures { result ≡ number_in_base base most text.now }
 {
     if text.is_empty() {
         return None;
@@ -39,12 +39,12 @@ pub(crate) fn decimal(most: usize, text: &[u8]) -> Option<u64>
     requires few { most ≤ 10 }
     ensures { result ≡ decimal most text.now }
 {
-    number_of(10, most, text)
+    number_in_base(10, most, text)
 }
 
 // The number of one to four hexadecimal digits, in either case.
 pub(crate) fn hexadecimal(text: &[u8]) -> Option<u64>
     ensures { result ≡ hexadecimal text.now }
 {
-    number_of(16, 4, text)
+    number_in_base(16, 4, text)
 }

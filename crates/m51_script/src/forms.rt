@@ -1,6 +1,6 @@
 //! The forms of a script's lines.
 ghost use Rattle.std.specs.Prelude.{◌≡◌, option_map};
-ghost use Rattle.m51_script.specs.Grammar.{by_word, fill_of, form_of, pin_of, port_of, received, receive_of};
+ghost use Rattle.m51_script.specs.Grammar.{form_by_word, fill_of, line_form, pin_of, port_of, received, receive_of};
 
 use crate::digits::{decimal, hexadecimal};
 use crate::parts::cut;
@@ -74,9 +74,9 @@ fn receive_of(text: &[u8]) -> Option<LineForm>
 }
 
 // What a word says with what follows it.
-#[tactic(auto, unfolding(crate::specs::Grammar::by_word))]
-fn by_word(word: &[u8], text: &[u8]) -> Option<LineForm>
-    ensures { result ≡ by_word word.now text.now }
+#[tactic(auto, unfolding(crate::specs::Grammar::form_by_word))]
+fn form_by_word(word: &[u8], text: &[u8]) -> Option<LineForm>
+    ensures { result ≡ form_by_word word.now text.now }
 {
     if word == b"FILL".as_slice() {
         fill_of(text)
@@ -90,9 +90,9 @@ fn by_word(word: &[u8], text: &[u8]) -> Option<LineForm>
 }
 
 // The form of a line, if it has one.
-pub(crate) fn form_of(line: &[u8]) -> Option<LineForm>
-    ensures { result ≡ form_of line.now }
+pub(crate) fn line_form(line: &[u8]) -> Option<LineForm>
+    ensures { result ≡ line_form line.now }
 {
     let (word, rest) = cut(line)?;
-    by_word(word, rest)
+    form_by_word(word, rest)
 }

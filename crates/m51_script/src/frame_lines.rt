@@ -1,6 +1,6 @@
 //! The RX lines of a script.
 ghost use Rattle.std.specs.Prelude.{◌≡◌, ◌≤◌, [], ◌==◌, IfOk};
-ghost use Rattle.m51_script.specs.Timing.{Ascends, latest_cycle, those, with_line};
+ghost use Rattle.m51_script.specs.Timing.{Ascends, latest_cycle, those, with_timed_line};
 
 use crate::timing::{count_before, count_until};
 use m51_cells::NoMemory;
@@ -43,7 +43,7 @@ impl FrameLines {
     pub(crate) fn with(self, cycle: u32, frame: Frame) -> Result<FrameLines, NoMemory>
         requires order { Ascends 0 cycle self.cycles }
         requires range { cycle ≤ latest_cycle }
-        ensures { IfOk result (λ lines. lines ≡ with_line cycle frame self) }
+        ensures { IfOk result (λ lines. lines ≡ with_timed_line cycle frame self) }
     {
         let FrameLines { cycles, frames } = self;
         let mut cycles = cycles;

@@ -1,7 +1,7 @@
 //! The PIN lines of a script.
 ghost use Rattle.std.specs.Prelude.{◌≡◌, ◌≤◌, ◌<◌, [], ◌∷◌, IfOk, nat_le};
-ghost use Rattle.m51_script.specs.Timing.{Ascends, latest_cycle, those, with_line};
-ghost use Rattle.m51_script.specs.Levels.{all_high, changed, levels_after};
+ghost use Rattle.m51_script.specs.Timing.{Ascends, latest_cycle, those, with_timed_line};
+ghost use Rattle.m51_script.specs.Levels.{all_high, with_levels, levels_after};
 
 use crate::timing::count_until;
 use m51_cells::NoMemory;
@@ -44,9 +44,9 @@ impl Model for PinLines {
 }
 
 // The levels after a change.
-fn changed(pins: Pins, change: Change) -> Pins
+fn with_levels(pins: Pins, change: Change) -> Pins
     requires port { change.port < 4 }
-    ensures { result ≡ changed change pins }
+    ensures { result ≡ with_levels change pins }
 {
     let mut pins = pins;
     pins.p[usize::from(change.port)] = change.level;
@@ -73,7 +73,7 @@ impl PinLines {
         requires order { Ascends 0 cycle self.cycles }
         requires range { cycle ≤ latest_cycle }
         requires port { change.port < 4 }
-        ensures { IfOk result (λ lines. lines ≡ with_line cycle change self) }
+        ensures { IfOk result (λ lines. lines ≡ with_timed_line cycle change self) }
     {
         let PinLines {
             cycles,
@@ -84,7 +84,7 @@ impl PinLines {
         let mut cycles = cycles;
         let mut changes = changes;
         let mut levels = levels;
-        let last = changed(last, change);
+        let last = with_levels(last, change);
         cycles.push(cycle)?;
         changes.push(change)?;
         levels.push(last)?;

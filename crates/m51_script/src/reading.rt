@@ -3,12 +3,13 @@ ghost use Rattle.std.specs.Prelude.{◌≡◌, ◌≤◌, ◌<◌, IfOk, length}
 ghost use Rattle.m51_cells.specs.declared.limits.TheConstants.{MOST_SCRIPT_LINES};
 ghost use Rattle.m51_cells.specs.Outcome.{Gives};
 ghost use Rattle.std.specs.Str.Lines.{lines as lines_of};
-ghost use Rattle.m51_script.specs.Timing.{Ascends, latest_cycle, with_line};
-ghost use Rattle.m51_script.specs.Reading.{IsRead, filled, pinned, read_from, received_in, refusal_of, script_of};
+ghost use Rattle.m51_script.specs.Timing.{Ascends, latest_cycle, with_timed_line};
+ghost use Rattle.m51_script.specs.Reading.{IsRead, with_fill, pinned, script_from, received_in, script_refusal};
+ghost use Rattle.m51_script.specs.Reading.{script_of};
 ghost use Rattle.m51_script.specs.Reading.{unread, with_form, with_text};
 
 use crate::error::ScriptError;
-use crate::forms::{LineForm, form_of};
+use crate::forms::{LineForm, line_form};
 use crate::frame_lines::FrameLines;
 use crate::pin_lines::{Change, PinLines};
 use crate::script::Script;
@@ -41,10 +42,10 @@ fn unread(alloc: Global) -> Result<Reading, NoMemory>
 }
 
 // After `FILL hh`.
-#[tactic(auto, unfolding(crate::specs::Reading::filled))]
+#[tactic(auto, unfolding(crate::specs::Reading::with_fill))]
 fn fill(reading: Reading, number: u32, byte: u64) -> Result<Reading, ScriptError>
     requires { IsRead reading }
-    ensures value { Gives (λ r. r) refusal_of result (filled number reading byte) }
+    ensures value { Gives (λ r. r) script_refusal result (with_fill number reading byte) }
     ensures kept { IfOk result IsRead }
 {
     if reading.begun {
@@ -79,7 +80,7 @@ fn with_pins(script: Script, cycle: u32, change: Change) -> Result<Script, NoMem
     requires order { Ascends 0 cycle script.pins.cycles }
     requires range { cycle ≤ latest_cycle }
     requires port { change.port < 4 }
-    ensures { IfOk result (λ s. s ≡ record script { pins = with_line cycle change script.pins }) }
+    ensures { IfOk result (λ s. s ≡ record script { pins = with_timed_line cycle change script.pins }) }
 {
     let Script { fill, pins, frames } = script;
     let pins = pins.with(cycle, change)?;
@@ -90,7 +91,7 @@ fn with_pins(script: Script, cycle: u32, change: Change) -> Result<Script, NoMem
 fn with_frame(script: Script, cycle: u32, frame: Frame) -> Result<Script, NoMemory>
     requires order { Ascends 0 cycle script.frames.cycles }
     requires range { cycle ≤ latest_cycle }
-    ensures { IfOk result (λ s. s ≡ record script { frames = with_line cycle frame script.frames }) }
+    ensures { IfOk result (λ s. s ≡ record script { frames = with_timed_line cycle frame script.frames }) }
 {
     let Script { fill, pins, frames } = script;
     let frames = frames.with(cycle, frame)?;
@@ -107,7 +108,7 @@ fn pin(
     level: u64,
 ) -> Result<Reading, ScriptError>
     requires { IsRead reading }
-    ensures value { Gives (λ r. r) refusal_of result (pinned number reading cycle port level) }
+    ensures value { Gives (λ r. r) script_refusal result (pinned number reading cycle port level) }
     ensures kept { IfOk result IsRead }
 {
     if cycle > LATEST_CYCLE {
@@ -145,7 +146,7 @@ fn receive(
     bit: u64,
 ) -> Result<Reading, ScriptError>
     requires { IsRead reading }
-    ensures value { Gives (λ r. r) refusal_of result (received_in number reading cycle byte bit) }
+    ensures value { Gives (λ r. r) script_refusal result (received_in number reading cycle byte bit) }
     ensures kept { IfOk result IsRead }
 {
     if cycle == 0 {
@@ -179,7 +180,7 @@ fn receive(
 // After a line with this form, if it has one.
 fn with_form(reading: Reading, number: u32, form: Option<LineForm>) -> Result<Reading, ScriptError>
     requires { IsRead reading }
-    ensures value { Gives (λ r. r) refusal_of result (with_form number reading form) }
+    ensures value { Gives (λ r. r) script_refusal result (with_form number reading form) }
     ensures kept { IfOk result IsRead }
 {
     match form {
@@ -193,20 +194,20 @@ fn with_form(reading: Reading, number: u32, form: Option<LineForm>) -> Result<Re
 // After a line.
 fn with_text(reading: Reading, number: u32, line: &[u8]) -> Result<Reading, ScriptError>
     requires { IsRead reading }
-    ensures value { Gives (λ r. r) refusal_of result (with_text number reading line.now) }
+    ensures value { Gives (λ r. r) script_refusal result (with_text number reading line.now) }
     ensures kept { IfOk result IsRead }
 {
     if is_skipped(line) {
         Ok(reading)
     } else {
-        with_form(reading, number, form_of(line))
+        with_form(reading, number, line_form(line))
     }
 }
 
 // The script of at most 65,536 lines.
 fn read_lines(alloc: Global, bytes: &[u8]) -> Result<Script, ScriptError>
     requires { length (lines_of bytes.now) ≤ MOST_SCRIPT_LINES }
-    ensures { Gives (λ script. script) refusal_of result (read_from 1 unread (lines_of bytes.now)) }
+    ensures { Gives (λ script. script) script_refusal result (script_from 1 unread (lines_of bytes.now)) }
 {
     let mut reading = unread(alloc)?;
     let mut rest = bytes;
@@ -233,7 +234,7 @@ fn read_lines(alloc: Global, bytes: &[u8]) -> Result<Script, ScriptError>
 ///
 /// Source: own choice ("Scripts").
 pub fn read_script(alloc: Global, bytes: &[u8]) -> Result<Script, ScriptError>
-    ensures { Gives (λ script. script) refusal_of result (script_of bytes.now) }
+    ensures { Gives (λ script. script) script_refusal result (script_of bytes.now) }
 {
     if line_count(bytes) > MOST_SCRIPT_LINES {
         return Err(ScriptError::Limit);

@@ -15,7 +15,8 @@ pairs_pass test [] = true
 pairs_pass test (r ∷ rows) = list_all (test r) rows && pairs_pass test rows
 
 -- a fact that the test shows holds of each row and each later one
-pub pairs : (R : Row → Row → Type 0) (test : Row → Row → Bool) → ((r s : Row) → test r s ≡ true → R r s) → (rows : List Row) → pairs_pass test rows ≡ true → AllPairs R rows
+pub pairs : (R : Row → Row → Type 0) (test : Row → Row → Bool) → ((r s : Row) → test r s ≡ true → R r s)
+    → (rows : List Row) → pairs_pass test rows ≡ true → AllPairs R rows
 pairs R test shows [] h = λ i j d before within. absurd (omega (arith, within))
 pairs R test shows (r ∷ rows) h =
     let parts = and_parts (list_all (test r) rows) (pairs_pass test rows) h in
@@ -32,7 +33,8 @@ unfolding registers bits table
 rows_differ = refl
 
 name_differs : (r s : Row) → has_other_name r s ≡ true → r.name ≢ s.name
-name_differs r s h = λ e. both_ways (bytes_eq r.name s.name) (not-true (bytes_eq r.name s.name) h) ((bytes_eq-Decides r.name s.name).1 e)
+name_differs r s h =
+    λ e. both_ways (bytes_eq r.name s.name) (not-true (bytes_eq r.name s.name) h) ((bytes_eq-Decides r.name s.name).1 e)
 
 pub names_differ : NamesDiffer
 names_differ = pairs (λ r s. r.name ≢ s.name) has_other_name name_differs (registers ++ bits) rows_differ
@@ -64,7 +66,11 @@ special r h =
 
 pub addresses_differ : AddressesDiffer
 addresses_differ = record {
-  register = pairs (λ r s. r.address < s.address) is_before (λ r s h. ltb-true r.address s.address h) registers registers_ascend;
+  register =
+      pairs (λ r s. r.address < s.address) is_before
+      (λ r s h. ltb-true r.address s.address h) registers registers_ascend;
   bit = pairs (λ r s. r.address < s.address) is_before (λ r s h. ltb-true r.address s.address h) bits bits_ascend;
-  special = λ k d within. special (slice_index_or (registers ++ bits) k d) (AllPass-from_list_all is_special (registers ++ bits) all_special k d within);
+  special =
+      λ k d within. special (slice_index_or (registers ++ bits) k d)
+      (AllPass-from_list_all is_special (registers ++ bits) all_special k d within);
 }

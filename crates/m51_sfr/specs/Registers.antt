@@ -28,14 +28,14 @@ abbrev pub register : List ℕ → ℕ → List Row → Register
 register name address bits = record { name = name; address = address; bits = bits }
 
 -- the names of bits with their numbers, counted from this one; a bit without a name has no row
-abbrev pub numbered : ℕ → List (List ℕ) → List Row
-numbered k [] = []
-numbered k ([] ∷ more) = numbered (k + 1) more
-numbered k ((c ∷ cs) ∷ more) = row (c ∷ cs) k ∷ numbered (k + 1) more
+abbrev pub numbered_bits : ℕ → List (List ℕ) → List Row
+numbered_bits k [] = []
+numbered_bits k ([] ∷ more) = numbered_bits (k + 1) more
+numbered_bits k ((c ∷ cs) ∷ more) = row (c ∷ cs) k ∷ numbered_bits (k + 1) more
 
 -- all named bits of a register
 abbrev pub printed_bits : Printed → List Row
-printed_bits p = numbered 0 (reverse p.bits)
+printed_bits p = numbered_bits 0 (reverse p.bits)
 
 -- the name has no `/`, which no source can write in a name
 abbrev pub is_writable : List ℕ → Bool

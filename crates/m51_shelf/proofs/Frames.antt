@@ -8,11 +8,13 @@ nothing_read at = record { holds = refl; keeps = refl; later = le_refl _ }
 pub nothing_read_on : (at : ShelfState) → ReadsOn at at
 nothing_read_on at = record { frame = nothing_read at; named = refl; opened = refl }
 
-pub reads_then : (first between last : ShelfState) → OnlyReads first between → OnlyReads between last → OnlyReads first last
+pub reads_then : (first between last : ShelfState) → OnlyReads first between → OnlyReads between last
+    → OnlyReads first last
 reads_then first between last one two =
     record { holds = two.holds ∙ one.holds; keeps = two.keeps ∙ one.keeps; later = omega (arith, one.later, two.later) }
 
-pub reads_on_then : (first between last : ShelfState) → ReadsOn first between → ReadsOn between last → ReadsOn first last
+pub reads_on_then : (first between last : ShelfState) → ReadsOn first between → ReadsOn between last
+    → ReadsOn first last
 reads_on_then first between last one two = record {
   frame = reads_then first between last one.frame two.frame;
   named = two.named ∙ one.named;

@@ -11,7 +11,7 @@ use Rattle.m51_shelf.specs.Shelf.{File, file_of}
 -- name of the last file that was not kept, and how many were not
 pub record MemoryStore : Type 0 where
   pub kept : List File
-  pub places : ℕ
+  pub buffers : ℕ
   pub room : ℕ
   pub calls : ℕ
   pub missed : List ℕ
@@ -31,9 +31,9 @@ pub record MemoryShelf : Type 0 where
   pub faults : ℕ
   pub store : MemoryStore
 
--- the shelf before its first call, with places for `places` files and room for `room` bytes in all
+-- the shelf before its first call, with buffers for `buffers` files and room for `room` bytes in all
 abbrev pub made : List File → List (ShelfCall × ℕ) → ℕ → ℕ → MemoryShelf
-made files fails places room = record {
+made files fails buffers room = record {
   files = files;
   fails = fails;
   starts = 0;
@@ -43,7 +43,7 @@ made files fails places room = record {
   taken = 0;
   ready = false;
   faults = 0;
-  store = record { kept = []; places = places; room = room; calls = 0; missed = []; faults = 0 };
+  store = record { kept = []; buffers = buffers; room = room; calls = 0; missed = []; faults = 0 };
 }
 
 -- the count after a call: one more where it failed, else as before
@@ -71,24 +71,24 @@ pub record Starts {T E : Type 0} (old new : MemoryShelf) (result : Result T E) :
   pub faults : new.faults ≡ faults_after old.faults result
 
 -- A piece is counted, and the count of faults rises where it fails.
-pub record Reads {T E : Type 0} (old new : MemoryShelf) (result : Result T E) : Type 0 where
+pub record CountsPiece {T E : Type 0} (old new : MemoryShelf) (result : Result T E) : Type 0 where
   pub files : new.files ≡ old.files
   pub fails : new.fails ≡ old.fails
   pub starts : new.starts ≡ old.starts
   pub pieces : new.pieces ≡ one_more old.pieces
   pub faults : new.faults ≡ faults_after old.faults result
 
--- the next keep fails at this many bytes: its number is listed, or there is no place or no room
+-- the next keep fails at this many bytes: its number is listed, or there is no buffer or no room
 abbrev pub FailsToKeep : MemoryShelf → ℕ → Type 0
 FailsToKeep shelf count =
     Contains shelf.fails (Keep, one_more shelf.store.calls)
-    ⊎ ((shelf.store.places ≡ 0) ⊎ (shelf.store.room < count))
+    ⊎ ((shelf.store.buffers ≡ 0) ⊎ (shelf.store.room < count))
 
 -- the store after a file was kept, and after one was not
 abbrev pub after_kept : MemoryStore → File → MemoryStore
 after_kept store file = record store {
   kept = store.kept ++ file ∷ [];
-  places = store.places - 1;
+  buffers = store.buffers - 1;
   room = store.room - length file.1;
   calls = one_more store.calls;
 }
@@ -128,6 +128,6 @@ pub record SureFiles : Type 0 where
 -- Conditions of functions.
 
 -- an empty list with room for `room` bytes
-pub record IsPlace (room : ℕ) (place : Vec ℕ Global) : Type 0 where
-  pub enough : room ≤ vec_capacity place
-  pub empty : place.items ≡ []
+pub record IsPlace (room : ℕ) (buffer : Vec ℕ Global) : Type 0 where
+  pub enough : room ≤ vec_capacity buffer
+  pub empty : buffer.items ≡ []

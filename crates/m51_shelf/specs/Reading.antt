@@ -5,11 +5,11 @@ use Rattle.std.specs.Prelude.{OnOk, IfSome, IsSomeAnd}
 use Rattle.m51_cells.specs.declared.limits.TheConstants.{MOST_FILE_BYTES}
 use Rattle.m51_shelf.specs.declared.reading.FileReadError.{FileReadError}
 use Rattle.m51_shelf.specs.declared.reading.FileReadError.TheVariants as error
-use Rattle.m51_shelf.specs.Shelf.{Files, Grows, GoesOn, Opens}
+use Rattle.m51_shelf.specs.Shelf.{Files, Grows, AppendsToLast, Opens}
 use Rattle.m51_shelf.specs.States.{ReadAt, ShelfState, HasFailed}
 
 -- these are all the bytes of the file that was started last, which is within the limit
-pub record IsWhole (holds : Option Files) (after : ReadAt) (bytes : List ℕ) : Type 0 where
+pub record IsWholeFile (holds : Option Files) (after : ReadAt) (bytes : List ℕ) : Type 0 where
   pub within : length bytes ≤ MOST_FILE_BYTES
   pub taken : after.taken ≡ length bytes
   pub held : IfSome holds (λ files. files after.named ≡ Some bytes)
@@ -21,7 +21,7 @@ pub record IsLong (holds : Option Files) (after : ReadAt) : Type 0 where
 
 -- the whole file, or that it is too long, or that a call failed; out of memory is free
 abbrev pub IsRead : Option Files → ReadAt → ReadAt → Result (List ℕ) FileReadError → Type 0
-IsRead holds before after (Ok bytes) = IsWhole holds after bytes
+IsRead holds before after (Ok bytes) = IsWholeFile holds after bytes
 IsRead holds before after (Err error.TooLong) = IsLong holds after
 IsRead holds before after (Err error.Failed) = HasFailed before after
 IsRead holds before after (Err error.Memory) = Unit {0}
@@ -77,7 +77,7 @@ IsPieceError before after (Err error.Memory) = Unit {0}
 pub record HandsOver (before after : ReadAt) (result : Result (List ℕ) FileReadError) : Type 0 where
   pub bytes : List ℕ
   pub most : length bytes ≤ MOST_FILE_BYTES + 1
-  pub goes : GoesOn before.given after.given bytes
+  pub goes : AppendsToLast before.given after.given bytes
   pub all : IsThat bytes result
 
 -- A piece of the open file was returned, and is what came after the bytes that were read before; with them it has at
@@ -85,5 +85,5 @@ pub record HandsOver (before after : ReadAt) (result : Result (List ℕ) FileRea
 pub record GivesOn {T E : Type 0} (before after : ReadAt) (old new : List ℕ) (result : Result T E) : Type 0 where
   pub piece : List ℕ
   pub most : length (old ++ piece) ≤ MOST_FILE_BYTES + 1
-  pub goes : GoesOn before.given after.given piece
+  pub goes : AppendsToLast before.given after.given piece
   pub all : OnOk result (new ≡ old ++ piece)

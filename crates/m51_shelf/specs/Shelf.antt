@@ -49,14 +49,14 @@ Grows None new more = Unit {0}
 Grows (Some old) new more = new ≡ Some (old ++ more)
 
 -- these bytes are appended to the last of the files, if they are visible
-abbrev pub GoesOn : Option (List File) → Option (List File) → List ℕ → Type 0
-GoesOn None new more = Unit {0}
-GoesOn (Some old) new more = (front : List File) (name bytes : List ℕ) → old ≡ front ++ (name, bytes) ∷ []
+abbrev pub AppendsToLast : Option (List File) → Option (List File) → List ℕ → Type 0
+AppendsToLast None new more = Unit {0}
+AppendsToLast (Some old) new more = (front : List File) (name bytes : List ℕ) → old ≡ front ++ (name, bytes) ∷ []
     → new ≡ Some (front ++ (name, bytes ++ more) ∷ [])
 
 -- likewise with the bytes that a piece put at the beginning of a slice, or with none if the piece failed
 abbrev pub HandsOut : {E : Type 0} → Option (List File) → Option (List File) → Result ℕ E → List ℕ → Type 0
-HandsOut old new (Ok count) into = GoesOn old new (take count into)
+HandsOut old new (Ok count) into = AppendsToLast old new (take count into)
 HandsOut old new (Err failed) into = new ≡ old
 
 -- the files, if visible, have grown by this one if it was kept, else they are as before

@@ -21,11 +21,11 @@ abbrev pub FailsAt : MemSinkState → ℕ → Type 0
 FailsAt sink count = Contains sink.fails (one_more sink.calls) ⊎ (sink.room < length sink.text + count)
 
 -- a call takes the whole piece, or it fails and is counted as a fault
-abbrev pub IsTaken : {E : Type 0} → MemSinkState → MemSinkState → List ℕ → Result ℕ E → Type 0
-IsTaken old new piece (Ok count) =
+abbrev pub IsPieceTaken : {E : Type 0} → MemSinkState → MemSinkState → List ℕ → Result ℕ E → Type 0
+IsPieceTaken old new piece (Ok count) =
     (FailsAt old (length piece) → ⊥) × (count ≡ length piece)
     × (new ≡ record old { text = old.text ++ piece; calls = one_more old.calls })
-IsTaken old new piece (Err failed) =
+IsPieceTaken old new piece (Err failed) =
     FailsAt old (length piece) × (new ≡ record old { calls = one_more old.calls; faults = one_more old.faults })
 
 -- what contracts see of a sink: the bytes taken so far, if visible, and how many writes have failed

@@ -7,7 +7,7 @@ ghost use Rattle.std.specs.List.{All};
 ghost use Rattle.m51_cells.specs.Outside.{HasCause};
 ghost use Rattle.m51_shelf.specs.Shelf.{Opens, IsPiece, handed, file_of, contents_at, GrowsIfKept, missed_after};
 ghost use Rattle.m51_shelf.specs.Memory.{FailsToKeep, FailsToRead, FailsToStart, IsPlace, SameFiles, made};
-ghost use Rattle.m51_shelf.specs.Memory.{store_after, Reads, Starts};
+ghost use Rattle.m51_shelf.specs.Memory.{store_after, CountsPiece, Starts};
 
 use crate::files::{contents, copy_piece, index_of};
 use crate::shelf::Shelf;
@@ -31,7 +31,7 @@ pub enum ShelfCall {
 
 /// Files in memory. Contracts see what they hold and what was kept; of two files of one name the first counts, and what
 /// is kept does not show among those that are read. A call fails exactly if its number, counted from 1 in its kind, is
-/// listed, a start also if the file does not exist, and a keep also if there is no place or no room for it.
+/// listed, a start also if the file does not exist, and a keep also if there is no buffer or no room for it.
 ///
 /// Source: own choice ("The outside").
 #[derive(Drop)]
@@ -46,8 +46,8 @@ pub struct MemShelf {
     ready: bool,
     faults: u64,
     kept: Vec<(Bytes, Bytes)>,
-    // A place for each file that may still be kept, with room for all bytes that may.
-    places: Vec<Vec<u8>>,
+    // A buffer for each file that may still be kept, with room for all bytes that may.
+    buffers: Vec<Vec<u8>>,
     room: usize,
     keeps: u64,
     missed: Option<String>,
@@ -75,7 +75,7 @@ impl Model for MemShelf {
       faults = s.faults;
       store = record {
         kept = s.kept.items;
-        places = length s.places.items;
+        buffers = length s.buffers.items;
         room = s.room;
         calls = s.keeps;
         missed = name_bytes s.missed;
@@ -84,47 +84,47 @@ impl Model for MemShelf {
     } };
 
     ghost invariant = { λ s. (s.taken ≤ length (contents_at s.files.items s.index))
-        × (length s.kept.items + length s.places.items ≤ vec_capacity s.kept)
-        × All (IsPlace s.room) s.places.items };
+        × (length s.kept.items + length s.buffers.items ≤ vec_capacity s.kept)
+        × All (IsPlace s.room) s.buffers.items };
 }
 
-// This number of places, each with this room.
+// This number of buffers, each with this room.
 fn places_of(alloc: Global, count: u32, room: usize) -> Result<Vec<Vec<u8>>, NoMemory>
-    ensures places { IfOk result (λ places. length places.items ≡ count) }
-    ensures room { IfOk result (λ places. All (IsPlace room) places.items) }
+    ensures buffers { IfOk result (λ buffers. length buffers.items ≡ count) }
+    ensures room { IfOk result (λ buffers. All (IsPlace room) buffers.items) }
 {
-    let mut places = Vec::new(alloc);
+    let mut buffers = Vec::new(alloc);
     for _ in 0..count {
-        places.push(Vec::with_capacity(alloc, room)?)?;
+        buffers.push(Vec::with_capacity(alloc, room)?)?;
     }
-    Ok(places)
+    Ok(buffers)
 }
 
-// Adds a file to those that are kept, in one of the places. It does not allocate.
+// Adds a file to those that are kept, in one of the buffers. It does not allocate.
 fn put_file(
     kept: &mut Vec<(Bytes, Bytes)>,
-    places: &mut Vec<Vec<u8>>,
+    buffers: &mut Vec<Vec<u8>>,
     name: String,
     bytes: &[u8],
     room: usize,
 )
-    requires some { 0 < length places.old.items }
-    requires capacity { length kept.old.items + length places.old.items ≤ vec_capacity kept.old }
-    requires places { All (IsPlace room) places.old.items }
+    requires some { 0 < length buffers.old.items }
+    requires capacity { length kept.old.items + length buffers.old.items ≤ vec_capacity kept.old }
+    requires buffers { All (IsPlace room) buffers.old.items }
     requires room { length bytes.now ≤ room }
     ensures kept { kept.new.items ≡ kept.old.items ++ (string_bytes name, bytes.now) ∷ [] }
-    ensures fewer { length places.new.items ≡ length places.old.items - 1 }
+    ensures fewer { length buffers.new.items ≡ length buffers.old.items - 1 }
     ensures capacity { vec_capacity kept.old ≤ vec_capacity kept.new }
-    ensures places { All (IsPlace room) places.new.items }
+    ensures buffers { All (IsPlace room) buffers.new.items }
 {
-    let Some(mut place) = places.pop() else {
+    let Some(mut buffer) = buffers.pop() else {
         unreachable!()
     };
-    match place.extend_from_slice(bytes) {
+    match buffer.extend_from_slice(bytes) {
         Ok(()) => {}
         Err(_) => unreachable!(),
     }
-    match kept.push((Bytes::of(name.into_bytes()), Bytes::of(place))) {
+    match kept.push((Bytes::of(name.into_bytes()), Bytes::of(buffer))) {
         Ok(()) => {}
         Err(_) => unreachable!(),
     }
@@ -164,30 +164,30 @@ fn check_piece(fails: &[(ShelfCall, u32)], number: u64) -> Result<(), Failed>
     Ok(())
 }
 
-// There must be a place, and room for `count` bytes.
-fn check_room(places: usize, room: usize, count: usize) -> Result<(), Failed>
-    ensures { IsErr result ↔ ((places ≡ 0) ⊎ (room < count)) }
+// There must be a buffer, and room for `count` bytes.
+fn check_room(buffers: usize, room: usize, count: usize) -> Result<(), Failed>
+    ensures { IsErr result ↔ ((buffers ≡ 0) ⊎ (room < count)) }
 {
-    if places == 0 || room < count {
+    if buffers == 0 || room < count {
         return Err(Failed);
     }
     Ok(())
 }
 
-// A keep of that number fails if it is listed, and if there is no place or no room for `count` bytes.
+// A keep of that number fails if it is listed, and if there is no buffer or no room for `count` bytes.
 fn check_keep(
     fails: &[(ShelfCall, u32)],
     number: u64,
-    places: usize,
+    buffers: usize,
     room: usize,
     count: usize,
 ) -> Result<(), Failed>
-    ensures { IsErr result ↔ (Contains fails.now (ShelfCall.Keep, number) ⊎ ((places ≡ 0) ⊎ (room < count))) }
+    ensures { IsErr result ↔ (Contains fails.now (ShelfCall.Keep, number) ⊎ ((buffers ≡ 0) ⊎ (room < count))) }
 {
     if is_listed(fails, ShelfCall::Keep, number) {
         return Err(Failed);
     }
-    check_room(places, room, count)
+    check_room(buffers, room, count)
 }
 
 impl MemShelf {
@@ -206,7 +206,7 @@ impl MemShelf {
     {
         let index = files.len();
         let kept = Vec::with_capacity(alloc, keeps as usize)?;
-        let places = places_of(alloc, keeps, room as usize)?;
+        let buffers = places_of(alloc, keeps, room as usize)?;
         Ok(MemShelf {
             files,
             fails,
@@ -218,7 +218,7 @@ impl MemShelf {
             ready: false,
             faults: 0,
             kept,
-            places,
+            buffers,
             room: room as usize,
             keeps: 0,
             missed: None,
@@ -297,7 +297,7 @@ impl Shelf for MemShelf {
         ensures cause { HasCause self.old.faults self.new.faults result }
         ensures store { self.new.store ≡ self.old.store }
         ensures failed { IsErr result ↔ FailsToRead self.old }
-        ensures reads { Reads self.old self.new result }
+        ensures reads { CountsPiece self.old self.new result }
     {
         let number = self.pieces.saturating_add(1);
         self.pieces = number;
@@ -327,9 +327,9 @@ impl Shelf for MemShelf {
         let number = self.keeps.saturating_add(1);
         let count = bytes.len();
         self.keeps = number;
-        match check_keep(&self.fails, number, self.places.len(), self.room, count) {
+        match check_keep(&self.fails, number, self.buffers.len(), self.room, count) {
             Ok(()) => {
-                put_file(&mut self.kept, &mut self.places, name, bytes, self.room);
+                put_file(&mut self.kept, &mut self.buffers, name, bytes, self.room);
                 self.room -= count;
                 Ok(())
             }

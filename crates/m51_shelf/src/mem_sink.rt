@@ -2,7 +2,7 @@
 ghost use Rattle.std.specs.Prelude.{◌≡◌, ◌≤◌, ◌<◌, ◌↔◌, [], Some, length, Contains, IsTrue, IfOk};
 ghost use Rattle.std.specs.Io.KnownBytes.{WriteAppends};
 ghost use Rattle.m51_cells.specs.Outside.{HasCause};
-ghost use Rattle.m51_shelf.specs.Writing.{FailsAt, IsTaken};
+ghost use Rattle.m51_shelf.specs.Writing.{FailsAt, IsPieceTaken};
 
 use crate::sink::{Failed, Sink};
 use m51_cells::NoMemory;
@@ -94,7 +94,7 @@ impl Sink for MemSink {
         ensures some { IfOk result (λ count. 0 < length piece.now → 0 < count) }
         ensures bytes { WriteAppends (Some self.old.text) (Some self.new.text) result piece.now }
         ensures cause { HasCause self.old.faults self.new.faults result }
-        ensures taken { IsTaken self.old self.new piece.now result }
+        ensures taken { IsPieceTaken self.old self.new piece.now result }
     {
         let fails = self.fails_at(piece.len());
         self.calls = self.calls.saturating_add(1);

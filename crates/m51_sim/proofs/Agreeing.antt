@@ -1,39 +1,38 @@
 -- A map that has the values of the stores.
+use Rattle.m51_sim.proofs.Common.{◌≡◌, ℕ, Bool, true, false, ◌&&◌, Option, Some, None, refl, sym, ap, subst, ◌∙◌}
+use Rattle.m51_sim.proofs.Common.{⊎_elim, if◌then◌else◌, Cell, LayoutParts, IsSound, CellMap, segment_over, filled_map}
+use Rattle.m51_sim.proofs.Common.{map_after}
 use Rattle.std.proofs.lemmas.Bool.{lt-ltb}
-use Rattle.std.proofs.Common.{◌≡◌, ℕ, Bool, true, false, not, ◌&&◌, Option, Some, None, refl, sym, ap, subst, ◌∙◌}
-use Rattle.std.proofs.Common.{⊎_elim}
+use Rattle.std.proofs.Common.{not}
 use Rattle.std.proofs.lemmas.Option.{same_Some}
-use Rattle.std.specs.Prelude.{slice_get, if◌then◌else◌}
-use Rattle.m51_cells.specs.declared.cell.Cell.{Cell}
+use Rattle.std.specs.Prelude.{slice_get}
 use Rattle.m51_cells.specs.declared.cell.Space.{Space}
 use Rattle.m51_cells.specs.declared.cell.Space.TheVariants.{Ram, Xram, Code}
-use Rattle.m51_module.specs.declared.parts.LayoutParts.{LayoutParts}
 use Rattle.m51_module.specs.Conflict.{FirstPlain}
 use Rattle.m51_module.specs.Plan.{IsOverlaid}
-use Rattle.m51_module.specs.Sound.{IsSound}
 use Rattle.m51_flat.specs.declared.state.Put.{Put}
-use Rattle.m51_flat.specs.Reads.{CellMap, Agrees}
+use Rattle.m51_flat.specs.Reads.{Agrees}
 use Rattle.m51_flat.specs.States.{CellState, Holds, Absent, ram_cell, written_in, written_to, xram_cell}
 use Rattle.m51_cells.specs.Cells.{IsDataCell}
 use Rattle.m51_monitor.specs.Masks.{IsCellAt}
-use Rattle.m51_monitor.specs.Resolved.{resolved, resolved_cells, held_in, segment_over}
+use Rattle.m51_monitor.specs.Resolved.{resolved, resolved_cells, held_in}
 use Rattle.m51_monitor.specs.Stores.{Stores, IsOver, Live, Resolves, InSegment, InCommon, Nowhere, held, is_overlaid_at}
 use Rattle.m51_monitor.specs.Stores.{over, has_cell, is_common, is_data, put_into, unset_dead, fill_in, filled_stores}
 use Rattle.m51_monitor.specs.Stores.{AreStores}
 use Rattle.m51_monitor.proofs.Liveness.{overlaid_tells}
 use Rattle.m51_monitor.proofs.Resolved.{resolves}
 use Rattle.m51_monitor.proofs.Resolving.{common_or_over, data_cell_is, is_has_cell}
-use Rattle.m51_sim.specs.FlatMachine.{filled_map, map_after, replaced}
-use Rattle.m51_sim.specs.Laws.{FilledHasFill, HasFill, value_at}
+use Rattle.m51_sim.specs.FlatMachine.{replaced}
+use Rattle.m51_sim.specs.Laws.{FilledHasFill, HasFill, mapped_value}
 
 -- where a store has a value, the map has it
 pub record AgreesWith (l : LayoutParts) (s : Stores) (m : CellMap) : Type 0 where
   pub segment : (t : ℕ) (c : Cell) (v : ℕ) → IsDataCell c → IsOver l t c → s.segment t c ≡ Some v
-      → value_at m c.space c.at ≡ v
-  pub common : (c : Cell) (v : ℕ) → IsDataCell c → s.common c ≡ Some v → value_at m c.space c.at ≡ v
+      → mapped_value m c.space c.at ≡ v
+  pub common : (c : Cell) (v : ℕ) → IsDataCell c → s.common c ≡ Some v → mapped_value m c.space c.at ≡ v
 
 value_after : (put : Put) (m : CellMap) (s : Space) (n : ℕ) → IsCellAt s n
-    → value_at (map_after put m) s n ≡ replaced (written_in put s n) (value_at m s n)
+    → mapped_value (map_after put m) s n ≡ replaced (written_in put s n) (mapped_value m s n)
 value_after put m Ram n h = refl
 value_after put m Xram n h = refl
 value_after put m Code n h = absurd h.0
@@ -56,11 +55,12 @@ pub put_agrees : (l : LayoutParts) (live : Live) (put : Put) (s : Stores) (m : C
     → AgreesWith l s m → AgreesWith l (put_into l live put s) (map_after put m)
 put_agrees l live put s m are h = record {
   segment = λ t c v is at e. value_after put m c.space c.at is
-      ∙ cell_agrees (live t && has_cell l t c) (written_to put c) (s.segment t c) (value_at m c.space c.at) v
+      ∙ cell_agrees (live t && has_cell l t c) (written_to put c) (s.segment t c) (mapped_value m c.space c.at) v
       (λ f. are.dead t c (and_dead (live t) (has_cell l t c) f (is_has_cell l t c is at))) e
       (λ k. h.segment t c v is at k);
   common = λ c v is e. value_after put m c.space c.at is
-      ∙ cell_agrees (is_common l c) (written_to put c) (s.common c) (value_at m c.space c.at) v (λ f. are.of_common c f)
+      ∙ cell_agrees (is_common l c) (written_to put c) (s.common c) (mapped_value m c.space c.at) v
+      (λ f. are.of_common c f)
       e (λ k. h.common c v is k);
 }
 
@@ -80,7 +80,7 @@ held_some None v e = cc e
 held_some (Some w) v e = let same : w ≡ v = cc e in ap Some same
 
 by_resolves : (l : LayoutParts) (live : Live) (s : Stores) (m : CellMap) (c : Cell) (state : CellState) (v : ℕ)
-    → AgreesWith l s m → IsDataCell c → Resolves l live s c state → state ≡ Holds v → value_at m c.space c.at ≡ v
+    → AgreesWith l s m → IsDataCell c → Resolves l live s c state → state ≡ Holds v → mapped_value m c.space c.at ≡ v
 by_resolves l live s m c state v h is (InSegment t at alive f) e =
     h.segment t c v is at (held_some (s.segment t c) v (sym f ∙ e))
 by_resolves l live s m c state v h is (InCommon free f) e = h.common c v is (held_some (s.common c) v (sym f ∙ e))
@@ -91,7 +91,7 @@ if_held true x v e = refl
 if_held false x v e = cc e
 
 cell_held : (l : LayoutParts) (live : Live) (s : Stores) (m : CellMap) (c : Cell) (v : ℕ) → AgreesWith l s m
-    → resolved l live s c ≡ Holds v → value_at m c.space c.at ≡ v
+    → resolved l live s c ≡ Holds v → mapped_value m c.space c.at ≡ v
 cell_held l live s m c v h e =
     let is = data_cell_is c (if_held (is_data c) (held_in s c (is_common l c) (segment_over l live c)) v e) in
     by_resolves l live s m c (resolved l live s c) v h is (resolves l live s c is) e
@@ -137,7 +137,7 @@ start_agrees l fill m sound has = record {
         (overlaid_tells l t)
 
 -- the map that has the fill everywhere
-filled_value : (fill : ℕ) (s : Space) (n : ℕ) → IsCellAt s n → value_at (filled_map fill) s n ≡ fill_in fill s n
+filled_value : (fill : ℕ) (s : Space) (n : ℕ) → IsCellAt s n → mapped_value (filled_map fill) s n ≡ fill_in fill s n
 filled_value fill Ram n h = rw (lt-ltb n 2048 h.1) refl
 filled_value fill Xram n h = rw (lt-ltb n 65536 h.1) refl
 filled_value fill Code n h = absurd h.0

@@ -1,22 +1,17 @@
 -- A board after a reset.
-use Rattle.std.proofs.Common.{◌≡◌, ℕ, List, [], Option, Some, None, refl, ap, subst}
-use Rattle.m51_module.specs.declared.parts.LayoutParts.{LayoutParts}
+use Rattle.m51_sim.proofs.Common.{◌≡◌, ℕ, List, [], Option, Some, None, refl, ap, subst, LayoutParts, IsSound, Cpu}
+use Rattle.m51_sim.proofs.Common.{Script, unit_found, AreActivations, Monitored, ChipState, IsInOrder, held_memory}
+use Rattle.m51_sim.proofs.Common.{stores_read, inputs_of, reset_with, Separate, separate_start}
 use Rattle.m51_module.specs.Plan.{IsUnitAt}
-use Rattle.m51_module.specs.Sound.{IsSound}
 use Rattle.m51_module.proofs.Units.{one_unit}
-use Rattle.m51_flat.specs.declared.state.Cpu.{Cpu}
 use Rattle.m51_flat.specs.Reset.{reset_cpu}
 use Rattle.m51_timers_uart.specs.Tick.{reset_periph}
-use Rattle.m51_script.specs.declared.script.Script.{Script}
-use Rattle.m51_monitor.specs.Found.{unit_found}
-use Rattle.m51_monitor.specs.Monitored.{AreActivations, IsStart, Monitored}
+use Rattle.m51_monitor.specs.Monitored.{IsStart}
 use Rattle.m51_monitor.specs.Transfers.{IsFoundAt}
 use Rattle.m51_monitor.proofs.CurrentUnit.{root_covers}
 use Rattle.m51_monitor.proofs.Finding.{unit_found_is}
-use Rattle.m51_sim.specs.Boards.{ChipState, IsInOrder, IsStarted, memory_of, stores_read}
-use Rattle.m51_sim.specs.Cycles.{inputs_of}
-use Rattle.m51_sim.specs.FlatMachine.{reset_with}
-use Rattle.m51_sim.specs.SeparateMachine.{Separate, or_zero, reset_unit, separate_start}
+use Rattle.m51_sim.specs.Boards.{IsStarted}
+use Rattle.m51_sim.specs.SeparateMachine.{or_zero, reset_unit}
 use Rattle.m51_sim.proofs.StoresRead.{read_same}
 
 unit_is : (l : LayoutParts) (u : ℕ) (o : Option ℕ) → IsSound l → IsUnitAt l 0 u → IsFoundAt l 0 o → u ≡ or_zero o
@@ -56,7 +51,7 @@ module _ (l : LayoutParts) (fill : ℕ) (m : Monitored) (sound : IsSound m.layou
   start_stores : stores_read m ≡ (separate_start l fill).stores
   start_stores = read_same m sound may _ start.stores
 
-  pub start_memory : memory_of m ≡ separate_start l fill
+  pub start_memory : held_memory m ≡ separate_start l fill
   start_memory = rw (start_stores, start.records, root_is) refl
 
   pub is_started : (image : List ℕ) (script : Script) (chip : ChipState) → script.fill ≡ fill

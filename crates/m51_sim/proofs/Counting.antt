@@ -1,11 +1,11 @@
 -- A run that is counted.
-use Rattle.std.proofs.Common.{◌≡◌, ℕ, suc, ◌+◌, ◌-◌, ◌*◌, ◌≤◌, ◌<◌, [], ◌++◌, length, Option, Some, None, Ok, Err, refl}
-use Rattle.std.proofs.Common.{sym, ap, ◌∙◌, arith, append-nil, length-append}
-use Rattle.m51_cells.specs.declared.event.Event.{Event}
-use Rattle.m51_sim.specs.declared.runs.Entries.{Entries}
+use Rattle.m51_sim.proofs.Common.{◌≡◌, ℕ, suc, ◌+◌, ◌-◌, ◌≤◌, ◌<◌, [], ◌++◌, length, Option, Some, None, Ok, Err, refl}
+use Rattle.m51_sim.proofs.Common.{sym, ap, ◌∙◌, arith, append-nil, length-append, Event, Entries, State, Machine}
+use Rattle.m51_sim.proofs.Common.{Record, entries_of, no_step, IsAdvance}
+use Rattle.std.proofs.Common.{◌*◌}
 use Rattle.m51_module.specs.declared.tally.Tally.{Tally}
-use Rattle.m51_sim.specs.Runs.{State, Machine, Record, entries_of, no_step, record_of}
-use Rattle.m51_sim.specs.Run.{IsAdvance, tally_of}
+use Rattle.m51_sim.specs.Runs.{record_of}
+use Rattle.m51_sim.specs.Run.{tally_of}
 use Rattle.m51_sim.proofs.Going.{IsGoing, going_on, going_start, record_of_next, record_of_rest}
 use Rattle.m51_sim.proofs.Sums.{appended, record_stops}
 

@@ -1,19 +1,18 @@
 -- The instructions of an image, decoded one after another.
-use Rattle.std.proofs.Common.{◌≡◌, ℕ, ◌+◌, ◌<◌, ◌≤◌, List, [], ◌∷◌, ◌++◌, Option, length, refl, sym, ap, subst, ◌∙◌}
-use Rattle.std.proofs.Common.{⊎_elim, arith, length-append}
+use Rattle.m51_sim.proofs.Common.{◌≡◌, ℕ, ◌+◌, ◌<◌, ◌≤◌, List, [], ◌∷◌, ◌++◌, Option, length, refl, sym, ap, subst, ◌∙◌}
+use Rattle.m51_sim.proofs.Common.{⊎_elim, arith, length-append, Instr}
 use Rattle.std.specs.Prelude.{slice_index_or}
 use Rattle.std.proofs.Math.ListN.{get_or-append}
 use Rattle.std.proofs.Math.Seq.{get_or-append_seam}
 use Rattle.std.proofs.lemmas.Bool.{cases_lt}
-use Rattle.m51_isa.specs.declared.instr.Instr.{Instr}
 use Rattle.m51_sim.specs.Effects.{instr_at}
-use Rattle.m51_sim.specs.Rows.{AreRows}
+use Rattle.m51_sim.specs.Rows.{AreDecodedRows}
 
-pub no_rows : (image : List ℕ) → AreRows image [] 0
+pub no_rows : (image : List ℕ) → AreDecodedRows image [] 0
 no_rows image = record { len = refl; row = λ a d h. absurd (omega (arith, h)) }
 
 pub one_row : (image : List ℕ) (rows : List (Option Instr)) (count : ℕ) (row : Option Instr)
-    → row ≡ instr_at image count → AreRows image rows count → AreRows image (rows ++ row ∷ []) (count + 1)
+    → row ≡ instr_at image count → AreDecodedRows image rows count → AreDecodedRows image (rows ++ row ∷ []) (count + 1)
 one_row image rows count row e are = record {
   len = let len = length-append rows (row ∷ []) in omega (arith, len, are.len);
   row = λ a d h. ⊎_elim

@@ -1,36 +1,32 @@
 -- An effect that is judged may be performed, and records and processor are in order afterwards.
-use Rattle.std.specs.Prelude.{if◌then◌else◌, nat_eq, IfErr, IfOk}
-use Rattle.std.proofs.Common.{◌≡◌, ℕ, ◌+◌, Bool, true, false, not, List, [], ◌∷◌, Option, Some, None, Result, Ok, Err}
-use Rattle.std.proofs.Common.{refl, sym, ap, subst, ◌∙◌}
-use Rattle.m51_cells.specs.declared.event.Event.{Event}
+use Rattle.m51_sim.proofs.Common.{if◌then◌else◌, ◌≡◌, ℕ, ◌+◌, Bool, true, false, List, [], ◌∷◌, Option, Some, None}
+use Rattle.m51_sim.proofs.Common.{Result, Ok, Err, refl, sym, ap, subst, ◌∙◌, Event, PastEnd, LayoutParts, IsSound, Cpu}
+use Rattle.m51_sim.proofs.Common.{Effect, Source, sp, Stay, AreActivations, Monitored, current, Cell, idle_effect}
+use Rattle.m51_sim.proofs.Common.{is_at, IsInOrder}
+use Rattle.std.specs.Prelude.{nat_eq, IfErr, IfOk}
+use Rattle.std.proofs.Common.{not}
 use Rattle.m51_cells.specs.declared.event.Event.TheVariants as events
 use Rattle.m51_cells.specs.declared.event.Why.{Why}
-use Rattle.m51_cells.specs.declared.event.Why.TheVariants.{NoEdge, NotCalled, PastEnd, RootBusy, SpBelow, SpMoved}
+use Rattle.m51_cells.specs.declared.event.Why.TheVariants.{NoEdge, NotCalled, RootBusy, SpBelow, SpMoved}
 use Rattle.m51_cells.specs.declared.event.Why.TheVariants.{WrongAddress}
-use Rattle.m51_module.specs.declared.parts.LayoutParts.{LayoutParts}
 use Rattle.m51_module.specs.Plan.{IsUnitAt}
-use Rattle.m51_module.specs.Sound.{IsSound}
 use Rattle.m51_module.specs.Walks.{has_edge}
-use Rattle.m51_flat.specs.declared.state.Cpu.{Cpu}
-use Rattle.m51_flat.specs.declared.state.Effect.{Effect}
-use Rattle.m51_flat.specs.declared.state.Source.{Source}
 use Rattle.m51_flat.specs.declared.state.Transfer.{Transfer}
 use Rattle.m51_flat.specs.declared.state.Transfer.TheVariants.{Next, Jump, Call, Ret, Reti, Vector}
-use Rattle.m51_flat.specs.Sfr.{latch, sp}
+use Rattle.m51_flat.specs.Sfr.{latch}
 use Rattle.m51_monitor.specs.declared.step.Move.{Move}
-use Rattle.m51_monitor.specs.declared.step.Move.TheVariants.{Stay, Return, Interrupt as InterruptTo}
-use Rattle.m51_monitor.specs.Monitored.{AreActivations, HasAddress, HasLevel, Monitored}
-use Rattle.m51_monitor.specs.Records.{Records, ReturnRecord, current, first_or, named_over}
+use Rattle.m51_monitor.specs.declared.step.Move.TheVariants.{Return, Interrupt as InterruptTo}
+use Rattle.m51_monitor.specs.Monitored.{HasAddress, HasLevel}
+use Rattle.m51_monitor.specs.Records.{Records, ReturnRecord, first_or, named_over}
 use Rattle.m51_monitor.specs.Rising.{HaveLevels, IsAbove, in_progress, levels, taken_after}
 use Rattle.m51_monitor.specs.Shared.{shared_barred}
 use Rattle.m51_flat.specs.Vectors.{vector_of}
 use Rattle.m51_flat.specs.declared.state.Put.TheVariants.{Nothing}
 use Rattle.m51_flat.specs.States.{shut_of}
-use Rattle.m51_cells.specs.declared.cell.Cell.{Cell}
 use Rattle.std.proofs.lemmas.Bool.{le-ltb}
-use Rattle.m51_sim.specs.Effects.{idle_effect}
-use Rattle.m51_monitor.specs.Transfers.{Answers, Judges, is_busy, is_by, as_event, is_sp_below, is_at, jump_or_call}
-use Rattle.m51_monitor.specs.Transfers.{interrupts_to, judged_as, move_to, moved, return_move, returns_to, unless}
+use Rattle.m51_monitor.specs.Transfers.{IsMoveOrEvent, Judges, is_busy, is_by, as_event, is_sp_below}
+use Rattle.m51_monitor.specs.Transfers.{jump_or_call}
+use Rattle.m51_monitor.specs.Transfers.{interrupts_to, judged_as, move_to, moved, return_move, returns_to, refused_if}
 use Rattle.m51_monitor.specs.Transfers.{within}
 use Rattle.m51_monitor.proofs.CurrentUnit.{covers_is_kept}
 use Rattle.m51_monitor.proofs.Finding.{is_number}
@@ -39,21 +35,20 @@ use Rattle.m51_monitor.proofs.Moving.{ok_is, unless_ok}
 use Rattle.m51_print.specs.Lines.{HasText}
 use Rattle.m51_sim.specs.Allowed.{Allowed as AllowedEffect}
 use Rattle.m51_sim.specs.SeparateMachine.{with_move}
-use Rattle.m51_sim.specs.Boards.{IsInOrder}
 use Rattle.m51_sim.specs.Ready.{HasRoom, IsPrepared, MayCommit, StoresAddress}
 
 -- what the table allows has the property of each of its moves
 module _ (P : Move → Type 0) where
-  unless_has : (b : Bool) (why : Why) (m n : Move) → P n → Ok m ≡ unless b why (Ok n) → P m
+  unless_has : (b : Bool) (why : Why) (m n : Move) → P n → Ok m ≡ refused_if b why (Ok n) → P m
   unless_has b why m n h e = subst P (sym (ok_is m n (unless_ok b why (Ok n) m e).1)) h
 
   goes_has : (low edge call same : Bool) (u : ℕ) (m : Move) → P (within call) → P (move_to call u)
-      → Ok m ≡ (if same then unless low SpBelow (Ok (within call)) else unless edge NoEdge
-      (unless low SpBelow (Ok (move_to call u)))) → P m
+      → Ok m ≡ (if same then refused_if low SpBelow (Ok (within call)) else refused_if edge NoEdge
+      (refused_if low SpBelow (Ok (move_to call u)))) → P m
   goes_has low edge call true u m h k e = unless_has low SpBelow m (within call) h e
   goes_has low edge call false u m h k e =
       unless_has low SpBelow m (move_to call u) k
-      (unless_ok edge NoEdge (unless low SpBelow (Ok (move_to call u))) m e).1
+      (unless_ok edge NoEdge (refused_if low SpBelow (Ok (move_to call u))) m e).1
 
   jump_has : (l : LayoutParts) (from : ℕ) (low call : Bool) (o : Option ℕ) (m : Move) → P (within call)
       → ((u : ℕ) → P (move_to call u)) → Ok m ≡ jump_or_call l from low call o → P m
@@ -68,8 +63,9 @@ module _ (P : Move → Type 0) where
       let inside = is_at at (first_or (named_over reset rs) 0) in
       let o = unless_ok (not (is_by call r.cause)) NotCalled (returns_to r.sp r.return_address top to inside) m e in
       let p = unless_ok (not (nat_eq top r.sp)) SpMoved
-      (unless (not (nat_eq to r.return_address)) WrongAddress (unless (not inside) PastEnd (Ok Return))) m o.1 in
-      let q = unless_ok (not (nat_eq to r.return_address)) WrongAddress (unless (not inside) PastEnd (Ok Return)) m
+      (refused_if (not (nat_eq to r.return_address)) WrongAddress (refused_if (not inside) PastEnd (Ok Return)))
+      m o.1 in
+      let q = unless_ok (not (nat_eq to r.return_address)) WrongAddress (refused_if (not inside) PastEnd (Ok Return)) m
       p.1 in
       unless_has (not inside) PastEnd m Return h q.1
 
@@ -78,7 +74,8 @@ module _ (P : Move → Type 0) where
   interrupt_has a source low None m h e = cc e
   interrupt_has a source low (Some u) m h e =
       unless_has low SpBelow m (InterruptTo source u) (h u)
-      (unless_ok (is_busy a.returns (vector_of source)) RootBusy (unless low SpBelow (Ok (InterruptTo source u))) m e).1
+      (unless_ok (is_busy a.returns (vector_of source)) RootBusy
+      (refused_if low SpBelow (Ok (InterruptTo source u))) m e).1
 
 -- an effect whose move makes a record stores two bytes, and a vectoring has room
 abbrev Fits : Monitored → Effect → Move → Type 0
@@ -89,7 +86,7 @@ fits : (m : Monitored) (e : Effect) (top new to : ℕ) (t : Transfer) (at root :
 fits m e top new to Next at root step stores room k =
     let low = is_sp_below m.records.returns 0 new in
     unless_has (Fits m e) low SpBelow step Stay (tt, tt)
-    (unless_ok (not (is_at at (current m.records))) PastEnd (unless low SpBelow (Ok Stay)) step k).1
+    (unless_ok (not (is_at at (current m.records))) PastEnd (refused_if low SpBelow (Ok Stay)) step k).1
 fits m e top new to Jump at root step stores room k =
     jump_has (Fits m e) m.layout (current m.records) (is_sp_below m.records.returns 0 new) false at step (tt, tt)
     (λ u. (tt, tt)) k
@@ -119,7 +116,7 @@ commits m cpu e step h judges =
     record { judges = judges; prepared = h; address = k.0; level = k.1 }
 
 pub judged_commits : (m : Monitored) (cpu : Cpu) (e : Effect) (r : Result Move Event) → IsPrepared m cpu e
-    → Answers m.layout m.records cpu e r → IfOk (with_move e r) (MayCommit m cpu)
+    → IsMoveOrEvent m.layout m.records cpu e r → IfOk (with_move e r) (MayCommit m cpu)
 judged_commits m cpu e (Ok step) h a = commits m cpu e step h (judges_of m cpu e step a.answer a.judges a.is)
 judged_commits m cpu e (Err event) h a = tt
 
@@ -131,7 +128,7 @@ text_of m cpu e event count (Err why) is = let same : event ≡ events.Transfer 
     subst (HasText count) (sym same) tt
 
 pub judged_text : (m : Monitored) (cpu : Cpu) (e : Effect) (r : Result Move Event) (count : ℕ)
-    → Answers m.layout m.records cpu e r → IfErr r (HasText count)
+    → IsMoveOrEvent m.layout m.records cpu e r → IfErr r (HasText count)
 judged_text m cpu e (Ok step) count a = tt
 judged_text m cpu e (Err event) count a = text_of m cpu e event count a.answer a.is
 

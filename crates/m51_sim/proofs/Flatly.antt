@@ -1,20 +1,14 @@
 -- A step of the flat board, over its memory.
-use Rattle.std.proofs.Common.{◌≡◌, ℕ, Bool, true, false, cond, List, Ok, Err, refl, ap, ◌∙◌}
+use Rattle.m51_sim.proofs.Common.{◌≡◌, ℕ, Bool, true, false, cond, List, Ok, Err, refl, ap, ◌∙◌, Instr, Cpu, Pins}
+use Rattle.m51_sim.proofs.Common.{Effect, CellMap, flag, pcon, plan_of, Script, ChipState, inputs_of, filled_map}
+use Rattle.m51_sim.proofs.Common.{reset_with}
 use Rattle.m51_cells.specs.declared.event.Event.TheVariants.{PowerDown as DownEvent}
-use Rattle.m51_isa.specs.declared.instr.Instr.{Instr}
-use Rattle.m51_flat.specs.declared.state.Cpu.{Cpu}
-use Rattle.m51_flat.specs.declared.state.Pins.{Pins}
-use Rattle.m51_flat.specs.declared.state.Effect.{Effect}
 use Rattle.m51_flat.specs.declared.state.Outcome.TheVariants.{Done, PowerDown}
 use Rattle.m51_flat.specs.Causes.{unless_down}
 use Rattle.m51_flat.specs.Flat.{FlatBytes, filled_cells, flat_cells}
-use Rattle.m51_flat.specs.Reads.{CellMap, result_over}
-use Rattle.m51_flat.specs.Sfr.{flag, pcon}
-use Rattle.m51_flat.specs.Meaning.{plan_of}
-use Rattle.m51_script.specs.declared.script.Script.{Script}
-use Rattle.m51_sim.specs.Boards.{ChipState, IsFlatStarted}
-use Rattle.m51_sim.specs.Cycles.{inputs_of}
-use Rattle.m51_sim.specs.FlatMachine.{filled_map, instr_effect, reset_with}
+use Rattle.m51_flat.specs.Reads.{result_over}
+use Rattle.m51_sim.specs.Boards.{IsFlatStarted}
+use Rattle.m51_sim.specs.FlatMachine.{instr_effect}
 use Rattle.m51_sim.proofs.Beginning.{chip_at_reset}
 use Rattle.m51_sim.proofs.Values.{filled_of}
 

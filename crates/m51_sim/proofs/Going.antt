@@ -1,6 +1,8 @@
 -- A run that is under way, and how it ends.
-use Rattle.std.proofs.Common.{◌≡◌, ℕ, suc, ◌+◌, ◌-◌, ◌≤◌, ◌<◌, List, [], ◌++◌, length, take, Option, Some, None, Ok}
-use Rattle.std.proofs.Common.{Err, refl, sym, ap, ◌∙◌, arith, append_assoc, append-nil, length-append, subst}
+use Rattle.m51_sim.proofs.Common.{◌≡◌, ℕ, suc, ◌+◌, ◌-◌, ◌≤◌, ◌<◌, List, [], ◌++◌, length, take, Option, Some, None, Ok}
+use Rattle.m51_sim.proofs.Common.{Err, refl, sym, ap, ◌∙◌, arith, append-nil, length-append, subst, Event, Entries}
+use Rattle.m51_sim.proofs.Common.{State, Machine, Record, entries_of, no_step, with_step, IsAdvance}
+use Rattle.std.proofs.Common.{append_assoc}
 use Rattle.std.proofs.Math.Logic.{inl, inr}
 use Rattle.std.proofs.Math.Seq.{take-append-add}
 use Rattle.std.proofs.lemmas.List.{take-append-le}
@@ -8,12 +10,10 @@ use Rattle.std.proofs.lemmas.Grind.{flat_map-append}
 use Rattle.std.specs.Prelude.{flat_map}
 use Rattle.std.specs.Io.KnownBytes.{Appends}
 use Rattle.std.proofs.KnownBytes.{Appends-nil, Appends-trans}
-use Rattle.m51_cells.specs.declared.event.Event.{Event}
-use Rattle.m51_sim.specs.declared.runs.Entries.{Entries}
 use Rattle.m51_shelf.specs.Writing.{StopsWithin}
 use Rattle.m51_print.specs.Lines.{entry_line, last_line}
-use Rattle.m51_sim.specs.Runs.{State, Machine, Record, entries_of, no_step, with_step, record_of}
-use Rattle.m51_sim.specs.Run.{IsAdvance, IsCut, IsWhole, entry_lines, lines_after, record_text}
+use Rattle.m51_sim.specs.Runs.{record_of}
+use Rattle.m51_sim.specs.Run.{IsRecordCut, IsWholeRecord, entry_lines, lines_after, record_text}
 use Rattle.m51_sim.proofs.Sums.{appended, record_sum, record_goes, record_stops, record_zero}
 
 -- the first steps are performed, and the lines of their entries are written
@@ -97,7 +97,7 @@ module _ {M : Type 0} (titles : List (List ℕ)) (machine : Machine M) where
       (told : Entries)
       → done < all → IsGoing before m machine first done old → IsAdvance (machine old) (Ok told) old new
       → StopsWithin m n (lines_of told)
-      → IsCut before n titles machine all first new
+      → IsRecordCut before n titles machine all first new
   cut_in_entry before m n all first done old new told more going h cut =
       let k = all - (done + 1) in
       let rest = record_of machine k new in
@@ -166,7 +166,7 @@ module _ {M : Type 0} (titles : List (List ℕ)) (machine : Machine M) where
       (event : Option Event)
       → IsGoing before m machine first done s → IsOver machine all first done s event
       → Appends m n (last_line titles event done s.cycle)
-      → IsWhole before n titles (record_of machine all first) s event
+      → IsWholeRecord before n titles (record_of machine all first) s event
   whole_at_end before m n all first done s event going over line =
       record {
         event_is = over.event_is;
@@ -179,7 +179,7 @@ module _ {M : Type 0} (titles : List (List ℕ)) (machine : Machine M) where
       (event : Option Event)
       → IsGoing before m machine first done s → IsOver machine all first done s event
       → StopsWithin m n (last_line titles event done s.cycle)
-      → IsCut before n titles machine all first s
+      → IsRecordCut before n titles machine all first s
   cut_at_end before m n all first done s event going over cut =
       let so_far = lines_after machine first done in
       let line = last_line titles event done s.cycle in

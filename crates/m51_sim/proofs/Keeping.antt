@@ -1,51 +1,41 @@
 -- What the separate machine performs, the flat machine performs.
-use Rattle.std.proofs.Common.{◌≡◌, ℕ, zero, suc, ◌+◌, ◌%◌, Bool, true, false, List, ◌++◌, Option, Some, None, Result}
-use Rattle.std.proofs.Common.{Ok, Err, refl, sym, ap, subst, ◌∙◌}
-use Rattle.std.specs.Prelude.{if◌then◌else◌}
-use Rattle.m51_cells.specs.declared.cell.Cell.{Cell}
-use Rattle.m51_cells.specs.declared.event.Event.{Event}
+use Rattle.m51_sim.proofs.Common.{◌≡◌, ℕ, zero, suc, ◌+◌, ◌%◌, Bool, true, false, List, ◌++◌, Option, Some, None}
+use Rattle.m51_sim.proofs.Common.{Result, Ok, Err, refl, sym, ap, subst, ◌∙◌, if◌then◌else◌, Cell, Event, PastEnd}
+use Rattle.m51_sim.proofs.Common.{Instr, LayoutParts, IsSound, Cpu, Effect, Pins, plan_of, CellMap, flag, pcon}
+use Rattle.m51_sim.proofs.Common.{vectored, Stay, live_in, current, segment_over, unit_found, Vectoring, Idling}
+use Rattle.m51_sim.proofs.Common.{Allowed, Inputs, idle_effect, flat_machine, map_after, reset_with, State, Performed}
+use Rattle.m51_sim.proofs.Common.{Record, entries_of, no_step, with_step, Separate, lie_inside, separate_machine}
+use Rattle.m51_sim.proofs.Common.{separate_start}
 use Rattle.m51_cells.specs.declared.event.Event.TheVariants.{Transfer, Outside, Reserved, PowerDown}
 use Rattle.m51_cells.specs.declared.event.Why.{Why}
-use Rattle.m51_cells.specs.declared.event.Why.TheVariants.{PastEnd}
-use Rattle.m51_isa.specs.declared.instr.Instr.{Instr}
 use Rattle.m51_isa.specs.Table.{length_of}
-use Rattle.m51_module.specs.declared.parts.LayoutParts.{LayoutParts}
-use Rattle.m51_module.specs.Sound.{IsSound}
-use Rattle.m51_flat.specs.declared.state.Cpu.{Cpu}
-use Rattle.m51_flat.specs.declared.state.Effect.{Effect}
 use Rattle.m51_flat.specs.declared.state.Outcome.{Outcome}
 use Rattle.m51_flat.specs.declared.state.Outcome.TheVariants as outcome
-use Rattle.m51_flat.specs.declared.state.Pins.{Pins}
-use Rattle.m51_flat.specs.Meaning.{plan_of, unless_shut}
+use Rattle.m51_flat.specs.Meaning.{unless_shut}
 use Rattle.m51_flat.specs.Flags.{pd}
-use Rattle.m51_flat.specs.Reads.{CellMap, Agrees, result_over}
-use Rattle.m51_flat.specs.Sfr.{flag, pcon}
+use Rattle.m51_flat.specs.Reads.{Agrees, result_over}
 use Rattle.m51_flat.specs.States.{shut_of}
 use Rattle.m51_flat.proofs.Done.{effects_are_done, power_goes_down}
-use Rattle.m51_irq.specs.Vectoring.{vectored, vectoring}
+use Rattle.m51_irq.specs.Vectoring.{vectoring}
 use Rattle.m51_monitor.specs.declared.step.Move.{Move}
-use Rattle.m51_monitor.specs.declared.step.Move.TheVariants.{Stay}
-use Rattle.m51_monitor.specs.Monitored.{live_in}
-use Rattle.m51_monitor.specs.Records.{current, units_named}
-use Rattle.m51_monitor.specs.Resolved.{outside_of, segment_over}
+use Rattle.m51_monitor.specs.Records.{units_named}
+use Rattle.m51_monitor.specs.Resolved.{outside_of}
 use Rattle.m51_monitor.specs.Stores.{AreStores, put_into}
 use Rattle.m51_monitor.specs.Transfers.{as_event, judged, moved}
-use Rattle.m51_monitor.specs.Found.{root_found, unit_found}
+use Rattle.m51_monitor.specs.Found.{root_found}
 use Rattle.m51_monitor.specs.Judgement.{judge_of}
 use Rattle.m51_monitor.proofs.Changing.{put_stores, unset_stores}
 use Rattle.m51_monitor.proofs.Entering.{plain_lives}
 use Rattle.m51_monitor.proofs.Starting.{filled_are_stores}
 use Rattle.m51_sim.specs.declared.attempt.Attempt.{Attempt}
-use Rattle.m51_sim.specs.declared.attempt.Attempt.TheVariants.{Vectoring, Idling, Executing, Refusing}
-use Rattle.m51_sim.specs.Allowed.{Allowed}
-use Rattle.m51_sim.specs.Cycles.{Inputs}
-use Rattle.m51_sim.specs.Effects.{attempt_of, idle_effect, performed}
-use Rattle.m51_sim.specs.FlatMachine.{flat_effect, flat_machine, flat_performs, instr_effect, map_after, reset_with}
+use Rattle.m51_sim.specs.declared.attempt.Attempt.TheVariants.{Executing, Refusing}
+use Rattle.m51_sim.specs.Effects.{attempt_of, performed}
+use Rattle.m51_sim.specs.FlatMachine.{flat_effect, flat_performs, instr_effect}
 use Rattle.m51_sim.specs.FlatMachine.{unless_powers_down}
 use Rattle.m51_sim.specs.Laws.{FlatRunsAgree, HasFill, IsSameRun, IsSharedEvent}
-use Rattle.m51_sim.specs.Runs.{State, Performed, Record, entries_of, no_step, record_from, record_of, with_step}
-use Rattle.m51_sim.specs.SeparateMachine.{Separate, cells_of, concludes, instr_outcome, lie_inside, memory_after}
-use Rattle.m51_sim.specs.SeparateMachine.{separate_effect, separate_machine, separate_performs, separate_start}
+use Rattle.m51_sim.specs.Runs.{record_from, record_of}
+use Rattle.m51_sim.specs.SeparateMachine.{cells_of, concludes, instr_outcome, memory_after}
+use Rattle.m51_sim.specs.SeparateMachine.{separate_effect, separate_performs}
 use Rattle.m51_sim.specs.SeparateMachine.{unwritten_in, with_move}
 use Rattle.m51_sim.proofs.Agreeing.{AgreesWith, agrees_cells, put_agrees, start_agrees, unset_agrees}
 

@@ -1,30 +1,22 @@
 -- What the cycles of a step keep, and a step that is performed.
-use Rattle.std.proofs.Common.{◌≡◌, ℕ, zero, suc, List, [], append-nil, Option, Result, Ok, Err, refl, sym, ap, subst}
-use Rattle.std.proofs.Common.{◌∙◌, arith, lit≤}
-use Rattle.m51_cells.specs.declared.event.Event.{Event}
+use Rattle.m51_sim.proofs.Common.{◌≡◌, ℕ, zero, suc, List, [], append-nil, Option, Result, Ok, Err, refl, sym, ap}
+use Rattle.m51_sim.proofs.Common.{subst, ◌∙◌, arith, Event, LayoutParts, Cpu, Effect, CellMap, sp, Pins, Allowed}
+use Rattle.m51_sim.proofs.Common.{Entries, ChipState, Inputs, with_extra, flat_machine, map_after, Performed, IsAdvance}
+use Rattle.m51_sim.proofs.Common.{Separate, separate_machine}
+use Rattle.std.proofs.Common.{lit≤}
 use Rattle.m51_cells.specs.declared.event.Entry.{Entry}
-use Rattle.m51_module.specs.declared.parts.LayoutParts.{LayoutParts}
-use Rattle.m51_flat.specs.declared.state.Cpu.{Cpu}
-use Rattle.m51_flat.specs.declared.state.Effect.{Effect}
-use Rattle.m51_flat.specs.Reads.{CellMap}
-use Rattle.m51_flat.specs.Sfr.{sp}
-use Rattle.m51_flat.specs.declared.state.Pins.{Pins}
 use Rattle.m51_timers_uart.specs.declared.periph.Sent.{Sent}
 use Rattle.m51_timers_uart.specs.declared.receiving.Frame.{Frame}
 use Rattle.m51_timers_uart.specs.Sending.{Ticked}
 use Rattle.m51_timers_uart.specs.Tick.{ticked}
 use Rattle.m51_timers_uart.proofs.Kept.{the_rest_is_kept}
 use Rattle.m51_sim.specs.declared.cycles.Passing.{Passing}
-use Rattle.m51_sim.specs.Allowed.{Allowed}
-use Rattle.m51_sim.specs.declared.runs.Entries.{Entries}
-use Rattle.m51_sim.specs.Boards.{ChipState, state_with}
-use Rattle.m51_sim.specs.Cycles.{AreFew, Inputs, after_tick, cycle_passed, cycles_passed, first_sent, next_cycle}
-use Rattle.m51_sim.specs.Cycles.{sent_in, with_extra}
+use Rattle.m51_sim.specs.Boards.{state_with}
+use Rattle.m51_sim.specs.Cycles.{AreFew, after_tick, cycle_passed, cycles_passed, first_sent, next_cycle}
+use Rattle.m51_sim.specs.Cycles.{sent_in}
 use Rattle.m51_sim.specs.Effects.{attempt_of, changed_by, passed_into, performed, port_entry}
-use Rattle.m51_sim.specs.FlatMachine.{flat_effect, flat_machine, flat_performs, map_after}
-use Rattle.m51_sim.specs.Runs.{Performed}
-use Rattle.m51_sim.specs.Run.{IsAdvance}
-use Rattle.m51_sim.specs.SeparateMachine.{Separate, memory_after, separate_effect, separate_machine, separate_performs}
+use Rattle.m51_sim.specs.FlatMachine.{flat_effect, flat_performs}
+use Rattle.m51_sim.specs.SeparateMachine.{memory_after, separate_effect, separate_performs}
 use Rattle.m51_sim.proofs.Fitting.{KeepsControl}
 
 control_itself : (cpu : Cpu) → KeepsControl cpu cpu

@@ -1,54 +1,46 @@
 -- What is known of an effect before it is performed.
-use Rattle.std.proofs.Common.{◌≡◌, ℕ, ◌≤◌, Bool, true, false, ◌&&◌, length, drop, List, ◌∷◌, Option, Some, None, refl}
-use Rattle.std.proofs.Common.{sym, ap, subst, ◌∙◌, arith, ⊎_elim}
-use Rattle.m51_cells.specs.declared.cell.Cell.{Cell}
+use Rattle.m51_sim.proofs.Common.{◌≡◌, ℕ, ◌≤◌, Bool, true, false, ◌&&◌, length, List, ◌∷◌, Option, Some, None, refl}
+use Rattle.m51_sim.proofs.Common.{sym, ap, subst, ◌∙◌, arith, ⊎_elim, Cell, Instr, Cpu, Effect, Pins, Source, plan_of}
+use Rattle.m51_sim.proofs.Common.{pcon, sp, vectored, Monitored, if◌then◌else◌, flag, Vectoring, Idling, IsInOrder}
+use Rattle.std.proofs.Common.{drop}
 use Rattle.m51_isa.specs.declared.instr.Flow.{Flow}
-use Rattle.m51_isa.specs.declared.instr.Instr.{Instr}
 use Rattle.m51_isa.specs.Table.{flow_of}
 use Rattle.m51_isa.specs.declared.instr.Flow.TheVariants.{Next as FlowNext, Branch, Call as FlowCall, Ret as FlowRet}
 use Rattle.m51_isa.specs.declared.instr.Flow.TheVariants.{Reti as FlowReti}
 use Rattle.m51_flat.specs.Causes.{IsBarred, IsCause, IsCell}
-use Rattle.m51_flat.specs.declared.state.Cpu.{Cpu}
-use Rattle.m51_flat.specs.declared.state.Effect.{Effect}
 use Rattle.m51_flat.specs.declared.state.Level.{Level}
 use Rattle.m51_flat.specs.declared.state.Level.TheVariants.{Low, High}
 use Rattle.m51_flat.specs.declared.state.Outcome.{Outcome}
-use Rattle.m51_flat.specs.declared.state.Pins.{Pins}
 use Rattle.m51_flat.specs.declared.state.Outcome.TheVariants as outcome
-use Rattle.m51_flat.specs.declared.state.Source.{Source}
 use Rattle.m51_flat.specs.declared.state.Transfer.{Transfer}
 use Rattle.m51_flat.specs.declared.state.Transfer.TheVariants.{Next, Jump, Call, Ret, Reti, Vector}
 use Rattle.m51_flat.specs.Flags.{idl}
 use Rattle.m51_flat.specs.LevelLaws.{EndsLevel, KeepsLevels, LevelsFollow, writes_ie_or_ip}
-use Rattle.m51_flat.specs.Laws.{Always, Follows, GoesOn, IfDone, next_address}
-use Rattle.m51_flat.specs.Meaning.{outcome_of, plan_of, unless_shut}
+use Rattle.m51_flat.specs.Laws.{Always, Follows, FallsThrough, IfDone, next_address}
+use Rattle.m51_flat.specs.Meaning.{instruction_outcome, unless_shut}
 use Rattle.m51_flat.proofs.Done.{effects_are_done}
 use Rattle.m51_flat.proofs.Outcomes.{always_done}
-use Rattle.m51_flat.specs.Sfr.{latch, pcon, sp, with_flag, with_sfr, has_register}
+use Rattle.m51_flat.specs.Sfr.{latch, with_flag, with_sfr, has_register}
 use Rattle.m51_flat.specs.States.{States, shut_of}
 use Rattle.m51_flat.specs.Transfers.{stacked}
 use Rattle.m51_irq.specs.Choice.{chosen}
 use Rattle.m51_irq.specs.Sources.{level_of}
-use Rattle.m51_irq.specs.Vectoring.{IsVectoring, acknowledged, cleared, entered, vectored, vectoring}
+use Rattle.m51_irq.specs.Vectoring.{IsVectoring, acknowledged, cleared, entered, vectoring}
 use Rattle.m51_irq.proofs.ChoiceLaws.{is_taken}
 use Rattle.m51_irq.proofs.Kept.{shape_before}
 use Rattle.m51_irq.proofs.Levels.{allowed_over, same_allowed}
 use Rattle.m51_monitor.specs.Laws.{FollowsLevels, GoesToVector, Pops}
-use Rattle.m51_monitor.specs.Monitored.{IsByte, Monitored}
+use Rattle.m51_monitor.specs.Monitored.{IsByte}
 use Rattle.m51_monitor.specs.Rising.{in_progress, interrupts, levels}
 use Rattle.m51_monitor.specs.Shared.{shared_barred}
-use Rattle.std.specs.Prelude.{if◌then◌else◌}
-use Rattle.m51_flat.specs.Sfr.{flag}
-use Rattle.m51_sim.specs.declared.attempt.Attempt.TheVariants.{Vectoring, Idling}
-use Rattle.m51_sim.specs.Boards.{IsInOrder}
 use Rattle.m51_sim.specs.Effects.{attempt_by, attempt_of, executing, instr_at}
-use Rattle.m51_sim.specs.Ready.{HasRoom, IsPrepared, IsReady, IsRegular, NamesData, StoresAddress}
+use Rattle.m51_sim.specs.Ready.{HasRoom, IsPrepared, IsOutcomePrepared, IsRegular, NamesData, StoresAddress}
 
 -- what holds of each effect of a plan holds of the one that is done
 pub done_fact : (P : Effect → Type 0) (cpu : Cpu) (cells : States) (barred : Cell → Bool) (instr : Instr)
     (image : List ℕ) (ext : Pins) (e : Effect) → Always P (plan_of cpu instr image ext)
-    → outcome_of cpu cells barred instr image ext ≡ outcome.Done e → P e
-unfolding outcome_of
+    → instruction_outcome cpu cells barred instr image ext ≡ outcome.Done e → P e
+unfolding instruction_outcome
 done_fact P cpu cells barred instr image ext e h is =
     subst (λ o. IfDone o P) is (always_done P barred cells (plan_of cpu instr image ext) h)
 
@@ -82,7 +74,7 @@ pub regular : (f : Flow) (w : Bool) (next : ℕ) (cpu : Cpu) (e : Effect) → Fo
 regular FlowNext w next cpu e h k = regular_by cpu e Next h.0 tt tt (same_levels w cpu e k) tt
 regular Branch w next cpu e h k =
     ⊎_elim
-    (λ (g : GoesOn next e). regular_by cpu e Next g.0 tt tt (same_levels w cpu e k) tt)
+    (λ (g : FallsThrough next e). regular_by cpu e Next g.0 tt tt (same_levels w cpu e k) tt)
     (λ (j : e.transfer ≡ Jump). regular_by cpu e Jump j tt tt (same_levels w cpu e k) tt) h
 regular FlowCall w next cpu e h k =
     regular_by cpu e Call h.transfer tt tt (same_levels w cpu e k)
@@ -97,7 +89,7 @@ room_by m e t is h = subst (HasRoom m) (sym is) h
 pub has_room : (m : Monitored) (f : Flow) (next top : ℕ) (e : Effect) → Follows f next top e → HasRoom m e.transfer
 has_room m FlowNext next top e h = room_by m e Next h.0 tt
 has_room m Branch next top e h =
-    ⊎_elim (λ (g : GoesOn next e). room_by m e Next g.0 tt) (λ (j : e.transfer ≡ Jump). room_by m e Jump j tt) h
+    ⊎_elim (λ (g : FallsThrough next e). room_by m e Next g.0 tt) (λ (j : e.transfer ≡ Jump). room_by m e Jump j tt) h
 has_room m FlowCall next top e h = room_by m e Call h.transfer tt
 has_room m FlowRet next top e h = room_by m e Ret h.transfer tt
 has_room m FlowReti next top e h = room_by m e Reti h.transfer tt
@@ -182,7 +174,7 @@ vector_prepared m cpu s outcome.PowerDown order h is k = tt
 
 pub vector_ready : (m : Monitored) (cpu : Cpu) (s : Source) (cells : States) (o : Outcome) → IsInOrder m cpu
     → chosen cpu ≡ Some s → o ≡ vectored cpu (shared_barred m.store) s
-    → IsCause cells (shared_barred m.store) o → IfDone o (IsVectoring cpu s) → IsReady m cpu o
+    → IsCause cells (shared_barred m.store) o → IfDone o (IsVectoring cpu s) → IsOutcomePrepared m cpu o
 vector_ready m cpu s cells o order h is cause k =
     record {
       named = names_data cells (shared_barred m.store) o cause;
@@ -191,7 +183,7 @@ vector_ready m cpu s cells o order h is cause k =
 
 -- the puts of an instruction that is done may be written
 instr_prepared : (m : Monitored) (cpu : Cpu) (cells : States) (instr : Instr) (image : List ℕ) (ext : Pins)
-    (o : Outcome) → o ≡ outcome_of cpu cells (shared_barred m.store) instr image ext
+    (o : Outcome) → o ≡ instruction_outcome cpu cells (shared_barred m.store) instr image ext
     → IfDone o (λ e. Follows (flow_of instr) (next_address cpu instr) (latch cpu sp) e)
     → IfDone o (λ e. LevelsFollow (flow_of instr) (writes_ie_or_ip cpu instr) cpu e) → IfDone o (IsPrepared m cpu)
 instr_prepared m cpu cells instr image ext (outcome.Done e) is control levels =
@@ -206,10 +198,10 @@ instr_prepared m cpu cells instr image ext (outcome.Unset c) is control levels =
 instr_prepared m cpu cells instr image ext outcome.PowerDown is control levels = tt
 
 pub instr_ready : (m : Monitored) (cpu : Cpu) (cells : States) (instr : Instr) (image : List ℕ) (ext : Pins)
-    (o : Outcome) → o ≡ outcome_of cpu cells (shared_barred m.store) instr image ext
+    (o : Outcome) → o ≡ instruction_outcome cpu cells (shared_barred m.store) instr image ext
     → IsCause cells (shared_barred m.store) o
     → IfDone o (λ e. Follows (flow_of instr) (next_address cpu instr) (latch cpu sp) e)
-    → IfDone o (λ e. LevelsFollow (flow_of instr) (writes_ie_or_ip cpu instr) cpu e) → IsReady m cpu o
+    → IfDone o (λ e. LevelsFollow (flow_of instr) (writes_ie_or_ip cpu instr) cpu e) → IsOutcomePrepared m cpu o
 instr_ready m cpu cells instr image ext o is cause control levels =
     record {
       named = names_data cells (shared_barred m.store) o cause;

@@ -1,17 +1,13 @@
 -- What a run that has ended reports.
-use Rattle.std.proofs.Common.{ℕ, List, [], Option}
-use Rattle.m51_module.specs.declared.parts.LayoutParts.{LayoutParts}
+use Rattle.m51_sim.proofs.Common.{ℕ, List, [], Option, LayoutParts, Script, inputs_of, filled_map, flat_machine}
+use Rattle.m51_sim.proofs.Common.{reset_with, Machine, State, separate_machine, separate_start}
 use Rattle.m51_print.specs.Lines.{titles_of}
-use Rattle.m51_script.specs.declared.script.Script.{Script}
 use Rattle.m51_sim.specs.declared.runs.RunEnd.{RunEnd}
 use Rattle.m51_sim.specs.declared.runs.RunEnd.TheVariants as ends
 use Rattle.m51_sim.specs.Boards.{BoardState, FlatState, IsFlatStarted, IsStarted, flat_of, separate_of}
-use Rattle.m51_sim.specs.Cycles.{inputs_of}
-use Rattle.m51_sim.specs.FlatMachine.{filled_map, flat_machine, reset_with}
 use Rattle.m51_sim.specs.Report.{IsFlatReport, IsReport, IsReported, flat_report_of, report_of, reported}
 use Rattle.m51_sim.specs.Run.{Ended}
-use Rattle.m51_sim.specs.Runs.{Machine, State, record_of}
-use Rattle.m51_sim.specs.SeparateMachine.{separate_machine, separate_start}
+use Rattle.m51_sim.specs.Runs.{record_of}
 
 reports : {M : Type 0} (before after : Option (List ℕ)) (titles : List (List ℕ)) (machine : Machine M) (n : ℕ)
     (first now : State M) (end : RunEnd)

@@ -1,25 +1,23 @@
 -- An instruction takes the machine cycles of its row, whatever it reads.
-use Rattle.std.proofs.Common.{◌≡◌, ℕ, ◌+◌, ◌%◌, ◌≤◌, Bool, true, false, cond, List, refl, rules, arith}
+use Rattle.m51_sim.proofs.Common.{◌≡◌, ℕ, ◌+◌, ◌%◌, ◌≤◌, Bool, true, false, cond, List, refl, arith, Instr, Cpu, Effect}
+use Rattle.m51_sim.proofs.Common.{Pins, plan_of, sp}
+use Rattle.std.proofs.Common.{rules}
 use Rattle.std.specs.Prelude.{◌==◌, ◌&&◌, nat_lt}
 use Rattle.std.proofs.lemmas.Bool.{and_parts, ltb-true}
 use Rattle.m51_alu.specs.declared.sum.Sum.{Sum}
-use Rattle.m51_isa.specs.declared.instr.Instr.{Instr}
 use Rattle.m51_isa.specs.declared.instr.Instr.TheVariants as names
 use Rattle.m51_isa.specs.declared.instr.Instr.TheVariants.{Nop}
 use Rattle.m51_isa.specs.Table.{cycles_of}
-use Rattle.m51_flat.specs.declared.state.Cpu.{Cpu}
-use Rattle.m51_flat.specs.declared.state.Effect.{Effect}
-use Rattle.m51_flat.specs.declared.state.Pins.{Pins}
 use Rattle.m51_flat.specs.Arithmetic.{assigned, changed, combined, digits_exchanged, exchanged, summed, with_turn}
 use Rattle.m51_flat.specs.Bits.{bit_flipped, branched_on_bit, carry_merged, tested_and_cleared}
 use Rattle.m51_flat.specs.Laws.{Always}
-use Rattle.m51_flat.specs.Meaning.{plan_of, started}
+use Rattle.m51_flat.specs.Meaning.{started}
 use Rattle.m51_flat.specs.Moves.{code_loaded, external_loaded, external_stored, popped, pushed}
 use Rattle.m51_flat.specs.Operands.{bit_latch_at, found_at, latch_at, location_of, operand_value, with_bit_at}
 use Rattle.m51_flat.specs.Operands.{with_location}
 use Rattle.m51_flat.specs.Parts.{branched, with_carry, with_dptr, with_pair, with_sum}
 use Rattle.m51_flat.specs.Reads.{Reads, Ends, Read, then_read}
-use Rattle.m51_flat.specs.Sfr.{acc, has_register, latch, sbuf, sp, with_sfr}
+use Rattle.m51_flat.specs.Sfr.{acc, has_register, latch, sbuf, with_sfr}
 use Rattle.m51_flat.specs.Transfers.{called, compared, counted_down, returned, stacked}
 
 -- what holds of each end of reads
@@ -105,39 +103,44 @@ module _ (n : ℕ) where
   unfolding called stacked
   called_takes e target h = sfr_takes sp ((latch e.cpu sp + 2) % 256) e h
 
-  assigned_takes : (ext : Pins) (e : Effect) (place : _) (from : _)
-      → EveryEnd (Keeps with_location) (location_of e.cpu place) → Takes e → AlwaysTakes (assigned ext e place from)
+  assigned_takes : (ext : Pins) (e : Effect) (addressing : _) (from : _)
+      → EveryEnd (Keeps with_location) (location_of e.cpu addressing) → Takes e
+      → AlwaysTakes (assigned ext e addressing from)
   unfolding assigned
-  assigned_takes ext e place from p h =
-      ends_take (Keeps with_location) (location_of e.cpu place) _ p
+  assigned_takes ext e addressing from p h =
+      ends_take (Keeps with_location) (location_of e.cpu addressing) _ p
       (λ at k. takes_then (operand_value e.cpu ext from) _ (λ v. k v e h))
 
-  combined_takes : (ext : Pins) (e : Effect) (op : _) (place : _) (from : _)
-      → EveryEnd (Keeps with_location) (location_of e.cpu place) → Takes e → AlwaysTakes (combined ext e op place from)
+  combined_takes : (ext : Pins) (e : Effect) (op : _) (addressing : _) (from : _)
+      → EveryEnd (Keeps with_location) (location_of e.cpu addressing) → Takes e
+      → AlwaysTakes (combined ext e op addressing from)
   unfolding combined
-  combined_takes ext e op place from p h =
-      ends_take (Keeps with_location) (location_of e.cpu place) _ p
+  combined_takes ext e op addressing from p h =
+      ends_take (Keeps with_location) (location_of e.cpu addressing) _ p
       (λ at k. takes_then (latch_at e.cpu at) _ (λ v. takes_then (operand_value e.cpu ext from) _ (λ w. k _ e h)))
 
-  changed_takes : (e : Effect) (count : _) (place : _) → EveryEnd (Keeps with_location) (location_of e.cpu place)
-      → Takes e → AlwaysTakes (changed e count place)
+  changed_takes : (e : Effect) (count : _) (addressing : _)
+      → EveryEnd (Keeps with_location) (location_of e.cpu addressing)
+      → Takes e → AlwaysTakes (changed e count addressing)
   unfolding changed
-  changed_takes e count place p h =
-      ends_take (Keeps with_location) (location_of e.cpu place) _ p
+  changed_takes e count addressing p h =
+      ends_take (Keeps with_location) (location_of e.cpu addressing) _ p
       (λ at k. takes_then (latch_at e.cpu at) _ (λ v. k _ e h))
 
-  exchanged_takes : (ext : Pins) (e : Effect) (place : _) → EveryEnd (Keeps with_location) (location_of e.cpu place)
-      → Takes e → AlwaysTakes (exchanged ext e place)
+  exchanged_takes : (ext : Pins) (e : Effect) (addressing : _)
+      → EveryEnd (Keeps with_location) (location_of e.cpu addressing)
+      → Takes e → AlwaysTakes (exchanged ext e addressing)
   unfolding exchanged
-  exchanged_takes ext e place p h =
-      ends_take (Keeps with_location) (location_of e.cpu place) _ p
+  exchanged_takes ext e addressing p h =
+      ends_take (Keeps with_location) (location_of e.cpu addressing) _ p
       (λ at k. takes_then (found_at e.cpu ext at) _ (λ v. k _ (with_sfr acc v e) (sfr_takes acc v e h)))
 
-  digits_exchanged_takes : (ext : Pins) (e : Effect) (place : _)
-      → EveryEnd (Keeps with_location) (location_of e.cpu place) → Takes e → AlwaysTakes (digits_exchanged ext e place)
+  digits_exchanged_takes : (ext : Pins) (e : Effect) (addressing : _)
+      → EveryEnd (Keeps with_location) (location_of e.cpu addressing) → Takes e
+      → AlwaysTakes (digits_exchanged ext e addressing)
   unfolding digits_exchanged
-  digits_exchanged_takes ext e place p h =
-      ends_take (Keeps with_location) (location_of e.cpu place) _ p
+  digits_exchanged_takes ext e addressing p h =
+      ends_take (Keeps with_location) (location_of e.cpu addressing) _ p
       (λ at k. takes_then (found_at e.cpu ext at) _ (λ v. k _ (with_sfr acc _ e) (sfr_takes acc _ e h)))
 
   summed_takes : (ext : Pins) (e : Effect) (op : _) (from : _) → Takes e → AlwaysTakes (summed ext e op from)
@@ -152,17 +155,17 @@ module _ (n : ℕ) where
   unfolding external_stored
   external_stored_takes e to h = search (rules, takes_then)
 
-  pushed_takes : (ext : Pins) (e : Effect) (place : _) → Takes e → AlwaysTakes (pushed ext e place)
+  pushed_takes : (ext : Pins) (e : Effect) (addressing : _) → Takes e → AlwaysTakes (pushed ext e addressing)
   unfolding pushed with_location
-  pushed_takes ext e place h =
+  pushed_takes ext e addressing h =
       let k = sfr_takes sp ((latch e.cpu sp + 1) % 256) e h in
       search (rules, takes_then)
 
-  popped_takes : (e : Effect) (place : _) → EveryEnd (Keeps with_location) (location_of e.cpu place) → Takes e
-      → AlwaysTakes (popped e place)
+  popped_takes : (e : Effect) (addressing : _) → EveryEnd (Keeps with_location) (location_of e.cpu addressing) → Takes e
+      → AlwaysTakes (popped e addressing)
   unfolding popped
-  popped_takes e place p h =
-      ends_take (Keeps with_location) (location_of e.cpu place) _ p
+  popped_takes e addressing p h =
+      ends_take (Keeps with_location) (location_of e.cpu addressing) _ p
       (λ at k v. k v (with_sfr sp ((latch e.cpu sp + 255) % 256) e)
       (sfr_takes sp ((latch e.cpu sp + 255) % 256) e h))
 
@@ -184,11 +187,12 @@ module _ (n : ℕ) where
   unfolding compared
   compared_takes ext e first second rel h = search (rules, takes_then, branched_takes, carry_takes)
 
-  counted_down_takes : (e : Effect) (place : _) (rel : ℕ) → EveryEnd (Keeps with_location) (location_of e.cpu place)
-      → Takes e → AlwaysTakes (counted_down e place rel)
+  counted_down_takes : (e : Effect) (addressing : _) (rel : ℕ)
+      → EveryEnd (Keeps with_location) (location_of e.cpu addressing)
+      → Takes e → AlwaysTakes (counted_down e addressing rel)
   unfolding counted_down
-  counted_down_takes e place rel p h =
-      ends_take (Keeps with_location) (location_of e.cpu place) _ p
+  counted_down_takes e addressing rel p h =
+      ends_take (Keeps with_location) (location_of e.cpu addressing) _ p
       (λ at k. takes_then (latch_at e.cpu at) _ (λ v. branched_takes _ rel (with_location at _ e) (k _ e h)))
 
   tested_takes : (e : Effect) (bit rel : ℕ) → Takes e → AlwaysTakes (tested_and_cleared e bit rel)

@@ -1,10 +1,10 @@
 -- The segment that answers for a cell.
-use Rattle.std.proofs.Common.{◌≡◌, ℕ, ◌<◌, length, Option, Some, None, IfSome, sym, ◌∙◌}
+use Rattle.m51_sim.proofs.Common.{◌≡◌, ℕ, ◌<◌, length, Option, Some, None, sym, ◌∙◌, Cell, Monitored, live_in}
+use Rattle.m51_sim.proofs.Common.{segment_over}
+use Rattle.std.proofs.Common.{IfSome}
 use Rattle.std.proofs.lemmas.Option.{slice_get_within}
 use Rattle.m51_cells.specs.Cells.{IsDataCell}
-use Rattle.m51_cells.specs.declared.cell.Cell.{Cell}
-use Rattle.m51_monitor.specs.Monitored.{AnswersAt, Monitored, live_in}
-use Rattle.m51_monitor.specs.Resolved.{segment_over}
+use Rattle.m51_monitor.specs.Monitored.{AnswersAt}
 use Rattle.m51_monitor.proofs.Resolved.{NoOne, One, Segments, segments_over}
 
 -- it is the one that is found

@@ -1,30 +1,22 @@
 -- The machine cycles of a step that is performed.
-use Rattle.std.proofs.Common.{◌≡◌, ℕ, zero, suc, ◌+◌, ◌-◌, ◌^◌, ◌%◌, ◌≤◌, List, Ok, Err, refl, sym, ap, ◌∙◌, arith}
+use Rattle.m51_sim.proofs.Common.{◌≡◌, ℕ, zero, suc, ◌+◌, ◌-◌, ◌%◌, ◌≤◌, List, Ok, Err, refl, sym, ap, ◌∙◌, arith}
+use Rattle.m51_sim.proofs.Common.{PastEnd, Instr, LayoutParts, Cpu, Effect, Pins, Source, vectored, Stay, current}
+use Rattle.m51_sim.proofs.Common.{Vectoring, Idling, Allowed, Inputs, idle_effect, Performed, Separate, lie_inside}
+use Rattle.std.proofs.Common.{◌^◌}
 use Rattle.std.specs.Prelude.{min}
 use Rattle.m51_cells.specs.declared.event.Event.TheVariants.{Transfer, Reserved}
-use Rattle.m51_cells.specs.declared.event.Why.TheVariants.{PastEnd}
-use Rattle.m51_isa.specs.declared.instr.Instr.{Instr}
 use Rattle.m51_isa.specs.Table.{cycles_of, length_of}
-use Rattle.m51_module.specs.declared.parts.LayoutParts.{LayoutParts}
-use Rattle.m51_flat.specs.declared.state.Cpu.{Cpu}
-use Rattle.m51_flat.specs.declared.state.Effect.{Effect}
-use Rattle.m51_flat.specs.declared.state.Pins.{Pins}
-use Rattle.m51_flat.specs.declared.state.Source.{Source}
 use Rattle.m51_flat.specs.Sfr.{has_register, with_sfr}
 use Rattle.m51_flat.specs.States.{shut_of}
 use Rattle.m51_flat.specs.Transfers.{stacked}
-use Rattle.m51_irq.specs.Vectoring.{vectored, vectoring}
-use Rattle.m51_monitor.specs.declared.step.Move.TheVariants.{Stay}
-use Rattle.m51_monitor.specs.Records.{current}
+use Rattle.m51_irq.specs.Vectoring.{vectoring}
 use Rattle.m51_monitor.specs.Resolved.{outside_of}
 use Rattle.m51_sim.specs.declared.attempt.Attempt.{Attempt}
-use Rattle.m51_sim.specs.declared.attempt.Attempt.TheVariants.{Vectoring, Idling, Executing, Refusing}
+use Rattle.m51_sim.specs.declared.attempt.Attempt.TheVariants.{Executing, Refusing}
 use Rattle.m51_sim.specs.declared.cycles.Passing.{Passing}
-use Rattle.m51_sim.specs.Allowed.{Allowed}
-use Rattle.m51_sim.specs.Cycles.{Inputs, cycle_passed, cycles_passed, next_cycle}
-use Rattle.m51_sim.specs.Effects.{attempt_of, changed_by, idle_effect}
-use Rattle.m51_sim.specs.Runs.{Performed}
-use Rattle.m51_sim.specs.SeparateMachine.{Separate, cells_of, concludes, instr_outcome, lie_inside, separate_effect}
+use Rattle.m51_sim.specs.Cycles.{cycle_passed, cycles_passed, next_cycle}
+use Rattle.m51_sim.specs.Effects.{attempt_of, changed_by}
+use Rattle.m51_sim.specs.SeparateMachine.{cells_of, concludes, instr_outcome, separate_effect}
 use Rattle.m51_sim.specs.StepLaws.{StepsAreShort, Takes}
 use Rattle.m51_sim.proofs.Keeping.{concluded_ok, inside_ok, performed_ok, vectored_done}
 use Rattle.m51_sim.proofs.Preparing.{done_fact}

@@ -1,10 +1,8 @@
 -- The stores that a monitor represents are those that are read off it.
-use Rattle.std.proofs.Common.{◌≡◌, ℕ, Bool, true, false, ◌&&◌, Option, Some, None, refl, sym, ap, subst, ◌∙◌, ⊎_elim}
-use Rattle.std.specs.Prelude.{if◌then◌else◌}
+use Rattle.m51_sim.proofs.Common.{◌≡◌, ℕ, Bool, true, false, ◌&&◌, Option, Some, None, refl, sym, ap, subst, ◌∙◌}
+use Rattle.m51_sim.proofs.Common.{⊎_elim, if◌then◌else◌, Cell, IsSound, Monitored, AreActivations, live_in, stores_read}
 use Rattle.std.proofs.lemmas.Bool.{and_parts}
-use Rattle.m51_cells.specs.declared.cell.Cell.{Cell}
-use Rattle.m51_module.specs.Sound.{IsSound}
-use Rattle.m51_monitor.specs.Monitored.{Monitored, AreActivations, MonitorStandsFor, live_in}
+use Rattle.m51_monitor.specs.Monitored.{MonitorStandsFor}
 use Rattle.m51_monitor.specs.Records.{units_named}
 use Rattle.m51_monitor.specs.Related.{OneLive}
 use Rattle.m51_monitor.specs.Shared.{cell_state}
@@ -12,7 +10,7 @@ use Rattle.m51_monitor.specs.Stores.{Stores, IsOver, InSegment, InCommon, held, 
 use Rattle.m51_monitor.proofs.Liveness.{one_live}
 use Rattle.m51_monitor.proofs.Resolving.{common_or_over, data_cell_is, has_cell_data, has_cell_is, one_answer}
 use Rattle.m51_monitor.proofs.Standing.{all_related}
-use Rattle.m51_sim.specs.Boards.{held_value, stores_read}
+use Rattle.m51_sim.specs.Boards.{held_value}
 
 held_back : (o : Option ℕ) → held_value (held o) ≡ o
 held_back None = refl

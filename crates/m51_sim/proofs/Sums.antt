@@ -1,13 +1,13 @@
 -- The record of a run in two parts.
-use Rattle.std.proofs.Common.{◌≡◌, ℕ, suc, zero, ◌+◌, ◌++◌, Some, None, Result, Ok, Err, refl, sym, ap, subst}
+use Rattle.m51_sim.proofs.Common.{◌≡◌, ℕ, suc, zero, ◌+◌, ◌++◌, Some, None, Result, Ok, Err, refl, sym, ap, subst}
+use Rattle.m51_sim.proofs.Common.{Event, Entries, State, Performed, Machine, Record, entries_of, no_step, with_step}
+use Rattle.m51_sim.proofs.Common.{IsAdvance}
 use Rattle.std.proofs.Common.{append_assoc, zero-add, suc-add}
-use Rattle.m51_cells.specs.declared.event.Event.{Event}
-use Rattle.m51_sim.specs.declared.runs.Entries.{Entries}
-use Rattle.m51_sim.specs.Runs.{State, Performed, Machine, Record, entries_of, no_step, with_step, record_from}
+use Rattle.m51_sim.specs.Runs.{record_from}
 use Rattle.m51_sim.specs.Runs.{record_of}
 use Rattle.m51_sim.specs.declared.runs.Step.{Step}
 use Rattle.m51_sim.specs.declared.runs.Told.{Told}
-use Rattle.m51_sim.specs.Run.{IsAdvance, IsStep, IsToldStep, step_told, told_by}
+use Rattle.m51_sim.specs.Run.{IsStep, IsToldStep, step_told, told_by}
 
 -- a run, and then one from its last state
 abbrev pub appended : {M : Type 0} → Record M → Record M → Record M

@@ -1,5 +1,6 @@
 -- The lines of what a step reports, one entry after the other.
-use Rattle.std.proofs.Common.{◌≡◌, ℕ, ◌+◌, List, ◌++◌, length, take, Option, Result, Ok, Err, arith, length-append}
+use Rattle.m51_sim.proofs.Common.{◌≡◌, ℕ, ◌+◌, List, ◌++◌, length, take, Option, Result, Ok, Err, arith, length-append}
+use Rattle.m51_sim.proofs.Common.{Entries, entries_of}
 use Rattle.std.proofs.Math.Seq.{take-append-add}
 use Rattle.std.proofs.lemmas.List.{take-append-le}
 use Rattle.std.proofs.lemmas.Grind.{flat_map-append}
@@ -8,8 +9,6 @@ use Rattle.std.specs.Io.KnownBytes.{Appends}
 use Rattle.std.proofs.KnownBytes.{Appends-trans}
 use Rattle.m51_cells.specs.Outside.{AppendsFront}
 use Rattle.m51_print.specs.Lines.{entry_line}
-use Rattle.m51_sim.specs.declared.runs.Entries.{Entries}
-use Rattle.m51_sim.specs.Runs.{entries_of}
 use Rattle.m51_shelf.specs.Writing.{StopsWithin}
 
 -- bytes that lack their last one are a prefix

@@ -1,22 +1,23 @@
 -- The map of a memory.
-use Rattle.std.proofs.Common.{◌≡◌, ℕ, ◌/◌, ◌%◌, Bool, true, false, cond, Option, Some, None, refl, ap, ◌∙◌}
+use Rattle.m51_sim.proofs.Common.{◌≡◌, ℕ, ◌%◌, Bool, true, false, cond, Option, Some, None, refl, ap, ◌∙◌, CellMap}
+use Rattle.m51_sim.proofs.Common.{filled_map, map_after, map_of}
+use Rattle.std.proofs.Common.{◌/◌}
 use Rattle.std.specs.Prelude.{nat_lt, slice_index}
 use Rattle.std.specs.Int.{bit_at}
 use Rattle.std.proofs.lemmas.Bool.{lt-ltb}
 use Rattle.m51_flat.specs.declared.state.Put.{Put}
 use Rattle.m51_flat.specs.States.{CellState, Holds, Absent, ram_written, state_over, states_after, xram_written}
-use Rattle.m51_flat.specs.Reads.{CellMap}
 use Rattle.m51_flat.specs.Flat.{FlatBytes, filled_cells, flat_cells}
 use Rattle.m51_flat.specs.Causes.{IsWhole}
-use Rattle.m51_sim.specs.FlatMachine.{filled_map, map_after, replaced}
-use Rattle.m51_sim.specs.Boards.{map_of, value_of, values_of}
+use Rattle.m51_sim.specs.FlatMachine.{replaced}
+use Rattle.m51_sim.specs.Boards.{value_in_cell, values_of}
 
 -- maps with the same values are one
 pub same_map : (m k : CellMap) → ((n : ℕ) → m.ram n ≡ k.ram n) → ((n : ℕ) → m.xram n ≡ k.xram n) → m ≡ k
 same_map m k p q i = record { ram = λ n. p n i; xram = λ n. q n i }
 
 held_inside : (inside : Bool) (v : ℕ) → inside ≡ true
-    → cond inside (Holds v) Absent ≡ Holds (value_of (cond inside (Holds v) Absent))
+    → cond inside (Holds v) Absent ≡ Holds (value_in_cell (cond inside (Holds v) Absent))
 held_inside true v e = refl
 held_inside false v e = absurd (cc e)
 
@@ -28,7 +29,7 @@ flat_whole m = record {
   open_ = λ c. refl;
 }
 
-replaced_value : (o : Option ℕ) (old : CellState) → value_of (state_over o old) ≡ replaced o (value_of old)
+replaced_value : (o : Option ℕ) (old : CellState) → value_in_cell (state_over o old) ≡ replaced o (value_in_cell old)
 replaced_value None old = refl
 replaced_value (Some v) old = refl
 
@@ -40,7 +41,7 @@ put_map put old new e =
     (λ n. replaced_value (ram_written put n) ((flat_cells old).ram n))
     (λ n. replaced_value (xram_written put n) ((flat_cells old).xram n))
 
-inside_value : (inside : Bool) (v : ℕ) → value_of (cond inside (Holds v) Absent) ≡ cond inside v 0
+inside_value : (inside : Bool) (v : ℕ) → value_in_cell (cond inside (Holds v) Absent) ≡ cond inside v 0
 inside_value true v = refl
 inside_value false v = refl
 

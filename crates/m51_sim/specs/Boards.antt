@@ -66,21 +66,21 @@ stores_read m = record {
   common = λ c. if is_common m.layout c then held_value (cell_state m.store c) else None;
 }
 
-abbrev pub memory_of : Monitored → Separate
-memory_of m = record { records = m.records; stores = stores_read m }
+abbrev pub held_memory : Monitored → Separate
+held_memory m = record { records = m.records; stores = stores_read m }
 
 -- the state of the separate machine
 abbrev pub separate_of : BoardState → State Separate
-separate_of board = state_with board.chip (memory_of board.monitor)
+separate_of board = state_with board.chip (held_memory board.monitor)
 
 -- what a cell holds; 0 where it holds nothing
-abbrev pub value_of : CellState → ℕ
-value_of (Holds v) = v
-value_of Absent = 0
-value_of Fresh = 0
+abbrev pub value_in_cell : CellState → ℕ
+value_in_cell (Holds v) = v
+value_in_cell Absent = 0
+value_in_cell Fresh = 0
 
 abbrev pub values_of : States → CellMap
-values_of s = record { ram = λ n. value_of (s.ram n); xram = λ n. value_of (s.xram n) }
+values_of s = record { ram = λ n. value_in_cell (s.ram n); xram = λ n. value_in_cell (s.xram n) }
 
 -- the values of a memory's cells, and 0 past its end
 abbrev pub map_of : FlatBytes → CellMap

@@ -66,7 +66,7 @@ abbrev pub flat_machine : List ℕ → Inputs → Machine CellMap
 flat_machine image inputs s =
     flat_performs inputs s (flat_effect image s.cpu s.memory (inputs.pins s.cycle) (attempt_of image s.cpu))
 
--- the fill: of a bit the one at its place in its byte; there is none past the end of a memory, nor in program memory
+-- the fill: of a bit the one at its index in its byte; there is none past the end of a memory, nor in program memory
 abbrev pub filled_at : ℕ → Space → ℕ → ℕ
 filled_at fill Ram at = if nat_lt at 2048 then bit_at fill (at % 8) else 0
 filled_at fill Xram at = if nat_lt at 65536 then fill else 0

@@ -17,15 +17,15 @@ use Rattle.m51_sim.specs.FlatMachine.{filled_map, flat_machine, reset_with}
 use Rattle.m51_sim.specs.SeparateMachine.{Separate, separate_machine, separate_start}
 
 -- the value that the map has in a cell
-abbrev pub value_at : CellMap → Space → ℕ → ℕ
-value_at m Ram at = m.ram at
-value_at m Xram at = m.xram at
-value_at m Code at = 0
+abbrev pub mapped_value : CellMap → Space → ℕ → ℕ
+mapped_value m Ram at = m.ram at
+mapped_value m Xram at = m.xram at
+mapped_value m Code at = 0
 
 -- the map has the fill on each cell that no overlaid segment covers; the others may hold anything
 pub record HasFill (l : LayoutParts) (fill : ℕ) (m : CellMap) : Type 0 where
   pub each : (c : Cell) → IsDataCell c → ((t : ℕ) → IsOverlaid l t → IsOver l t c → ⊥)
-      → value_at m c.space c.at ≡ fill_in fill c.space c.at
+      → mapped_value m c.space c.at ≡ fill_in fill c.space c.at
 
 -- the flat machine stops at these events too
 abbrev pub IsSharedEvent : Event → Type 0

@@ -53,7 +53,7 @@ NamesData (outcome.Outside c) = IsDataCell c
 NamesData (outcome.Unset c) = IsDataCell c
 NamesData outcome.PowerDown = Unit {0}
 
-pub record IsReady (m : Monitored) (cpu : Cpu) (o : Outcome) : Type 0 where
+pub record IsOutcomePrepared (m : Monitored) (cpu : Cpu) (o : Outcome) : Type 0 where
   pub named : NamesData o
   pub prepared : IfDone o (IsPrepared m cpu)
 

@@ -89,7 +89,7 @@ pub record StandsAtCut {M : Type 0}
   pub cut : IsCutInEntry machine n first count steps ⊎ IsCutAtEnd titles machine n first count steps
 
 -- the record has this event, the run is in its last state, and its text is written
-pub record IsWhole {M : Type 0}
+pub record IsWholeRecord {M : Type 0}
     (old new : Option (List ℕ)) (titles : List (List ℕ)) (r : Record M) (now : State M) (event : Option Event)
     : Type 0 where
   pub event_is : r.event ≡ event
@@ -97,7 +97,7 @@ pub record IsWhole {M : Type 0}
   pub text : Appends old new (record_text titles r)
 
 -- a prefix of the record's text is written
-pub record IsCut {M : Type 0}
+pub record IsRecordCut {M : Type 0}
     (old new : Option (List ℕ)) (titles : List (List ℕ)) (machine : Machine M) (n : ℕ) (first now : State M)
     : Type 0 where
   pub front : AppendsFront old new (record_text titles (record_of machine n first))
@@ -107,7 +107,7 @@ pub record IsCut {M : Type 0}
 abbrev pub Ended : {M : Type 0}
     → Option (List ℕ) → Option (List ℕ) → List (List ℕ) → Machine M → ℕ → State M → State M → RunEnd → Type 0
 Ended old new titles machine n first now ends.Finished =
-    IsWhole old new titles (record_of machine n first) now None
+    IsWholeRecord old new titles (record_of machine n first) now None
 Ended old new titles machine n first now (ends.Stopped event) =
-    IsWhole old new titles (record_of machine n first) now (Some event)
-Ended old new titles machine n first now ends.WriteFault = IsCut old new titles machine n first now
+    IsWholeRecord old new titles (record_of machine n first) now (Some event)
+Ended old new titles machine n first now ends.WriteFault = IsRecordCut old new titles machine n first now

@@ -13,7 +13,7 @@ use Rattle.m51_flat.specs.declared.state.Pins.{Pins}
 use Rattle.m51_flat.specs.declared.state.Effect.{Effect}
 use Rattle.m51_flat.specs.declared.state.Outcome.{Outcome}
 use Rattle.m51_flat.specs.declared.state.Outcome.TheVariants as outcome
-use Rattle.m51_flat.specs.Meaning.{outcome_of}
+use Rattle.m51_flat.specs.Meaning.{instruction_outcome}
 use Rattle.m51_flat.specs.States.{States}
 use Rattle.m51_irq.specs.Vectoring.{vectored}
 use Rattle.m51_monitor.specs.declared.step.Move.{Move}
@@ -72,7 +72,7 @@ concludes l m cpu outcome.PowerDown = Err (events.PowerDown cpu.pc)
 -- the outcome of an instruction over the stores; a cell that is outside may be neither read nor written
 abbrev pub instr_outcome : LayoutParts → Separate → Cpu → Instr → List ℕ → Pins → Outcome
 instr_outcome l m cpu instr image pins =
-    let cells = cells_of l m in outcome_of cpu cells (outside_of cells) instr image pins
+    let cells = cells_of l m in instruction_outcome cpu cells (outside_of cells) instr image pins
 
 -- the result of a step, with these levels of the pins: the first event, or the effect and how it changes the records
 unfoldable pub separate_effect : LayoutParts → List ℕ → Cpu → Separate → Pins → Attempt → Result Allowed Event

@@ -9,14 +9,14 @@ ghost use Rattle.m51_monitor.specs.Monitored.{live_in};
 ghost use Rattle.m51_monitor.specs.Related.{OneLive};
 ghost use Rattle.m51_print.specs.Lines.{HasText, titles_of};
 ghost use Rattle.m51_script.specs.declared.script.Script.{Script as ScriptState};
-ghost use Rattle.m51_sim.specs.Boards.{IsInOrder, IsStarted, StandsForState, memory_of, separate_of, state_with};
+ghost use Rattle.m51_sim.specs.Boards.{IsInOrder, IsStarted, StandsForState, held_memory, separate_of, state_with};
 ghost use Rattle.m51_sim.specs.Cycles.{AreFew, inputs_of, with_extra};
 ghost use Rattle.m51_sim.specs.Report.{IsReport};
 ghost use Rattle.m51_sim.specs.Run.{Ended, IsAdvance, IsStep, IsToldStep, step_told, stopped_by, tally_of, told_by};
 ghost use Rattle.m51_sim.specs.Runs.{record_of};
 ghost use Rattle.m51_sim.specs.SeparateMachine.{separate_machine};
 
-use crate::chip::{Chip, place};
+use crate::chip::{Chip, blank_effect};
 use crate::cycles::Timed;
 use crate::judging::{commit, judge, stand};
 use crate::runs::{Entries, RunEnd, Runnable, Step, Told, count_run, run};
@@ -37,7 +37,7 @@ use std::marker::Model;
 pub struct Board {
     chip: Chip,
     monitor: Monitor,
-    // The place of the effect of a step.
+    // The effect of a step, which is made before it is read.
     effect: Effect,
 }
 
@@ -71,7 +71,7 @@ impl Board {
         Ok(Board {
             chip,
             monitor,
-            effect: place(),
+            effect: blank_effect(),
         })
     }
 
@@ -223,8 +223,8 @@ fn advance(
     ensures image { chip.new.image ≡ chip.old.image }
     ensures script { chip.new.script ≡ chip.old.script }
     ensures step { IsAdvance (separate_machine monitor.old.layout chip.old.image
-        (with_extra extra.now (inputs_of chip.old.script)) (state_with chip.old (memory_of monitor.old))) result
-        (state_with chip.old (memory_of monitor.old)) (state_with chip.new (memory_of monitor.new)) }
+        (with_extra extra.now (inputs_of chip.old.script)) (state_with chip.old (held_memory monitor.old))) result
+        (state_with chip.old (held_memory monitor.old)) (state_with chip.new (held_memory monitor.new)) }
     ensures text { IfErr result (HasText (length monitor.old.layout.placed)) }
 {
     stand(monitor);
@@ -249,8 +249,8 @@ fn advance_alone(
     ensures image { chip.new.image ≡ chip.old.image }
     ensures script { chip.new.script ≡ chip.old.script }
     ensures step { IsAdvance (separate_machine monitor.old.layout chip.old.image (inputs_of chip.old.script)
-        (state_with chip.old (memory_of monitor.old))) result
-        (state_with chip.old (memory_of monitor.old)) (state_with chip.new (memory_of monitor.new)) }
+        (state_with chip.old (held_memory monitor.old))) result
+        (state_with chip.old (held_memory monitor.old)) (state_with chip.new (held_memory monitor.new)) }
     ensures text { IfErr result (HasText (length monitor.old.layout.placed)) }
 {
     advance(monitor, chip, effect, &[])

@@ -176,8 +176,8 @@ pub(crate) fn idle(effect: &mut Effect, cpu: &Cpu)
     begin(effect, cpu, 1);
 }
 
-// A place for the effects of steps, each of which is made before it is read.
-pub(crate) fn place() -> Effect {
+// Room for the effects of steps, each of which is made before it is read.
+pub(crate) fn blank_effect() -> Effect {
     Effect {
         cpu: reset(),
         first: Put::Nothing,

@@ -13,7 +13,7 @@ ghost use Rattle.m51_sim.specs.Run.{Ended, IsAdvance};
 ghost use Rattle.m51_irq.specs.Vectoring.{vectoring};
 
 use crate::attempt::Attempt;
-use crate::chip::{Chip, idle, place};
+use crate::chip::{Chip, blank_effect, idle};
 use crate::runs::{Entries, RunEnd, Runnable, run};
 use m51_cells::{Event, NoMemory};
 use m51_flat::{CellStore, Cpu, Effect, FlatRam, NoEffect, Put, Source, exec_into};
@@ -33,7 +33,7 @@ use std::marker::Model;
 pub struct FlatBoard {
     chip: Chip,
     memory: FlatRam,
-    // The place of the effect of a step.
+    // The effect of a step, which is made before it is read.
     effect: Effect,
 }
 
@@ -58,7 +58,7 @@ impl FlatBoard {
         Ok(FlatBoard {
             chip,
             memory,
-            effect: place(),
+            effect: blank_effect(),
         })
     }
 

@@ -16,10 +16,10 @@ ghost use Rattle.m51_monitor.specs.Resolved.{outside_of, segment_over};
 ghost use Rattle.m51_monitor.specs.Shared.{shared_barred};
 ghost use Rattle.m51_monitor.specs.Transfers.{is_at};
 ghost use Rattle.m51_print.specs.Lines.{HasText};
-ghost use Rattle.m51_sim.specs.Boards.{IsInOrder, memory_of, stores_read};
+ghost use Rattle.m51_sim.specs.Boards.{IsInOrder, held_memory, stores_read};
 ghost use Rattle.m51_sim.specs.Cycles.{inputs_of};
 ghost use Rattle.m51_sim.specs.Effects.{attempt_of, idle_effect};
-ghost use Rattle.m51_sim.specs.Ready.{AreOpen, IsReady, MayCommit};
+ghost use Rattle.m51_sim.specs.Ready.{AreOpen, IsOutcomePrepared, MayCommit};
 ghost use Rattle.m51_sim.specs.SeparateMachine.{cells_of, concludes, instr_outcome, lie_inside, memory_after};
 ghost use Rattle.m51_sim.specs.SeparateMachine.{separate_effect, unless_past_end, unwritten_in, with_move};
 ghost use Rattle.m51_monitor.specs.declared.step.Move.TheVariants.{Stay};
@@ -60,8 +60,8 @@ fn lie_inside(monitor: &Monitor, pc: u16, count: u8) -> bool
     ensures { result ≡ lie_inside monitor.now.layout (current monitor.now.records) pc count }
 {
     let unit = monitor.current();
-    for place in 0..count {
-        if !is_inside(monitor.layout(), unit, pc.wrapping_add(u16::from(place))) {
+    for index in 0..count {
+        if !is_inside(monitor.layout(), unit, pc.wrapping_add(u16::from(index))) {
             return false;
         }
     }
@@ -100,9 +100,9 @@ fn conclude(
     effect: &Effect,
     answer: Result<(), NoEffect>,
 ) -> Result<Move, Event>
-    requires { IsReady monitor.now cpu.now (outcome_by answer effect.now) }
+    requires { IsOutcomePrepared monitor.now cpu.now (outcome_by answer effect.now) }
     ensures value { with_move effect.now result
-        ≡ concludes monitor.now.layout (memory_of monitor.now) cpu.now (outcome_by answer effect.now) }
+        ≡ concludes monitor.now.layout (held_memory monitor.now) cpu.now (outcome_by answer effect.now) }
     ensures may { IfOk (with_move effect.now result) (MayCommit monitor.now cpu.now) }
     ensures text { IfErr result (HasText (length monitor.now.layout.placed)) }
 {
@@ -123,9 +123,9 @@ fn instr_outcome(
     effect: &mut Effect,
 ) -> Result<(), NoEffect>
     ensures value { outcome_by result effect.new
-        ≡ instr_outcome monitor.now.layout (memory_of monitor.now) chip.now.cpu instr.now
+        ≡ instr_outcome monitor.now.layout (held_memory monitor.now) chip.now.cpu instr.now
         chip.now.image ((inputs_of chip.now.script).pins chip.now.cycle) }
-    ensures ready { IsReady monitor.now chip.now.cpu (outcome_by result effect.new) }
+    ensures ready { IsOutcomePrepared monitor.now chip.now.cpu (outcome_by result effect.new) }
 {
     stand(monitor);
     exec_into(
@@ -147,9 +147,9 @@ fn execute(
     effect: &mut Effect,
 ) -> Result<Move, Event>
     ensures value { with_move effect.new result
-        ≡ unless_past_end monitor.now.layout (memory_of monitor.now) chip.now.cpu.pc
-        (length_of instr.now) (concludes monitor.now.layout (memory_of monitor.now) chip.now.cpu
-        (instr_outcome monitor.now.layout (memory_of monitor.now) chip.now.cpu instr.now chip.now.image
+        ≡ unless_past_end monitor.now.layout (held_memory monitor.now) chip.now.cpu.pc
+        (length_of instr.now) (concludes monitor.now.layout (held_memory monitor.now) chip.now.cpu
+        (instr_outcome monitor.now.layout (held_memory monitor.now) chip.now.cpu instr.now chip.now.image
         ((inputs_of chip.now.script).pins chip.now.cycle))) }
     ensures may { IfOk (with_move effect.new result) (MayCommit monitor.now chip.now.cpu) }
     ensures text { IfErr result (HasText (length monitor.now.layout.placed)) }
@@ -173,8 +173,8 @@ fn vector_outcome(
     requires order { IsInOrder monitor.now cpu.now }
     requires taken { chosen cpu.now ≡ Some source }
     ensures value { outcome_by result effect.new
-        ≡ vectored cpu.now (outside_of (cells_of monitor.now.layout (memory_of monitor.now))) source }
-    ensures ready { IsReady monitor.now cpu.now (outcome_by result effect.new) }
+        ≡ vectored cpu.now (outside_of (cells_of monitor.now.layout (held_memory monitor.now))) source }
+    ensures ready { IsOutcomePrepared monitor.now cpu.now (outcome_by result effect.new) }
 {
     stand(monitor);
     vector_into(cpu, monitor.store(), source, effect)
@@ -190,8 +190,8 @@ fn vectoring(
 ) -> Result<Move, Event>
     requires order { IsInOrder monitor.now cpu.now }
     requires taken { chosen cpu.now ≡ Some source }
-    ensures value { with_move effect.new result ≡ concludes monitor.now.layout (memory_of monitor.now) cpu.now
-        (vectored cpu.now (outside_of (cells_of monitor.now.layout (memory_of monitor.now))) source) }
+    ensures value { with_move effect.new result ≡ concludes monitor.now.layout (held_memory monitor.now) cpu.now
+        (vectored cpu.now (outside_of (cells_of monitor.now.layout (held_memory monitor.now))) source) }
     ensures may { IfOk (with_move effect.new result) (MayCommit monitor.now cpu.now) }
     ensures text { IfErr result (HasText (length monitor.now.layout.placed)) }
 {
@@ -201,7 +201,7 @@ fn vectoring(
 
 // The reserved opcode.
 fn refuse(monitor: &Monitor, pc: u16) -> Event
-    ensures value { Err result ≡ unless_past_end monitor.now.layout (memory_of monitor.now) pc 1 (Err (Reserved pc)) }
+    ensures value { Err result ≡ unless_past_end monitor.now.layout (held_memory monitor.now) pc 1 (Err (Reserved pc)) }
     ensures text { HasText (length monitor.now.layout.placed) result }
 {
     if lie_inside(monitor, pc, 1) {
@@ -229,7 +229,7 @@ fn idle_step(monitor: &Monitor, cpu: &Cpu, effect: &mut Effect) -> Move
 pub(crate) fn judge(monitor: &Monitor, chip: &Chip, effect: &mut Effect) -> Result<Move, Event>
     requires { IsInOrder monitor.now chip.now.cpu }
     ensures value { with_move effect.new result ≡ separate_effect monitor.now.layout chip.now.image chip.now.cpu
-        (memory_of monitor.now) ((inputs_of chip.now.script).pins chip.now.cycle)
+        (held_memory monitor.now) ((inputs_of chip.now.script).pins chip.now.cycle)
         (attempt_of chip.now.image chip.now.cpu) }
     ensures may { IfOk (with_move effect.new result) (MayCommit monitor.now chip.now.cpu) }
     ensures text { IfErr result (HasText (length monitor.now.layout.placed)) }
@@ -250,8 +250,8 @@ pub(crate) fn commit(monitor: &mut Monitor, effect: &Effect, step: Move)
     requires address { HasAddress effect.now step }
     requires level { HasLevel monitor.old step }
     ensures layout { monitor.new.layout ≡ monitor.old.layout }
-    ensures memory { memory_of monitor.new
-        ≡ memory_after monitor.old.layout (memory_of monitor.old) (record { effect = effect.now; step = step }) }
+    ensures memory { held_memory monitor.new
+        ≡ memory_after monitor.old.layout (held_memory monitor.old) (record { effect = effect.now; step = step }) }
 {
     stand(monitor);
     monitor.commit(effect, step);

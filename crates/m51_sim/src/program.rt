@@ -1,7 +1,7 @@
 //! The bytes of program memory, and the instruction at each address.
 ghost use Rattle.std.specs.Prelude.{◌≡◌, length, slice_index, IfOk};
 ghost use Rattle.m51_sim.specs.Effects.{instr_at};
-ghost use Rattle.m51_sim.specs.Rows.{AreRows};
+ghost use Rattle.m51_sim.specs.Rows.{AreDecodedRows};
 
 use m51_cells::NoMemory;
 use m51_isa::{Instr, decode};
@@ -19,13 +19,13 @@ pub(crate) struct Program {
 
 impl Model for Program {
     ghost use Rattle.std.specs.Prelude.{ℕ, List};
-    ghost use Rattle.m51_sim.specs.Rows.{AreRows};
+    ghost use Rattle.m51_sim.specs.Rows.{AreDecodedRows};
 
     ghost Value = { List ℕ };
 
     ghost view = { λ p. p.image };
 
-    ghost invariant = { λ p. AreRows p.image p.rows.items 65536 };
+    ghost invariant = { λ p. AreDecodedRows p.image p.rows.items 65536 };
 }
 
 // The byte of the image at an address.
@@ -50,7 +50,7 @@ fn instr_at(image: &Image, at: u16) -> Option<Instr>
 // The instruction that begins at each address.
 #[tactic(auto, using(crate::proofs::Decoded::no_rows, crate::proofs::Decoded::one_row))]
 fn rows(alloc: Global, image: &Image) -> Result<Vec<Option<Instr>>, NoMemory>
-    ensures { IfOk result (λ rows. AreRows image.now rows.items 65536) }
+    ensures { IfOk result (λ rows. AreDecodedRows image.now rows.items 65536) }
 {
     let mut rows = Vec::with_capacity(alloc, 65_536)?;
     for at in 0..65_536_usize {

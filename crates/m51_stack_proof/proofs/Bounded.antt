@@ -1,30 +1,25 @@
 -- The whole run: what holds at the reset, and after each step.
-use Rattle.std.proofs.Common.{◌≡◌, ◌≤◌, ◌+◌, ℕ, Bool, true, false, not, List, length, refl, sym, ap, subst, ◌∙◌, arith}
-use Rattle.std.proofs.Common.{inl, inr, Some}
-use Rattle.std.specs.Prelude.{◌&&◌, Result, Ok, Err}
+use Rattle.m51_stack_proof.proofs.Common.{◌≡◌, ◌≤◌, ◌+◌, ℕ, Bool, true, false, not, List, length, refl, sym, ap, subst}
+use Rattle.m51_stack_proof.proofs.Common.{◌∙◌, arith, inl, inr, Some, ◌&&◌, Result, Ok, Err, Event, Instr, Cpu, Effect}
+use Rattle.m51_stack_proof.proofs.Common.{Pins, Source, Next, Jump, Always, next_address, sp, LayoutParts, StackBound}
+use Rattle.m51_stack_proof.proofs.Common.{IsSound, Move, root_found, unit_found, Records, interrupts, judged, moved}
+use Rattle.m51_stack_proof.proofs.Common.{IsBound, is_call, is_jump, is_return, target_of}
 use Rattle.m51_cells.specs.declared.cell.Cell.{Cell}
-use Rattle.m51_cells.specs.declared.event.Event.{Event}
 use Rattle.m51_isa.specs.declared.instr.Flow.{Flow}
 use Rattle.m51_isa.specs.declared.instr.Flow.TheVariants.{Next as FlowNext, Branch, Call as FlowCall, Ret as FlowRet}
 use Rattle.m51_isa.specs.declared.instr.Flow.TheVariants.{Reti as FlowReti}
-use Rattle.m51_isa.specs.declared.instr.Instr.{Instr}
 use Rattle.m51_isa.specs.Table.{flow_of}
-use Rattle.m51_flat.specs.declared.state.Cpu.{Cpu}
-use Rattle.m51_flat.specs.declared.state.Effect.{Effect}
 use Rattle.m51_flat.specs.declared.state.Level.{Level}
 use Rattle.m51_flat.specs.declared.state.Level.TheVariants.{Low, High}
 use Rattle.m51_flat.specs.declared.state.Outcome.{Outcome}
 use Rattle.m51_flat.specs.declared.state.Outcome.TheVariants as outcome
-use Rattle.m51_flat.specs.declared.state.Pins.{Pins}
-use Rattle.m51_flat.specs.declared.state.Source.{Source}
-use Rattle.m51_flat.specs.declared.state.Transfer.TheVariants.{Next, Jump}
 use Rattle.m51_flat.specs.LevelLaws.{LevelsFollow, writes_ie_or_ip}
-use Rattle.m51_flat.specs.Laws.{Always, Follows, HasParity, IfDone, next_address}
-use Rattle.m51_flat.specs.Meaning.{outcome_of, plan_of, started}
+use Rattle.m51_flat.specs.Laws.{Follows, HasParity, IfDone}
+use Rattle.m51_flat.specs.Meaning.{instruction_outcome, plan_of, started}
 use Rattle.m51_flat.specs.Actions.{action_of}
 use Rattle.m51_flat.specs.DeviceLaws.{IsStacked}
 use Rattle.m51_flat.specs.Flags.{idl}
-use Rattle.m51_flat.specs.Sfr.{latch, pcon, sp, with_flag}
+use Rattle.m51_flat.specs.Sfr.{latch, pcon, with_flag}
 use Rattle.m51_flat.specs.Transfers.{stacked}
 use Rattle.m51_flat.proofs.Devices.{pc_is_stacked}
 use Rattle.m51_flat.proofs.Parity.{IsRight, plan_right}
@@ -37,21 +32,12 @@ use Rattle.m51_irq.proofs.Taken.{vector_control, vector_parity}
 use Rattle.m51_flat.specs.States.{States, shut_of}
 use Rattle.m51_flat.proofs.Levels.{levels_are_kept}
 use Rattle.m51_flat.proofs.Outcomes.{outcome_control, outcome_parity, right_of}
-use Rattle.m51_module.specs.declared.parts.LayoutParts.{LayoutParts}
-use Rattle.m51_module.specs.declared.stack_bound.StackBound.{StackBound}
-use Rattle.m51_module.specs.Sound.{IsSound}
-use Rattle.m51_monitor.specs.declared.step.Move.{Move}
-use Rattle.m51_monitor.specs.Found.{root_found, unit_found}
-use Rattle.m51_monitor.specs.Records.{Records}
-use Rattle.m51_monitor.specs.Rising.{in_progress, interrupts, levels}
-use Rattle.m51_monitor.specs.Transfers.{judged, moved}
+use Rattle.m51_monitor.specs.Rising.{in_progress, levels}
 use Rattle.m51_monitor.specs.Judgement.{judge_of}
 use Rattle.m51_sim.specs.SeparateMachine.{Separate, concludes, memory_after, with_move}
 use Rattle.m51_sim.proofs.Keeping.{vectored_done}
 use Rattle.m51_sim.proofs.Preparing.{done_fact, ended_levels, same_levels}
 use Rattle.m51_sim.proofs.TakenTypes.{taken_by}
-use Rattle.m51_stackbound.specs.Bounds.{IsBound}
-use Rattle.m51_stackbound.specs.Instructions.{is_call, is_jump, is_return, target_of}
 use Rattle.m51_stackbound.specs.Points.{instruction}
 use Rattle.m51_stack_proof.proofs.Instructions.{Calls, instr_calls, instr_jumps, instr_leads, instr_returns, instr_top}
 use Rattle.m51_stack_proof.proofs.Judged.{event_ok}
@@ -131,7 +117,7 @@ module _ (l : LayoutParts) (image : List ℕ) (sound : IsSound l) (b : StackBoun
           on true jump t pc = absurd (cc (t, jumps jump))
 
       module _ (cells : States) (barred : Cell → Bool) (ext : Pins)
-          (done : outcome_of cpu cells barred instr image ext ≡ outcome.Done e) where
+          (done : instruction_outcome cpu cells barred instr image ext ≡ outcome.Done e) where
         control : Follows (flow_of instr) (next_address cpu instr) (latch cpu sp) e
         control = subst (λ o. IfDone o (λ e. Follows (flow_of instr) (next_address cpu instr) (latch cpu sp) e)) done
             (outcome_control cpu cells barred instr image ext h.len)

@@ -1,25 +1,16 @@
 -- The points that records represent, and how high SP is over them.
-use Rattle.std.proofs.Common.{◌≡◌, ◌≢◌, ◌≤◌, ◌+◌, ℕ, suc, List, [], ◌∷◌, length, refl, sym, ap, subst, arith, inl, inr}
-use Rattle.std.proofs.Common.{Some}
-use Rattle.std.specs.List.{Contains}
-use Rattle.m51_isa.specs.declared.instr.Instr.{Instr}
-use Rattle.m51_flat.specs.declared.state.Source.{Source}
+use Rattle.m51_stack_proof.proofs.Common.{◌≡◌, ◌≤◌, ◌+◌, ℕ, suc, List, [], ◌∷◌, length, refl, sym, ap, subst, arith}
+use Rattle.m51_stack_proof.proofs.Common.{inl, inr, Some, Contains, Instr, Source, LayoutParts, StackBound, IsUnitAt}
+use Rattle.m51_stack_proof.proofs.Common.{ByCall, ByInterrupt, ReturnRecord, first_or, named_over, running, interrupts}
+use Rattle.m51_stack_proof.proofs.Common.{Point, IsBound, next_of, call_of, handlers}
+use Rattle.std.proofs.Common.{◌≢◌}
 use Rattle.m51_flat.specs.Vectors.{vector_of}
-use Rattle.m51_module.specs.declared.parts.LayoutParts.{LayoutParts}
-use Rattle.m51_module.specs.declared.stack_bound.StackBound.{StackBound}
 use Rattle.m51_module.specs.declared.start.Start.{Start}
 use Rattle.m51_module.specs.declared.start.Start.TheVariants.{Reset, At}
-use Rattle.m51_module.specs.Plan.{IsUnitAt}
 use Rattle.m51_monitor.specs.declared.cause.Cause.{Cause}
-use Rattle.m51_monitor.specs.declared.cause.Cause.TheVariants.{Call as ByCall, Interrupt as ByInterrupt}
-use Rattle.m51_monitor.specs.Records.{ReturnRecord, first_or, named_over, running}
-use Rattle.m51_monitor.specs.Rising.{interrupts}
-use Rattle.m51_stackbound.specs.declared.point.Point.{Point}
-use Rattle.m51_stackbound.specs.Bounds.{Adds, Nothing, One, Two, ComesTo, IsBound}
+use Rattle.m51_stackbound.specs.Bounds.{Adds, Nothing, One, Two, ComesTo}
 use Rattle.m51_stackbound.specs.Depths.{CallsAt, HasHeight, Takes, Own, Call}
-use Rattle.m51_stackbound.specs.Instructions.{next_of}
-use Rattle.m51_stackbound.specs.Points.{call_of, instruction, IsPoint}
-use Rattle.m51_stackbound.specs.Units.{handlers}
+use Rattle.m51_stackbound.specs.Points.{instruction, IsPoint}
 use Rattle.m51_cells.proofs.Small.{first_or_after, none_in_empty}
 
 module _ (l : LayoutParts) (image : List ℕ) where

@@ -1,20 +1,17 @@
 -- Each instruction that is no call, return or computed jump, and does not write SP by an operand but for an immediate
 -- value.
-use Rattle.std.proofs.Common.{◌≡◌, ◌+◌, ◌*◌, ◌/◌, ◌%◌, ℕ, Bool, true, false, not, length, List, Option, Some, None}
-use Rattle.std.proofs.Common.{refl, subst, sym, ap, ◌∙◌, ◌⊎◌, inl, inr}
-use Rattle.std.proofs.lemmas.Bool.{eqb-true}
-use Rattle.std.specs.Prelude.{◌==◌, ◌&&◌, ◌||◌, if◌then◌else◌, is_some, nat_lt, IfSome}
-use Rattle.std.specs.Option.{unwrap_or}
-use Rattle.m51_isa.specs.declared.instr.Instr.{Instr}
+use Rattle.m51_stack_proof.proofs.Common.{◌≡◌, ◌+◌, ◌*◌, ◌/◌, ◌%◌, ℕ, Bool, true, false, not, length, List, Option}
+use Rattle.m51_stack_proof.proofs.Common.{Some, None, refl, subst, sym, ap, ◌∙◌, ◌⊎◌, inl, inr, eqb-true, ◌==◌, ◌&&◌}
+use Rattle.m51_stack_proof.proofs.Common.{◌||◌, if◌then◌else◌, is_some, unwrap_or, Instr, Cpu, Pins, Effect, Jump, sp}
+use Rattle.m51_stack_proof.proofs.Common.{Always, next_address, is_call, is_jump, is_return, sets_sp, target_of}
+use Rattle.m51_stack_proof.proofs.Common.{writes_sp}
+use Rattle.std.specs.Prelude.{nat_lt, IfSome}
 use Rattle.m51_isa.specs.declared.instr.Instr.TheVariants as names
 use Rattle.m51_isa.specs.declared.instr.Instr.TheVariants.{Nop}
 use Rattle.m51_isa.specs.Changes.{written_of}
 use Rattle.m51_isa.specs.Table.{flow_of}
-use Rattle.m51_flat.specs.declared.state.Cpu.{Cpu}
-use Rattle.m51_flat.specs.declared.state.Pins.{Pins}
-use Rattle.m51_flat.specs.declared.state.Effect.{Effect}
-use Rattle.m51_flat.specs.declared.state.Transfer.TheVariants.{Jump, Ret, Reti}
-use Rattle.m51_flat.specs.Sfr.{latch, sp, with_sfr}
+use Rattle.m51_flat.specs.declared.state.Transfer.TheVariants.{Ret, Reti}
+use Rattle.m51_flat.specs.Sfr.{latch, with_sfr}
 use Rattle.m51_flat.specs.Parts.{branched}
 use Rattle.m51_flat.specs.Arithmetic.{assigned}
 use Rattle.m51_flat.specs.Moves.{popped}
@@ -22,12 +19,11 @@ use Rattle.m51_flat.specs.Operands.{location_of, operand_value, with_location}
 use Rattle.m51_flat.specs.Actions.{action_of}
 use Rattle.m51_flat.specs.Meaning.{plan_of, started}
 use Rattle.m51_flat.specs.Transfers.{called}
-use Rattle.m51_flat.specs.Laws.{Always, Follows, IsCall, next_address}
+use Rattle.m51_flat.specs.Laws.{Follows, IsCall}
 use Rattle.m51_flat.specs.LevelLaws.{is_written}
 use Rattle.m51_flat.proofs.EveryAction.{MayGo, same_written, walk}
 use Rattle.m51_flat.proofs.Flows.{called_calls}
-use Rattle.m51_stackbound.specs.Instructions.{is_call, is_computed, is_jump, is_pop, is_push, is_return, sets_sp}
-use Rattle.m51_stackbound.specs.Instructions.{target_of, writes_sp}
+use Rattle.m51_stackbound.specs.Instructions.{is_computed, is_pop, is_push}
 use Rattle.m51_stack_proof.proofs.Stacking as by
 use Rattle.m51_stack_proof.proofs.Stacking.{Leads}
 

@@ -1,22 +1,19 @@
 -- What the table allows, read backwards.
-use Rattle.std.proofs.Common.{◌≡◌, ℕ, Bool, true, false, not, List, [], ◌∷◌, refl, sym, ap, ◌⊎◌, inl, inr, Option, Some}
-use Rattle.std.proofs.Common.{None}
-use Rattle.std.specs.Prelude.{if◌then◌else◌, nat_eq, Result, Ok, Err}
-use Rattle.std.proofs.lemmas.Bool.{eqb-true, not-false}
-use Rattle.m51_cells.specs.declared.event.Event.{Event}
+use Rattle.m51_stack_proof.proofs.Common.{◌≡◌, ℕ, Bool, true, false, not, List, [], ◌∷◌, refl, sym, ap, ◌⊎◌, inl, inr}
+use Rattle.m51_stack_proof.proofs.Common.{Option, Some, None, if◌then◌else◌, Result, Ok, Err, eqb-true, Event, Source}
+use Rattle.m51_stack_proof.proofs.Common.{LayoutParts, HasEdge, Move, Stay, ReturnRecord, Records, first_or, named_over}
+use Rattle.m51_stack_proof.proofs.Common.{is_at}
+use Rattle.std.specs.Prelude.{nat_eq}
+use Rattle.std.proofs.lemmas.Bool.{not-false}
 use Rattle.m51_cells.specs.declared.event.Why.{Why}
 use Rattle.m51_cells.specs.declared.event.Why.TheVariants.{NoEdge, NotCalled, WrongAddress, SpMoved, SpBelow, RootBusy}
 use Rattle.m51_cells.specs.declared.event.Why.TheVariants.{PastEnd}
-use Rattle.m51_flat.specs.declared.state.Source.{Source}
 use Rattle.m51_flat.specs.Vectors.{vector_of}
-use Rattle.m51_module.specs.declared.parts.LayoutParts.{LayoutParts}
-use Rattle.m51_module.specs.Walks.{HasEdge, has_edge}
+use Rattle.m51_module.specs.Walks.{has_edge}
 use Rattle.m51_module.proofs.EdgeTests.{edge_from_test}
-use Rattle.m51_monitor.specs.declared.step.Move.{Move}
-use Rattle.m51_monitor.specs.declared.step.Move.TheVariants.{Stay, Return, Interrupt as InterruptTo}
-use Rattle.m51_monitor.specs.Records.{ReturnRecord, Records, first_or, named_over}
-use Rattle.m51_monitor.specs.Transfers.{as_event, interrupts_to, is_at, is_busy, is_by, jump_or_call, move_to}
-use Rattle.m51_monitor.specs.Transfers.{return_move, returns_to, unless, within}
+use Rattle.m51_monitor.specs.declared.step.Move.TheVariants.{Return, Interrupt as InterruptTo}
+use Rattle.m51_monitor.specs.Transfers.{as_event, interrupts_to, is_busy, is_by, jump_or_call, move_to}
+use Rattle.m51_monitor.specs.Transfers.{return_move, returns_to, refused_if, within}
 use Rattle.m51_monitor.proofs.Moving.{ok_is, unless_ok}
 
 -- the move is no event
@@ -33,8 +30,9 @@ pub record Way (l : LayoutParts) (from : ℕ) (call : Bool) (at : Option ℕ) (s
 
 way_by : (l : LayoutParts) (from : ℕ) (low call : Bool) (u : ℕ) (at : Option ℕ) (step : Move) (same : Bool)
     → nat_eq u from ≡ same → at ≡ Some u
-    → Ok step ≡ (if same then unless low SpBelow (Ok (within call)) else unless (not (has_edge l.edges from u)) NoEdge
-    (unless low SpBelow (Ok (move_to call u)))) → Way l from call at step
+    → Ok step
+    ≡ (if same then refused_if low SpBelow (Ok (within call)) else refused_if (not (has_edge l.edges from u)) NoEdge
+    (refused_if low SpBelow (Ok (move_to call u)))) → Way l from call at step
 way_by l from low call u at step true e is k =
     record {
       unit = u;
@@ -45,7 +43,7 @@ way_by l from low call u at step true e is k =
       );
     }
 way_by l from low call u at step false e is k =
-    let p = unless_ok (not (has_edge l.edges from u)) NoEdge (unless low SpBelow (Ok (move_to call u))) step k in
+    let p = unless_ok (not (has_edge l.edges from u)) NoEdge (refused_if low SpBelow (Ok (move_to call u))) step k in
     record {
       unit = u;
       found = is;
@@ -66,9 +64,9 @@ pub record StaysIn (from : ℕ) (at : Option ℕ) (step : Move) : Type 0 where
   pub step_is : step ≡ Stay
 
 pub stays_in : (from : ℕ) (low : Bool) (at : Option ℕ) (step : Move)
-    → Ok step ≡ unless (not (is_at at from)) PastEnd (unless low SpBelow (Ok Stay)) → StaysIn from at step
+    → Ok step ≡ refused_if (not (is_at at from)) PastEnd (refused_if low SpBelow (Ok Stay)) → StaysIn from at step
 stays_in from low at step k =
-    let p = unless_ok (not (is_at at from)) PastEnd (unless low SpBelow (Ok Stay)) step k in
+    let p = unless_ok (not (is_at at from)) PastEnd (refused_if low SpBelow (Ok Stay)) step k in
     record {
       inside = not-false (is_at at from) p.0;
       step_is = ok_is step Stay (unless_ok low SpBelow (Ok Stay) step p.1).1;
@@ -94,8 +92,9 @@ goes_back reset returns (r ∷ rs) call top to at step are k =
     let inside = is_at at (first_or (named_over reset rs) 0) in
     let o = unless_ok (not (is_by call r.cause)) NotCalled (returns_to r.sp r.return_address top to inside) step k in
     let p = unless_ok (not (nat_eq top r.sp)) SpMoved
-    (unless (not (nat_eq to r.return_address)) WrongAddress (unless (not inside) PastEnd (Ok Return))) step o.1 in
-    let q = unless_ok (not (nat_eq to r.return_address)) WrongAddress (unless (not inside) PastEnd (Ok Return)) step
+    (refused_if (not (nat_eq to r.return_address)) WrongAddress (refused_if (not inside) PastEnd (Ok Return)))
+    step o.1 in
+    let q = unless_ok (not (nat_eq to r.return_address)) WrongAddress (refused_if (not inside) PastEnd (Ok Return)) step
     p.1 in
     let s = unless_ok (not inside) PastEnd (Ok Return) step q.1 in
     record {
@@ -119,7 +118,8 @@ pub begins_at : (a : Records) (source : Source) (low : Bool) (root o : Option �
     → Ok step ≡ interrupts_to a source low o → Begins source root step
 begins_at a source low root None step is k = absurd (cc k)
 begins_at a source low root (Some u) step is k =
-    let p = unless_ok (is_busy a.returns (vector_of source)) RootBusy (unless low SpBelow (Ok (InterruptTo source u)))
+    let p = unless_ok (is_busy a.returns (vector_of source)) RootBusy
+    (refused_if low SpBelow (Ok (InterruptTo source u)))
     step k in
     record {
       unit = u;

@@ -1,3 +1,4 @@
+pub mod Common
 pub mod Stacking
 pub mod Instructions
 pub mod Meeting

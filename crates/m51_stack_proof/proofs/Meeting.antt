@@ -1,38 +1,35 @@
 -- The same notions in the words of the machine and of the bound: units at addresses, instructions, bytes inside.
-use Rattle.std.proofs.Common.{◌≡◌, ◌≤◌, ◌+◌, ◌%◌, ◌-◌, ℕ, zero, suc, Bool, true, false, List, [], ◌++◌, refl, sym, ap}
-use Rattle.std.proofs.Common.{subst, ◌∙◌, arith, ◌⊎◌, inl, inr, Option, Some, None}
-use Rattle.std.specs.Prelude.{◌&&◌, ◌||◌, IfSome, if◌then◌else◌, is_some, nat_eq}
-use Rattle.std.specs.Option.{unwrap_or}
-use Rattle.std.specs.List.{Contains}
-use Rattle.std.proofs.lemmas.Bool.{and_parts, eq-eqb, eqb-true}
+use Rattle.m51_stack_proof.proofs.Common.{◌≡◌, ◌≤◌, ◌+◌, ◌%◌, ◌-◌, ℕ, suc, Bool, true, false, List, [], refl, sym, ap}
+use Rattle.m51_stack_proof.proofs.Common.{subst, ◌∙◌, arith, ◌⊎◌, inl, inr, Option, Some, None, ◌&&◌, ◌||◌}
+use Rattle.m51_stack_proof.proofs.Common.{if◌then◌else◌, is_some, unwrap_or, Contains, eqb-true, Instr, Source}
+use Rattle.m51_stack_proof.proofs.Common.{LayoutParts, IsUnitAt, IsSound, HasEdge, root_found, unit_found, is_at, Point}
+use Rattle.m51_stack_proof.proofs.Common.{is_call, is_jump, next_of, sets_sp, target_of, writes_sp, call_of, handlers}
+use Rattle.std.proofs.Common.{zero, ◌++◌}
+use Rattle.std.specs.Prelude.{IfSome, nat_eq}
+use Rattle.std.proofs.lemmas.Bool.{and_parts, eq-eqb}
 use Rattle.std.proofs.lemmas.List.Elements.{Contains-append_left, Contains-append_right}
-use Rattle.m51_isa.specs.declared.instr.Instr.{Instr}
 use Rattle.m51_isa.specs.declared.instr.Instr.TheVariants as names
 use Rattle.m51_isa.specs.declared.instr.Instr.TheVariants.{Nop}
 use Rattle.m51_isa.specs.Table.{length_of}
-use Rattle.m51_flat.specs.declared.state.Source.{Source}
 use Rattle.m51_flat.specs.declared.state.Source.TheVariants.{Ie0, Tf0, Ie1, Tf1, Serial, Timer2}
 use Rattle.m51_flat.specs.declared.state.Transfer.TheVariants.{Vector}
 use Rattle.m51_flat.specs.Vectors.{vector_of}
-use Rattle.m51_module.specs.declared.parts.LayoutParts.{LayoutParts}
-use Rattle.m51_module.specs.Plan.{IsRootAt, IsUnitAt}
+use Rattle.m51_module.specs.Plan.{IsRootAt}
 use Rattle.m51_module.specs.Roots.{vectors}
-use Rattle.m51_module.specs.Sound.{IsSound}
-use Rattle.m51_module.specs.Walks.{HasEdge, has_edge}
+use Rattle.m51_module.specs.Walks.{has_edge}
 use Rattle.m51_module.proofs.EdgeTests.{test_from_edge}
 use Rattle.m51_module.proofs.Units.{one_root, one_unit}
-use Rattle.m51_monitor.specs.Found.{root_found, unit_found}
-use Rattle.m51_monitor.specs.Transfers.{IsFoundAt, is_at}
+use Rattle.m51_monitor.specs.Transfers.{IsFoundAt}
 use Rattle.m51_monitor.proofs.Finding.{same_root_found, unit_found_is}
 use Rattle.m51_sim.specs.Effects as machine
 use Rattle.m51_sim.specs.SeparateMachine as separate
 use Rattle.m51_sim.proofs.Agreeing.{if_some}
-use Rattle.m51_stackbound.specs.declared.point.Point.{Point}
-use Rattle.m51_stackbound.specs.Instructions.{instr_at, is_call, is_jump, next_of, sets_sp, target_of, writes_sp}
-use Rattle.m51_stackbound.specs.Points.{after_call, after_instr, at_next, at_target, call_by, call_of, called, ends_at}
+use Rattle.m51_stackbound.specs.Instructions.{instr_at}
+use Rattle.m51_stackbound.specs.Points.{after_call, after_instr, at_next, at_target, call_by, called, ends_at}
 use Rattle.m51_stackbound.specs.Points.{entry_at, follow, follow_by, height_after, if_inside, instruction, point_at}
 use Rattle.m51_stackbound.specs.Points.{successors}
-use Rattle.m51_stackbound.specs.Units.{counts, handlers, in_one_unit, interrupts, joined, lie_inside, root_of, same}
+use Rattle.m51_stackbound.specs.Units.{counts, in_one_unit, interrupts, same_or_edge, lie_inside, root_of}
+use Rattle.m51_stackbound.specs.Units.{same}
 use Rattle.m51_stackbound.specs.Units.{unit_of}
 use Rattle.m51_stackbound.proofs.Finding.{root_found as root_there, root_is, unit_is}
 use Rattle.m51_stackbound.proofs.Inside.{interrupt_is_vector}
@@ -59,8 +56,8 @@ module _ (l : LayoutParts) (sound : IsSound l) where
       → counts l from to ≡ true
   unfolding counts
   target_counts from to u v h k way =
-      ap (λ o. joined l.edges o (unit_of l to)) (unit_at from u h)
-      ∙ (ap (λ o. joined l.edges (Some u) o) (unit_at to v k)
+      ap (λ o. same_or_edge l.edges o (unit_of l to)) (unit_at from u h)
+      ∙ (ap (λ o. same_or_edge l.edges (Some u) o) (unit_at to v k)
       ∙ or_holds (nat_eq u v) (has_edge l.edges u v)
       (elim way as (λ _. (nat_eq u v ≡ true) ⊎ (has_edge l.edges u v ≡ true))
       [ inl e ↦ inl (eq-eqb u v e) | inr edge ↦ inr (test_from_edge l.edges u v edge) ]))

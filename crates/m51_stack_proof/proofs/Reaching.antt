@@ -1,41 +1,31 @@
 -- From the reset on: what holds after each step, and so the law.
-use Rattle.std.proofs.Common.{◌≡◌, ◌≤◌, ◌+◌, ◌*◌, ◌/◌, ◌%◌, ℕ, zero, suc, List, [], ◌∷◌, length, refl, sym, ap, subst}
-use Rattle.std.proofs.Common.{◌∙◌, arith, lit≤, Option, Some, None}
-use Rattle.std.specs.Prelude.{Result, Ok, Err}
-use Rattle.std.specs.List.{Contains}
+use Rattle.m51_stack_proof.proofs.Common.{◌≡◌, ◌≤◌, ◌+◌, ◌*◌, ◌/◌, ◌%◌, ℕ, suc, List, [], ◌∷◌, length, refl, sym, ap}
+use Rattle.m51_stack_proof.proofs.Common.{subst, ◌∙◌, arith, Option, Some, None, Result, Ok, Err, Contains, Event}
+use Rattle.m51_stack_proof.proofs.Common.{Instr, Cpu, Effect, Pins, Source, sp, LayoutParts, StackBound, IsUnitAt}
+use Rattle.m51_stack_proof.proofs.Common.{IsSound, Move, Stay, ByInterrupt, root_found, unit_found, ReturnRecord}
+use Rattle.m51_stack_proof.proofs.Common.{Records, current, running, interrupts, byte_put, judged, moved, IsBound}
+use Rattle.std.proofs.Common.{zero}
+use Rattle.std.proofs.Common.{lit≤}
 use Rattle.std.specs.Int.{bit_at}
 use Rattle.std.proofs.lemmas.Bool.{cond_both}
 use Rattle.std.proofs.Math.Nat.{mod-add-div}
 use Rattle.m51_alu.specs.Arithmetic.{bit_of, parity_of}
-use Rattle.m51_cells.specs.declared.event.Event.{Event}
-use Rattle.m51_isa.specs.declared.instr.Instr.{Instr}
 use Rattle.m51_isa.specs.Table.{length_of}
-use Rattle.m51_flat.specs.declared.state.Cpu.{Cpu}
-use Rattle.m51_flat.specs.declared.state.Effect.{Effect}
-use Rattle.m51_flat.specs.declared.state.Pins.{Pins}
-use Rattle.m51_flat.specs.declared.state.Source.{Source}
 use Rattle.m51_flat.specs.declared.state.Transfer.TheVariants.{Vector}
 use Rattle.m51_flat.specs.Laws.{HasParity}
 use Rattle.m51_flat.specs.Reset.{reset_cpu}
 use Rattle.m51_flat.specs.Flags.{idl}
-use Rattle.m51_flat.specs.Sfr.{acc, flag, has_register, latch, pcon, psw, sp}
+use Rattle.m51_flat.specs.Sfr.{acc, flag, has_register, latch, pcon, psw}
 use Rattle.m51_flat.specs.Vectors.{vector_of}
 use Rattle.m51_flat.proofs.Parity.{IsRight}
 use Rattle.m51_irq.specs.Choice.{chosen}
 use Rattle.m51_irq.specs.Vectoring.{vectored}
-use Rattle.m51_module.specs.declared.parts.LayoutParts.{LayoutParts}
-use Rattle.m51_module.specs.declared.stack_bound.StackBound.{StackBound}
 use Rattle.m51_module.specs.declared.start.Start.TheVariants.{Reset}
-use Rattle.m51_module.specs.Plan.{IsRootAt, IsUnitAt}
-use Rattle.m51_module.specs.Sound.{IsSound}
-use Rattle.m51_monitor.specs.declared.step.Move.{Move}
-use Rattle.m51_monitor.specs.declared.step.Move.TheVariants.{Stay, Interrupt as InterruptTo}
-use Rattle.m51_monitor.specs.declared.cause.Cause.TheVariants.{Interrupt as ByInterrupt}
-use Rattle.m51_monitor.specs.Found.{root_found, unit_found}
-use Rattle.m51_monitor.specs.Records.{ReturnRecord, Records, current, running}
+use Rattle.m51_module.specs.Plan.{IsRootAt}
+use Rattle.m51_monitor.specs.declared.step.Move.TheVariants.{Interrupt as InterruptTo}
 use Rattle.m51_monitor.specs.Resolved.{outside_of}
-use Rattle.m51_monitor.specs.Rising.{in_progress, interrupts}
-use Rattle.m51_monitor.specs.Transfers.{IsFoundAt, byte_put, is_sp_below, judged, judged_as, moved, return_address_of}
+use Rattle.m51_monitor.specs.Rising.{in_progress}
+use Rattle.m51_monitor.specs.Transfers.{IsFoundAt, is_sp_below, judged_as, return_address_of}
 use Rattle.m51_monitor.proofs.Finding.{unit_found_is}
 use Rattle.m51_monitor.proofs.Moving.{Allowed as Permitted, IsInterrupt, allowed}
 use Rattle.m51_sim.specs.Cycles.{Inputs, cycle_passed, cycles_passed, next_cycle}
@@ -48,7 +38,6 @@ use Rattle.m51_sim.proofs.Fitting.{KeepsControl}
 use Rattle.m51_sim.proofs.Keeping.{inside_ok}
 use Rattle.m51_sim.proofs.Preparing.{done_fact}
 use Rattle.m51_sim.proofs.TakenTypes.{taken_by}
-use Rattle.m51_stackbound.specs.Bounds.{IsBound}
 use Rattle.m51_stackbound.proofs.Covering.{root_covers}
 use Rattle.m51_stackbound.proofs.Rooted.{reset_first}
 use Rattle.m51_timers_uart.proofs.Kept.{the_rest_is_kept}

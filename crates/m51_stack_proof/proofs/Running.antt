@@ -1,33 +1,25 @@
 -- A run of the separate machine keeps what records and processor represent, so SP never passes the bound.
-use Rattle.std.proofs.Common.{◌≡◌, ◌≤◌, ◌+◌, ◌*◌, ◌/◌, ◌%◌, ℕ, Bool, true, false, drop, List, [], ◌∷◌, length, refl}
-use Rattle.std.proofs.Common.{sym, ap, subst, ◌∙◌, arith, inl, inr, Some}
-use Rattle.std.specs.Prelude.{Ok}
+use Rattle.m51_stack_proof.proofs.Common.{◌≡◌, ◌≤◌, ◌+◌, ◌*◌, ◌/◌, ◌%◌, ℕ, Bool, true, false, List, [], ◌∷◌, length}
+use Rattle.m51_stack_proof.proofs.Common.{refl, sym, ap, subst, ◌∙◌, arith, inl, inr, Some, Ok, Instr, Cpu, Effect}
+use Rattle.m51_stack_proof.proofs.Common.{Next, Jump, next_address, sp, LayoutParts, StackBound, IsUnitAt, IsSound}
+use Rattle.m51_stack_proof.proofs.Common.{Move, Stay, ByCall, ByInterrupt, root_found, unit_found, ReturnRecord}
+use Rattle.m51_stack_proof.proofs.Common.{Records, current, first_or, named_over, interrupts, byte_put, is_at, judged}
+use Rattle.m51_stack_proof.proofs.Common.{moved, IsBound}
+use Rattle.std.proofs.Common.{drop}
 use Rattle.std.proofs.lemmas.Bool.{eq-eqb}
 use Rattle.std.proofs.Math.Nat.{mod-add-div}
-use Rattle.m51_isa.specs.declared.instr.Instr.{Instr}
-use Rattle.m51_flat.specs.declared.state.Cpu.{Cpu}
-use Rattle.m51_flat.specs.declared.state.Effect.{Effect}
 use Rattle.m51_flat.specs.declared.state.Level.{Level}
 use Rattle.m51_flat.specs.declared.state.Transfer.{Transfer}
-use Rattle.m51_flat.specs.declared.state.Transfer.TheVariants.{Next, Jump, Call, Ret, Reti}
-use Rattle.m51_flat.specs.Laws.{IsCall, next_address}
-use Rattle.m51_flat.specs.Sfr.{latch, sp}
-use Rattle.m51_module.specs.declared.parts.LayoutParts.{LayoutParts}
-use Rattle.m51_module.specs.declared.stack_bound.StackBound.{StackBound}
-use Rattle.m51_module.specs.Plan.{IsUnitAt}
-use Rattle.m51_module.specs.Sound.{IsSound}
-use Rattle.m51_monitor.specs.declared.step.Move.{Move}
-use Rattle.m51_monitor.specs.declared.step.Move.TheVariants.{Stay, Local, Jump as JumpTo, Call as CallTo}
+use Rattle.m51_flat.specs.declared.state.Transfer.TheVariants.{Call, Ret, Reti}
+use Rattle.m51_flat.specs.Laws.{IsCall}
+use Rattle.m51_flat.specs.Sfr.{latch}
+use Rattle.m51_monitor.specs.declared.step.Move.TheVariants.{Local, Jump as JumpTo, Call as CallTo}
 use Rattle.m51_monitor.specs.declared.cause.Cause.{Cause}
-use Rattle.m51_monitor.specs.declared.cause.Cause.TheVariants.{Call as ByCall, Interrupt as ByInterrupt}
-use Rattle.m51_monitor.specs.Found.{root_found, unit_found}
-use Rattle.m51_monitor.specs.Records.{ReturnRecord, Records, current, first_or, named_over}
-use Rattle.m51_monitor.specs.Rising.{interrupts, levels, one_more}
-use Rattle.m51_monitor.specs.Transfers.{byte_put, is_at, is_by, is_sp_below, judged, judged_as, jumped, moved}
+use Rattle.m51_monitor.specs.Rising.{levels, one_more}
+use Rattle.m51_monitor.specs.Transfers.{is_by, is_sp_below, judged_as, jumped}
 use Rattle.m51_monitor.specs.Transfers.{return_address_of, without_top}
 use Rattle.m51_monitor.proofs.CurrentUnit.{jumped_current}
 use Rattle.m51_monitor.proofs.Levels.{jumped_count}
-use Rattle.m51_stackbound.specs.Bounds.{IsBound}
 use Rattle.m51_stackbound.specs.Instructions as bound
 use Rattle.m51_stackbound.specs.Points.{instruction}
 use Rattle.m51_stack_proof.proofs.Instructions.{Returns, instr_top}

@@ -1,23 +1,20 @@
 -- What an instruction does with SP, and where it leads, whatever is read.
-use Rattle.std.proofs.Common.{◌≡◌, ◌≢◌, ◌+◌, ◌%◌, ◌-◌, ◌<◌, ℕ, Bool, true, false, cond, List, length, get_or}
-use Rattle.std.proofs.Common.{get_or-set_other, Option, Some, None, refl, rules, sym, ap, ◌∙◌, arith, lit<, ◌⊎◌, inl}
-use Rattle.std.proofs.Common.{inr}
+use Rattle.m51_stack_proof.proofs.Common.{◌≡◌, ◌+◌, ◌%◌, ◌-◌, ℕ, Bool, true, false, List, length, Option, Some, None}
+use Rattle.m51_stack_proof.proofs.Common.{refl, sym, ap, ◌∙◌, arith, ◌⊎◌, inl, inr, ◌==◌, ◌&&◌, ◌||◌, Cpu, Pins, Effect}
+use Rattle.m51_stack_proof.proofs.Common.{Next, Jump, sp, Always}
+use Rattle.std.proofs.Common.{◌≢◌, ◌<◌, cond, get_or}
+use Rattle.std.proofs.Common.{get_or-set_other, rules, lit<}
 use Rattle.std.proofs.lemmas.Bool.{ne_eqb}
-use Rattle.std.specs.Prelude.{◌==◌, ◌&&◌, ◌||◌, slice_set}
+use Rattle.std.specs.Prelude.{slice_set}
 use Rattle.std.specs.Option.{option_or}
 use Rattle.m51_isa.specs.declared.instr.Written.{Written}
 use Rattle.m51_isa.specs.declared.instr.Written.TheVariants.{Nothing, Direct, Bit, BitIfSet}
 use Rattle.m51_isa.specs.Targets.{relative}
-use Rattle.m51_flat.specs.declared.state.Cpu.{Cpu}
-use Rattle.m51_flat.specs.declared.state.Pins.{Pins}
-use Rattle.m51_flat.specs.declared.state.Effect.{Effect}
-use Rattle.m51_flat.specs.declared.state.Transfer.TheVariants.{Next, Jump}
 use Rattle.m51_flat.specs.Reads.{Reads, Ends, Read, then_read}
-use Rattle.m51_flat.specs.Sfr.{flag, has_register, ie, ip, latch, port_of, sbuf, sp, with_parity, with_sfr}
+use Rattle.m51_flat.specs.Sfr.{flag, has_register, ie, ip, latch, port_of, sbuf, with_parity, with_sfr}
 use Rattle.m51_flat.specs.Operands.{byte_of_bit, with_location}
 use Rattle.m51_flat.specs.Parts.{jumped}
 use Rattle.m51_flat.specs.Moves.{pushed}
-use Rattle.m51_flat.specs.Laws.{Always}
 use Rattle.m51_flat.specs.LevelLaws.{is_written}
 use Rattle.m51_flat.proofs.EveryAction.{IsKept}
 use Rattle.m51_flat.proofs.Flows.{sp_written}
@@ -170,8 +167,8 @@ module _ (n : ℕ) (e : Effect) (len : length e.cpu.regs ≡ 128) (next : e.tran
   abbrev top : ℕ
   top = latch e.cpu sp
 
-  pub pushed_follows : (ext : Pins) (place : _) → AlwaysFollows n ((top + 1) % 256) None (pushed ext e place)
+  pub pushed_follows : (ext : Pins) (addressing : _) → AlwaysFollows n ((top + 1) % 256) None (pushed ext e addressing)
   unfolding pushed with_location
-  pushed_follows ext place =
+  pushed_follows ext addressing =
       let k = sp_follows n ((top + 1) % 256) e len next here in
       search (rules, follows_then)

@@ -1,35 +1,24 @@
 -- Each step that is performed keeps the points that records and processor represent.
-use Rattle.std.proofs.Common.{◌≡◌, ◌≤◌, ◌+◌, ◌%◌, ◌-◌, ℕ, Bool, true, false, not, List, [], ◌∷◌, refl, sym, ap, subst}
-use Rattle.std.proofs.Common.{◌∙◌, arith, ◌⊎◌, Some, None}
-use Rattle.std.specs.Prelude.{◌==◌, ◌&&◌, ◌||◌, if◌then◌else◌, is_some}
-use Rattle.std.specs.Option.{unwrap_or}
-use Rattle.std.specs.List.{Contains}
+use Rattle.m51_stack_proof.proofs.Common.{◌≡◌, ◌≤◌, ◌+◌, ◌%◌, ◌-◌, ℕ, Bool, true, false, not, List, [], ◌∷◌, refl, sym}
+use Rattle.m51_stack_proof.proofs.Common.{ap, subst, ◌∙◌, arith, ◌⊎◌, Some, None, ◌==◌, ◌&&◌, ◌||◌, if◌then◌else◌}
+use Rattle.m51_stack_proof.proofs.Common.{is_some, unwrap_or, Contains, Instr, Source, LayoutParts, StackBound}
+use Rattle.m51_stack_proof.proofs.Common.{IsUnitAt, IsSound, HasEdge, ByCall, ByInterrupt, ReturnRecord, Records}
+use Rattle.m51_stack_proof.proofs.Common.{current, first_or, named_over, running, interrupts, byte_put, Point, IsBound}
+use Rattle.m51_stack_proof.proofs.Common.{is_call, is_jump, is_return, next_of, sets_sp, target_of, writes_sp, call_of}
+use Rattle.m51_stack_proof.proofs.Common.{handlers}
 use Rattle.std.proofs.lemmas.Grind.{common_steps}
-use Rattle.m51_isa.specs.declared.instr.Instr.{Instr}
 use Rattle.m51_flat.specs.declared.state.Put.{Put}
 use Rattle.m51_flat.specs.declared.state.Put.TheVariants.{Byte}
-use Rattle.m51_flat.specs.declared.state.Source.{Source}
 use Rattle.m51_flat.specs.Vectors.{vector_of}
-use Rattle.m51_module.specs.declared.parts.LayoutParts.{LayoutParts}
-use Rattle.m51_module.specs.declared.stack_bound.StackBound.{StackBound}
 use Rattle.m51_module.specs.declared.start.Start.{Start}
 use Rattle.m51_module.specs.declared.start.Start.TheVariants.{At}
-use Rattle.m51_module.specs.Plan.{IsUnitAt}
-use Rattle.m51_module.specs.Sound.{IsSound}
-use Rattle.m51_module.specs.Walks.{HasEdge}
-use Rattle.m51_monitor.specs.declared.cause.Cause.TheVariants.{Call as ByCall, Interrupt as ByInterrupt}
-use Rattle.m51_monitor.specs.Records.{ReturnRecord, Records, current, first_or, named_over, running}
-use Rattle.m51_monitor.specs.Rising.{interrupts}
-use Rattle.m51_monitor.specs.Transfers.{byte_put, jumped}
-use Rattle.m51_stackbound.specs.declared.point.Point.{Point}
-use Rattle.m51_stackbound.specs.Bounds.{IsBound}
+use Rattle.m51_monitor.specs.Transfers.{jumped}
 use Rattle.m51_stackbound.specs.Depths.{CallsAt, HasHeight, Own, Call}
-use Rattle.m51_stackbound.specs.Instructions.{is_call, is_computed, is_jump, is_pop, is_push, is_return, next_of}
-use Rattle.m51_stackbound.specs.Instructions.{sets_sp, target_of, writes_sp}
-use Rattle.m51_stackbound.specs.Points.{call_by, call_of, called, ends_at, entry_at, height_after, instruction}
+use Rattle.m51_stackbound.specs.Instructions.{is_computed, is_pop, is_push}
+use Rattle.m51_stackbound.specs.Points.{call_by, called, ends_at, entry_at, height_after, instruction}
 use Rattle.m51_stackbound.specs.Points.{is_reset, point_at, pops_below, pushes_above, sets_stack, successors, IsPoint}
 use Rattle.m51_stackbound.specs.Points.{After}
-use Rattle.m51_stackbound.specs.Units.{handlers, in_one_unit}
+use Rattle.m51_stackbound.specs.Units.{in_one_unit}
 use Rattle.m51_stackbound.proofs.Keeping.{computed_kept, pops_kept, pushes_kept, stack_kept}
 use Rattle.m51_stackbound.proofs.Raised.{call_enters, entered}
 use Rattle.m51_stackbound.proofs.Rooted.{handler_first}

@@ -1,16 +1,11 @@
 -- The two greatest numbers that interrupts add.
-use Rattle.std.proofs.Common.{◌≡◌, ◌≢◌, ◌<◌, ◌≤◌, ◌+◌, ℕ, Bool, true, false, List, [], length, get_or, take, refl, sym}
-use Rattle.std.proofs.Common.{subst, ◌∙◌, arith, ◌⊎◌, inl, inr}
-use Rattle.std.specs.Prelude.{if◌then◌else◌, nat_lt, slice_index}
-use Rattle.std.specs.List.{Contains}
-use Rattle.std.proofs.lemmas.Grind.{common_steps}
+use Rattle.m51_stackbound.proofs.Common.{◌≡◌, ◌≢◌, ◌<◌, ◌≤◌, ◌+◌, ℕ, Bool, true, false, List, [], length, get_or, take}
+use Rattle.m51_stackbound.proofs.Common.{refl, sym, subst, ◌∙◌, arith, ◌⊎◌, inl, inr, if◌then◌else◌, nat_lt, Contains}
+use Rattle.m51_stackbound.proofs.Common.{common_steps, At, Rises, depth_in, rank, AreGreatest}
+use Rattle.std.specs.Prelude.{slice_index}
 use Rattle.std.proofs.lemmas.List.{length-take-le}
-use Rattle.m51_module.specs.declared.start.Start.TheVariants.{At}
-use Rattle.m51_module.specs.Rising.{Rises}
 use Rattle.m51_stackbound.specs.declared.totals.Greatest.{Greatest}
-use Rattle.m51_stackbound.specs.Climb.{depth_in}
-use Rattle.m51_stackbound.specs.Rules.{rank}
-use Rattle.m51_stackbound.specs.Totals.{added, with_bytes, OneAdds, TwoAdd, AreGreatest}
+use Rattle.m51_stackbound.specs.Totals.{added, with_bytes, OneAdds, TwoAdd}
 use Rattle.m51_stackbound.proofs.Leasts.{front_cases, front_kept, front_next}
 
 module _ (depths : List ℕ) where

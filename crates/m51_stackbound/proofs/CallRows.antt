@@ -1,27 +1,18 @@
 -- The calls of points, and the rows of them.
-use Rattle.std.proofs.Common.{◌≡◌, ◌<◌, ◌+◌, ℕ, List, [], ◌∷◌, ◌++◌, length, get_or, set, take, refl, sym, ap, subst}
-use Rattle.std.proofs.Common.{◌∙◌, arith, ◌⊎◌, inl, inr, Option, Some, None}
-use Rattle.std.specs.List.{Contains, cons_option}
-use Rattle.std.proofs.lemmas.List.{get_or-set_same, get_or-set_other, length-set}
-use Rattle.std.proofs.lemmas.List.{take_more}
-use Rattle.std.proofs.lemmas.List.Elements.{filter_map-append, Contains-push, Contains-push_cases, Contains-append_left}
+use Rattle.m51_stackbound.proofs.Common.{◌≡◌, ◌<◌, ◌+◌, ℕ, List, [], ◌∷◌, ◌++◌, length, get_or, set, take, refl, sym}
+use Rattle.m51_stackbound.proofs.Common.{ap, subst, ◌∙◌, arith, ◌⊎◌, inl, inr, Option, Some, None, Contains}
+use Rattle.m51_stackbound.proofs.Common.{get_or-set_same, get_or-set_other, length-set, take_more, Contains-push}
+use Rattle.m51_stackbound.proofs.Common.{Contains-push_cases, Contains-append_left, contains_after, first_or_after}
+use Rattle.m51_stackbound.proofs.Common.{none_in_empty, LayoutParts, Start, Reset, At, same_or_not, Call, Point}
+use Rattle.m51_stackbound.proofs.Common.{AreCallRows, calls_of, callee_row, CallsAt, call_of, IsPoint, rank, ArePoints}
+use Rattle.std.specs.List.{cons_option}
+use Rattle.std.proofs.lemmas.List.Elements.{filter_map-append}
 use Rattle.std.proofs.lemmas.List.Sorted.{Contains-permutation, IsPermutation-sym}
 use Rattle.std.proofs.lemmas.Option.{same_Some}
-use Rattle.m51_cells.proofs.Small.{contains_after, first_or_after, none_in_empty}
-use Rattle.m51_module.specs.declared.parts.LayoutParts.{LayoutParts}
-use Rattle.m51_module.specs.declared.start.Start.{Start}
-use Rattle.m51_module.specs.declared.start.Start.TheVariants.{Reset, At}
 use Rattle.m51_module.specs.Kept.{AreEmptyRows}
-use Rattle.m51_module.proofs.Units.{same_or_not}
-use Rattle.m51_stackbound.specs.declared.calls.Call.{Call}
-use Rattle.m51_stackbound.specs.declared.point.Point.{Point}
-use Rattle.m51_stackbound.specs.Callers.{AreCallRows, AreCallsOf, AreRowsOf, call_from, calls_of, IsCalled, row_of}
+use Rattle.m51_stackbound.specs.Callers.{AreCallsOf, AreRowsOf, call_from, IsCalled}
 use Rattle.m51_stackbound.specs.Callers.{with_call}
 use Rattle.m51_stackbound.specs.Climb.{AreCalls}
-use Rattle.m51_stackbound.specs.Depths.{CallsAt}
-use Rattle.m51_stackbound.specs.Points.{call_of, IsPoint}
-use Rattle.m51_stackbound.specs.Rules.{rank}
-use Rattle.m51_stackbound.specs.Search.{ArePoints}
 
 same_At : (a b : ℕ) → At a ≡ At b → a ≡ b
 same_At a b e = let ranks : rank (At a) ≡ rank (At b) = ap rank e in omega (arith, ranks)
@@ -145,48 +136,51 @@ rows_more calls c rows few h = by c.from refl
     by Reset e = record {
       len = h.len;
       only = λ from to k. one_more calls c from to (h.only from to k);
-      all = λ from to k. elim (Contains-push_cases calls c k.call k.listed) as (λ _. Contains (row_of rows from) to) [
-        | inl early ↦ h.all from to (record { call = k.call; listed = early; from_is = k.from_is; to_is = k.to_is })
-        | inr here ↦ absurd (cc (sym e ∙ ap (λ (x : Call). x.from) here ∙ k.from_is))
-      ];
+      all = λ from to k. elim (Contains-push_cases calls c k.call k.listed) as
+          (λ _. Contains (callee_row rows from) to) [
+            | inl early ↦ h.all from to (record { call = k.call; listed = early; from_is = k.from_is; to_is = k.to_is })
+            | inr here ↦ absurd (cc (sym e ∙ ap (λ (x : Call). x.from) here ∙ k.from_is))
+          ];
     }
     by (At a) e = record {
       len = length-set rows a row ∙ h.len;
       only = λ from to k. elim (same_or_not from a) as (λ _. IsCalled (calls ++ c ∷ []) from to) [
-        | inl same ↦ newest from to same (subst (λ (r : List ℕ). Contains r to) (ap (row_of new) same ∙ set_row) k)
+        | inl same ↦ newest from to same (subst (λ (r : List ℕ). Contains r to) (ap (callee_row new) same ∙ set_row) k)
         | inr ne ↦ one_more calls c from to
             (h.only from to (subst (λ (r : List ℕ). Contains r to) (get_or-set_other rows a from row [] ne) k))
       ];
-      all = λ from to k. elim (same_or_not from a) as (λ _. Contains (row_of new from) to) [
-        | inl same ↦ subst (λ (r : List ℕ). Contains r to) (sym (ap (row_of new) same ∙ set_row))
+      all = λ from to k. elim (same_or_not from a) as (λ _. Contains (callee_row new from) to) [
+        | inl same ↦ subst (λ (r : List ℕ). Contains r to) (sym (ap (callee_row new) same ∙ set_row))
             (elim (Contains-push_cases calls c k.call k.listed) as (λ _. Contains row to) [
-              | inl early ↦ Contains-append_left (row_of rows a) (c.to ∷ []) to
-                  (subst (λ n. Contains (row_of rows n) to) same
+              | inl early ↦ Contains-append_left (callee_row rows a) (c.to ∷ []) to
+                  (subst (λ n. Contains (callee_row rows n) to) same
                   (h.all from to (record { call = k.call; listed = early; from_is = k.from_is; to_is = k.to_is })))
               | inr here ↦ subst (λ n. Contains row n) (ap (λ (x : Call). x.to) here ∙ k.to_is)
-                  (Contains-push (row_of rows a) c.to)
+                  (Contains-push (callee_row rows a) c.to)
             ])
         | inr ne ↦ subst (λ (r : List ℕ). Contains r to) (sym (get_or-set_other rows a from row [] ne))
-            (elim (Contains-push_cases calls c k.call k.listed) as (λ _. Contains (row_of rows from) to) [
-              | inl early ↦ h.all from to (record { call = k.call; listed = early; from_is = k.from_is; to_is = k.to_is })
+            (elim (Contains-push_cases calls c k.call k.listed) as (λ _. Contains (callee_row rows from) to) [
+              | inl early ↦ h.all from to
+                  (record { call = k.call; listed = early; from_is = k.from_is; to_is = k.to_is })
               | inr here ↦ absurd (ne (same_At from a (sym k.from_is ∙ ap (λ (x : Call). x.from) (sym here) ∙ e)))
             ])
       ];
     }
       where
         row : List ℕ
-        row = row_of rows a ++ c.to ∷ []
+        row = callee_row rows a ++ c.to ∷ []
 
         new : List (List ℕ)
         new = set rows a row
 
-        set_row : row_of new a ≡ row
+        set_row : callee_row new a ≡ row
         set_row = get_or-set_same rows a row [] (omega (arith, few a e, h.len))
 
         newest : (from to : ℕ) → from ≡ a → Contains row to → IsCalled (calls ++ c ∷ []) from to
         newest from to same k =
-            elim (Contains-push_cases (row_of rows a) c.to to k) as (λ _. IsCalled (calls ++ c ∷ []) from to) [
+            elim (Contains-push_cases (callee_row rows a) c.to to k) as (λ _. IsCalled (calls ++ c ∷ []) from to) [
               | inl early ↦ one_more calls c from to
-                  (h.only from to (subst (λ n. Contains (row_of rows n) to) (sym same) early))
-              | inr here ↦ record { call = c; listed = Contains-push calls c; from_is = e ∙ ap At (sym same); to_is = here }
+                  (h.only from to (subst (λ n. Contains (callee_row rows n) to) (sym same) early))
+              | inr here ↦ record
+                  { call = c; listed = Contains-push calls c; from_is = e ∙ ap At (sym same); to_is = here }
             ]

@@ -1,22 +1,15 @@
 -- Which unit covers a start, which root a handler is, and in which order the handlers are.
-use Rattle.std.proofs.Common.{◌≡◌, ◌<◌, ◌+◌, ℕ, zero, suc, Bool, true, false, List, [], ◌∷◌, length, get_or, cond, refl}
-use Rattle.std.proofs.Common.{sym, ap, subst, ◌∙◌, arith, inl, inr, Option, Some, None}
-use Rattle.std.specs.Prelude.{filter, is_some}
-use Rattle.std.specs.List.{Contains}
-use Rattle.std.proofs.lemmas.Grind.{common_steps}
+use Rattle.m51_stackbound.proofs.Common.{◌≡◌, ◌<◌, ◌+◌, ℕ, zero, suc, Bool, true, false, List, [], ◌∷◌, length, get_or}
+use Rattle.m51_stackbound.proofs.Common.{refl, sym, ap, subst, ◌∙◌, arith, inl, inr, Option, Some, None, is_some}
+use Rattle.m51_stackbound.proofs.Common.{Contains, common_steps, LayoutParts, Reset, At, IsRootAt, IsUnitAt, Rises}
+use Rattle.m51_stackbound.proofs.Common.{vectors, IsSound, Point, entry_at, IsPoint, First, After, handlers, interrupts}
+use Rattle.std.proofs.Common.{cond}
+use Rattle.std.specs.Prelude.{filter}
 use Rattle.std.proofs.lemmas.List.Kept.{AllPairs-filter, AllPairs-from_increasing}
 use Rattle.m51_cells.specs.Extent.{Covers, extent_of}
-use Rattle.m51_module.specs.declared.parts.LayoutParts.{LayoutParts}
-use Rattle.m51_module.specs.declared.start.Start.TheVariants.{Reset, At}
 use Rattle.m51_module.specs.Cells.{code_cell}
-use Rattle.m51_module.specs.Plan.{IsRootAt, IsUnitAt}
-use Rattle.m51_module.specs.Rising.{Rises}
-use Rattle.m51_module.specs.Roots.{vectors}
-use Rattle.m51_module.specs.Sound.{IsSound}
-use Rattle.m51_stackbound.specs.declared.point.Point.{Point}
 use Rattle.m51_stackbound.specs.Bounds.{IsStart}
-use Rattle.m51_stackbound.specs.Points.{entry_at, IsPoint, First, After}
-use Rattle.m51_stackbound.specs.Units.{handlers, interrupts, root_of, unit_of}
+use Rattle.m51_stackbound.specs.Units.{root_of, unit_of}
 use Rattle.m51_stackbound.proofs.Finding.{root_found, unit_found_at}
 use Rattle.m51_stackbound.proofs.Inside.{interrupt_is_vector}
 use Rattle.m51_stackbound.proofs.Rooted.{first_cases, under}

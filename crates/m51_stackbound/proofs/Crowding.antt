@@ -1,14 +1,11 @@
 -- Different points that are among others are not more than these.
-use Rattle.std.proofs.Common.{◌≡◌, ◌≤◌, ℕ, true, List, length, subst, arith}
-use Rattle.std.specs.List.{Contains}
+use Rattle.m51_stackbound.proofs.Common.{◌≡◌, ◌≤◌, ℕ, true, List, length, subst, arith, Contains, Contains-from_any}
+use Rattle.m51_stackbound.proofs.Common.{list_any-from_Contains, LayoutParts, Point, IsPoint, IsReached, First, After}
+use Rattle.m51_stackbound.proofs.Common.{ArePoints}
 use Rattle.std.proofs.lemmas.Map.Made.{IsDistinct-from_AllPairs, length-le_from_is_member}
-use Rattle.std.proofs.lemmas.Map.Views.{Contains-from_any, list_any-from_Contains}
-use Rattle.m51_module.specs.declared.parts.LayoutParts.{LayoutParts}
-use Rattle.m51_stackbound.specs.declared.point.Point.{Point}
 use Rattle.m51_stackbound.specs.contracts.point.PointPartialEq.TheImpl.{eq-value as point_eq}
 use Rattle.m51_stackbound.specs.contracts.point.PointEq.TheImpl.Laws.{laws-law}
-use Rattle.m51_stackbound.specs.Points.{IsPoint, IsReached, First, After}
-use Rattle.m51_stackbound.specs.Search.{AreDifferent, ArePoints, AreTooMany}
+use Rattle.m51_stackbound.specs.Search.{AreDifferent, AreTooMany}
 use Rattle.m51_stackbound.proofs.Noting.{same_point}
 
 no_more : (xs ys : List Point) → AreDifferent xs → ((p : Point) → Contains xs p → Contains ys p) → length xs ≤ length ys

@@ -1,36 +1,21 @@
 -- From the tables to the answers of the bound.
-use Rattle.std.proofs.Common.{◌≡◌, ◌<◌, ◌≤◌, ℕ, zero, suc, Bool, true, false, List, [], ◌∷◌, ◌++◌, length, get_or, map}
-use Rattle.std.proofs.Common.{refl, sym, ap, subst, ◌∙◌, arith, inl, inr}
-use Rattle.std.specs.Prelude.{nat_lt, slice_index}
-use Rattle.std.specs.List.{Any, Contains, list_any}
-use Rattle.std.proofs.lemmas.Bool.{cases_lt}
-use Rattle.std.proofs.lemmas.Grind.{common_steps}
+use Rattle.m51_stackbound.proofs.Common.{◌≡◌, ◌<◌, ◌≤◌, ℕ, zero, suc, Bool, true, false, List, [], ◌∷◌, ◌++◌, length}
+use Rattle.m51_stackbound.proofs.Common.{get_or, map, refl, sym, ap, subst, ◌∙◌, arith, inl, inr, nat_lt, Contains}
+use Rattle.m51_stackbound.proofs.Common.{list_any, cases_lt, common_steps, LayoutParts, Proc, RootDepth, StackBound}
+use Rattle.m51_stackbound.proofs.Common.{Start, Reset, At, IsRootAt, IsUnitAt, Rises, IsSound, Next, Point, IsCyclic}
+use Rattle.m51_stackbound.proofs.Common.{IsTotal, Keeps, cap, depth_in, AreSettled, CallsThrough, HasHeight, IsDepth}
+use Rattle.m51_stackbound.proofs.Common.{is_noted, AreStarts, AreListed, AreNexts, AreRootRows, entry_at, point_at}
+use Rattle.m51_stackbound.proofs.Common.{rank, ArePoints, IsSum, handlers}
+use Rattle.std.specs.Prelude.{slice_index}
+use Rattle.std.specs.List.{Any}
 use Rattle.std.proofs.lemmas.List.Folds.{Any-from_list_any, list_any_at}
 use Rattle.std.proofs.lemmas.List.{get_or_past}
-use Rattle.m51_module.specs.declared.parts.LayoutParts.{LayoutParts}
-use Rattle.m51_module.specs.declared.stack_bound.Proc.{Proc}
-use Rattle.m51_module.specs.declared.stack_bound.RootDepth.{RootDepth}
-use Rattle.m51_module.specs.declared.stack_bound.StackBound.{StackBound}
-use Rattle.m51_module.specs.declared.start.Start.{Start}
-use Rattle.m51_module.specs.declared.start.Start.TheVariants.{Reset, At}
-use Rattle.m51_module.specs.Plan.{IsRootAt, IsUnitAt}
-use Rattle.m51_module.specs.Rising.{Rises}
-use Rattle.m51_module.specs.Sound.{IsSound}
-use Rattle.m51_stackbound.specs.declared.paths.Next.{Next}
-use Rattle.m51_stackbound.specs.declared.point.Point.{Point}
 use Rattle.m51_stackbound.specs.Above.{AreLow, HasLists, IsAbove}
-use Rattle.m51_stackbound.specs.Bounds.{AreEach, IsCyclic, IsFirstCyclic, IsRootDepth, IsStart, IsTooDeep, KeepsHeights}
-use Rattle.m51_stackbound.specs.Bounds.{IsBound, IsTotal, Keeps}
+use Rattle.m51_stackbound.specs.Bounds.{AreEach, IsFirstCyclic, IsRootDepth, IsStart, IsTooDeep, KeepsHeights}
+use Rattle.m51_stackbound.specs.Bounds.{IsBound}
 use Rattle.m51_stackbound.specs.declared.judging.Rule.TheVariants.{PushesAbove}
-use Rattle.m51_stackbound.specs.Climb.{cap, depth_in, AreSettled, IsTaken}
-use Rattle.m51_stackbound.specs.Depths.{CallsThrough, HasHeight, IsDepth}
-use Rattle.m51_stackbound.specs.Listing.{is_noted, AreStarts, AreListed}
-use Rattle.m51_stackbound.specs.Nexts.{AreNexts, AreRows, IsRowAt}
-use Rattle.m51_stackbound.specs.Points.{entry_at, point_at}
-use Rattle.m51_stackbound.specs.Rules.{rank}
-use Rattle.m51_stackbound.specs.Search.{ArePoints}
-use Rattle.m51_stackbound.specs.Totals.{IsSum}
-use Rattle.m51_stackbound.specs.Units.{handlers}
+use Rattle.m51_stackbound.specs.Climb.{TakesDepth}
+use Rattle.m51_stackbound.specs.Nexts.{IsRowAt}
 use Rattle.m51_stackbound.proofs.Covering.{start_covered}
 use Rattle.m51_stackbound.proofs.Leading.{depth_is, path_is}
 use Rattle.m51_stackbound.proofs.Raised.{low_not_cyclic, settled_says}
@@ -60,9 +45,9 @@ all_low depths none start = elim (cases_lt (depth_in depths start) 256) as (λ _
 module _ (l : LayoutParts) (image : List ℕ) where
   -- a depth above 255 in the table is one of a start that takes as much
   taken_by : (points : List Point) (depths : List ℕ) (s : AreSettled l image points depths) (start : Start)
-      → 255 < depth_in depths start → IsTaken l image start (depth_in depths start)
+      → 255 < depth_in depths start → TakesDepth l image start (depth_in depths start)
   taken_by points depths s start high =
-      elim (s.are.taken start) as (λ _. IsTaken l image start (depth_in depths start)) [
+      elim (s.are.taken start) as (λ _. TakesDepth l image start (depth_in depths start)) [
         | inl none ↦ absurd (omega (arith, none, high))
         | inr t ↦ t
       ]
@@ -122,8 +107,8 @@ none_is l image points depths are s none (At a) h = elim (cases_lt a 65536) as (
 
 -- one more root
 pub rows_more : (l : LayoutParts) (depths : List ℕ) (nexts : List Next) (vs : List ℕ) (v : ℕ) (roots : List RootDepth)
-    (r : RootDepth) → AreRows l depths nexts vs roots → IsRowAt l depths nexts (At v) v r
-    → AreRows l depths nexts (vs ++ v ∷ []) (roots ++ r ∷ [])
+    (r : RootDepth) → AreRootRows l depths nexts vs roots → IsRowAt l depths nexts (At v) v r
+    → AreRootRows l depths nexts (vs ++ v ∷ []) (roots ++ r ∷ [])
 rows_more l depths nexts vs v roots r h row = record {
   reset = h.reset;
   interrupts = h.interrupts ++ r ∷ [];
@@ -209,7 +194,7 @@ module _ (l : LayoutParts) (image : List ℕ) (points : List Point) (depths : Li
 
   pub lists : (starts : List Bool) (procs : List Proc) (roots : List RootDepth) (total : ℕ) (b : StackBound)
       → AreStarts points starts → AreListed l starts depths 65536 procs
-      → AreRows l depths nexts (handlers l) roots → b.total ≡ total → b.procs ≡ procs → b.roots ≡ roots
+      → AreRootRows l depths nexts (handlers l) roots → b.total ≡ total → b.procs ≡ procs → b.roots ≡ roots
       → HasLists l image total b
   lists starts procs roots total b ss listed rows total_is procs_are roots_are = record {
     total_is = total_is;

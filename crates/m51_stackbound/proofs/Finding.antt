@@ -1,26 +1,24 @@
 -- Units found by a test are those of the layout.
-use Rattle.std.proofs.Common.{◌≡◌, ◌≤◌, ◌<◌, ◌+◌, ℕ, Bool, true, false, ◌&&◌, not, Option, Some, None, length, get_or}
-use Rattle.std.proofs.Common.{refl, sym, ap, subst, ◌∙◌, arith}
-use Rattle.std.specs.Prelude.{IfSome, List, nat_eq, nat_lt, position, slice_get}
-use Rattle.std.specs.List.{Contains, position_or_len}
+use Rattle.m51_stackbound.proofs.Common.{◌≡◌, ◌≤◌, ◌<◌, ◌+◌, ℕ, Bool, true, false, not, Option, Some, None, length}
+use Rattle.m51_stackbound.proofs.Common.{get_or, refl, sym, ap, subst, ◌∙◌, arith, nat_eq, nat_lt, Contains}
+use Rattle.m51_stackbound.proofs.Common.{common_steps, LayoutParts, IsUnitAt, IsRootAt, vectors, IsSound}
+use Rattle.std.proofs.Common.{◌&&◌}
+use Rattle.std.specs.Prelude.{IfSome, List, position, slice_get}
+use Rattle.std.specs.List.{position_or_len}
 use Rattle.std.specs.Option.{option_map_or}
 use Rattle.std.proofs.lemmas.Bool.{eq-eqb, eqb-true}
-use Rattle.std.proofs.lemmas.Grind.{common_steps}
 use Rattle.std.proofs.lemmas.List.Quantifiers.{position-Some}
 use Rattle.std.proofs.lemmas.List.Sums.{fails_before_first}
 use Rattle.std.proofs.lemmas.Option.{slice_get-get_or, slice_get_within, get_or_from_slice_get}
 use Rattle.m51_cells.specs.declared.kind.Kind.TheVariants.{Code}
 use Rattle.m51_cells.specs.Extent.{Covers, extent_of}
-use Rattle.m51_module.specs.declared.parts.LayoutParts.{LayoutParts}
 use Rattle.m51_module.specs.declared.placed.Mark.{Mark}
 use Rattle.m51_module.specs.declared.placed.Mark.TheVariants.{Absolute, Bank, Reserve, Plain, Overlaid}
 use Rattle.m51_module.specs.declared.placed.Placed.{Placed}
 use Rattle.m51_module.specs.Cells.{code_cell}
-use Rattle.m51_module.specs.Plan.{IsUnit, IsUnitAt, IsRootAt}
-use Rattle.m51_module.specs.Roots.{vectors}
-use Rattle.m51_module.specs.Sound.{IsSound}
+use Rattle.m51_module.specs.Plan.{IsUnit}
 use Rattle.m51_module.proofs.Units.{unit_kind}
-use Rattle.m51_stackbound.specs.Units.{has_address, is_absolute, begins_at, unit_where, unit_of, root_of}
+use Rattle.m51_stackbound.specs.Units.{has_address, is_marked_absolute, begins_at, unit_where, unit_of, root_of}
 
 -- a conjunction that is true has true parts
 pub both : (a b : Bool) → (a && b) ≡ true → (a ≡ true) × (b ≡ true)
@@ -31,7 +29,7 @@ both_hold : (a b : Bool) → a ≡ true → b ≡ true → (a && b) ≡ true
 both_hold true b h k = k
 both_hold false b h k = absurd (cc h)
 
--- no element before the end passes a test that has no place
+-- no element before the end passes a test that has no position
 position_none : {X : Type 0} (p : X → Bool) (xs : List X) (k : ℕ) (d : X) → position p xs ≡ None → k < length xs
     → p (get_or xs k d) ≡ false
 position_none p xs k d e below =
@@ -118,7 +116,7 @@ module _ (l : LayoutParts) (sound : IsSound l) where
   unfolding unit_of
   unit_found_at address u e = covers address u (unit_found (has_address address) l u e)
 
-  absolute_is : (m : Mark) → is_absolute m ≡ true → m ≡ Absolute
+  absolute_is : (m : Mark) → is_marked_absolute m ≡ true → m ≡ Absolute
   absolute_is Absolute h = refl
   absolute_is Bank h = absurd (cc h)
   absolute_is Reserve h = absurd (cc h)
@@ -127,7 +125,7 @@ module _ (l : LayoutParts) (sound : IsSound l) where
 
   begins : (vector u : ℕ) → Contains vectors vector → Tested (begins_at vector) l u → IsRootAt l vector u
   begins vector u is t =
-      let parts = both (is_absolute t.extent.mark) (nat_eq t.extent.base vector) t.passes in
+      let parts = both (is_marked_absolute t.extent.mark) (nat_eq t.extent.base vector) t.passes in
       record {
         vector_is = is;
         is = t.extent;
@@ -138,7 +136,8 @@ module _ (l : LayoutParts) (sound : IsSound l) where
       }
 
   begun : (vector u : ℕ) (h : IsRootAt l vector u) → begins_at vector h.is ≡ true
-  begun vector u h = both_hold (is_absolute h.is.mark) (nat_eq h.is.base vector) (ap is_absolute h.absolute)
+  begun vector u h =
+      both_hold (is_marked_absolute h.is.mark) (nat_eq h.is.base vector) (ap is_marked_absolute h.absolute)
       (eq-eqb h.is.base vector h.base)
 
   pub root_is : (vector : ℕ) (r : Option ℕ) → Contains vectors vector → IfSome r (λ u. IsRootAt l vector u)

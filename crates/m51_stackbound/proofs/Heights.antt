@@ -1,9 +1,7 @@
 -- Heights where an instruction does not end its point.
-use Rattle.std.proofs.Common.{◌≡◌, ◌<◌, ◌≤◌, ℕ, Bool, true, false, refl, arith}
-use Rattle.std.specs.Prelude.{◌&&◌, ◌||◌, nat_eq}
-use Rattle.std.proofs.lemmas.Grind.{common_steps}
-use Rattle.m51_isa.specs.declared.instr.Instr.{Instr}
-use Rattle.m51_stackbound.specs.declared.point.Point.{Point}
+use Rattle.m51_stackbound.proofs.Common.{◌≡◌, ◌<◌, ◌≤◌, ℕ, Bool, true, false, refl, arith, nat_eq, common_steps, Instr}
+use Rattle.m51_stackbound.proofs.Common.{Point}
+use Rattle.std.specs.Prelude.{◌&&◌, ◌||◌}
 use Rattle.m51_stackbound.specs.Instructions.{is_push, is_pop, is_return, is_computed}
 use Rattle.m51_stackbound.specs.Points.{ends_at, pops_below, pushes_above, sets_stack}
 

@@ -1,31 +1,29 @@
 -- Bytes of an instruction in its unit, and vectors of interrupts.
-use Rattle.std.proofs.Common.{◌≡◌, ℕ, zero, suc, ◌+◌, ◌%◌, ◌<◌, Bool, true, false, length, get_or, refl, ap, subst}
-use Rattle.std.proofs.Common.{arith, ⊎_elim}
-use Rattle.std.specs.Prelude.{◌&&◌, nat_eq}
-use Rattle.std.specs.List.{Contains}
+use Rattle.m51_stackbound.proofs.Common.{◌≡◌, ℕ, zero, suc, ◌+◌, ◌<◌, Bool, true, false, length, get_or, refl, ap}
+use Rattle.m51_stackbound.proofs.Common.{subst, arith, nat_eq, Contains, common_steps, LayoutParts, vectors, interrupts}
+use Rattle.std.proofs.Common.{◌%◌}
+use Rattle.std.proofs.Common.{⊎_elim}
+use Rattle.std.specs.Prelude.{◌&&◌}
 use Rattle.std.proofs.lemmas.Bool.Decides.{eqb_tells}
-use Rattle.std.proofs.lemmas.Grind.{common_steps}
-use Rattle.m51_module.specs.declared.parts.LayoutParts.{LayoutParts}
-use Rattle.m51_module.specs.Roots.{vectors}
-use Rattle.m51_stackbound.specs.Units.{in_one_unit, interrupts, lie_inside}
+use Rattle.m51_stackbound.specs.Units.{in_one_unit, lie_inside}
 
 and_false : (b c : Bool) → c ≡ false → (b && c) ≡ false
 and_false true c e = e
 and_false false c e = refl
 
 -- one byte outside is enough
-pub one_outside : (layout : LayoutParts) (at place count : ℕ) → place < count
-    → in_one_unit layout at ((at + place) % 65536) ≡ false → lie_inside layout at count ≡ false
-one_outside layout at place zero h e = absurd (omega (arith, h))
-one_outside layout at place (suc count) h e =
+pub one_outside : (layout : LayoutParts) (at index count : ℕ) → index < count
+    → in_one_unit layout at ((at + index) % 65536) ≡ false → lie_inside layout at count ≡ false
+one_outside layout at index zero h e = absurd (omega (arith, h))
+one_outside layout at index (suc count) h e =
     ⊎_elim
-    (λ (t : (nat_eq place count ≡ true) × (place ≡ count)). and_false (lie_inside layout at count)
+    (λ (t : (nat_eq index count ≡ true) × (index ≡ count)). and_false (lie_inside layout at count)
     (in_one_unit layout at ((at + count) % 65536))
     (subst (λ k. in_one_unit layout at ((at + k) % 65536) ≡ false) t.1 e))
-    (λ (t : (nat_eq place count ≡ false) × (place ≡ count → ⊥)).
-    let below : place < count = omega (arith, h, t.1) in
-    ap (λ b. b && in_one_unit layout at ((at + count) % 65536)) (one_outside layout at place count below e))
-    (eqb_tells place count)
+    (λ (t : (nat_eq index count ≡ false) × (index ≡ count → ⊥)).
+    let below : index < count = omega (arith, h, t.1) in
+    ap (λ b. b && in_one_unit layout at ((at + count) % 65536)) (one_outside layout at index count below e))
+    (eqb_tells index count)
 
 -- an interrupt begins at a vector
 pub interrupt_is_vector : (i d : ℕ) → i < length interrupts → Contains vectors (get_or interrupts i d)

@@ -1,14 +1,11 @@
 -- What a program with a bound keeps at each of its points.
-use Rattle.std.proofs.Common.{◌≡◌, ℕ, Bool, true, false, List, Some, refl, ap, ◌∙◌}
-use Rattle.m51_isa.specs.declared.instr.Instr.{Instr}
-use Rattle.m51_module.specs.declared.parts.LayoutParts.{LayoutParts}
-use Rattle.m51_stackbound.specs.declared.judging.Rule.{Rule}
+use Rattle.m51_stackbound.proofs.Common.{◌≡◌, ℕ, Bool, true, false, List, Some, refl, ap, ◌∙◌, Instr, LayoutParts, Rule}
+use Rattle.m51_stackbound.proofs.Common.{Point, Keeps, IsPoint, reached_address}
 use Rattle.m51_stackbound.specs.declared.judging.Rule.TheVariants.{WritesSp, Computed, PopsBelow, PushesAbove}
-use Rattle.m51_stackbound.specs.declared.point.Point.{Point}
-use Rattle.m51_stackbound.specs.Bounds.{Keeps, KeepsRules}
+use Rattle.m51_stackbound.specs.Bounds.{KeepsRules}
 use Rattle.m51_stackbound.specs.Instructions.{is_computed}
-use Rattle.m51_stackbound.specs.Points.{instruction, pops_below, pushes_above, sets_stack, IsPoint}
-use Rattle.m51_stackbound.specs.Rules.{breaks, breaks_by, place_of}
+use Rattle.m51_stackbound.specs.Points.{instruction, pops_below, pushes_above, sets_stack}
+use Rattle.m51_stackbound.specs.Rules.{breaks, breaks_by}
 
 module _ (l : LayoutParts) (image : List ℕ) (p : Point) (instr : Instr) (is : IsPoint l image p)
     (at : instruction l image p.address ≡ Some instr) where
@@ -18,7 +15,7 @@ module _ (l : LayoutParts) (image : List ℕ) (p : Point) (instr : Instr) (is : 
     where
       by : (b : Bool) → breaks rule p instr ≡ b → b ≡ false
       by false e = refl
-      by true e = absurd (keeps (place_of p)
+      by true e = absurd (keeps (reached_address p)
           (record { point = p; is_point = is; breaks = ap (breaks_by rule p) at ∙ e; place_is = refl }))
 
   pub stack_kept : KeepsRules l image → sets_stack p instr ≡ false

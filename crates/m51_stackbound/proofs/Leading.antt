@@ -1,22 +1,13 @@
 -- The path in the table takes the depth of its start, and comes first of those that do.
-use Rattle.std.proofs.Common.{◌≡◌, ◌≢◌, ◌<◌, ◌≤◌, ◌+◌, ℕ, List, [], ◌∷◌, ◌++◌, refl, sym, ap, subst, ◌∙◌, arith, ◌⊎◌}
-use Rattle.std.proofs.Common.{inl, inr, Some, None}
-use Rattle.std.specs.List.{Contains}
-use Rattle.std.proofs.lemmas.Bool.{cases_lt}
-use Rattle.m51_module.specs.declared.parts.LayoutParts.{LayoutParts}
-use Rattle.m51_module.specs.declared.start.Start.{Start}
-use Rattle.m51_module.specs.declared.start.Start.TheVariants.{At}
-use Rattle.m51_stackbound.specs.declared.paths.Next.{Next}
+use Rattle.m51_stackbound.proofs.Common.{◌≡◌, ◌≢◌, ◌<◌, ◌≤◌, ◌+◌, ℕ, List, [], ◌∷◌, ◌++◌, refl, sym, ap, subst, ◌∙◌}
+use Rattle.m51_stackbound.proofs.Common.{arith, ◌⊎◌, inl, inr, Some, None, Contains, cases_lt, LayoutParts, Start, At}
+use Rattle.m51_stackbound.proofs.Common.{Next, Point, cap, depth_in, AreSettled, CallsAt, HasHeight, IsDepth, Takes}
+use Rattle.m51_stackbound.proofs.Common.{Own, next_in, AreNexts, call_of, rank, ArePoints}
 use Rattle.m51_stackbound.specs.declared.paths.Next.TheVariants.{Unknown, Ends, Calls}
-use Rattle.m51_stackbound.specs.declared.point.Point.{Point}
 use Rattle.m51_stackbound.specs.Above.{AreLow}
-use Rattle.m51_stackbound.specs.Climb.{cap, depth_in, AreSettled}
-use Rattle.m51_stackbound.specs.Depths.{CallsAt, HasHeight, IsDepth, IsPath, Takes, Own, Call, ComesFirst}
-use Rattle.m51_stackbound.specs.Nexts.{next_by, IsNoLater, Gives, next_in, AreNexts, AreTables, called_next, IsPassed}
+use Rattle.m51_stackbound.specs.Depths.{IsPath, Call, ComesFirst}
+use Rattle.m51_stackbound.specs.Nexts.{next_by, IsNoLater, Gives, AreTables, called_next, IsPassed}
 use Rattle.m51_stackbound.specs.Nexts.{Leads, Stop, Go}
-use Rattle.m51_stackbound.specs.Points.{call_of}
-use Rattle.m51_stackbound.specs.Rules.{rank}
-use Rattle.m51_stackbound.specs.Search.{ArePoints}
 use Rattle.m51_stackbound.proofs.Raised.{at_most, entered, settled_call, settled_says, takes_most}
 use Rattle.m51_stackbound.proofs.Ways.{ends_from, calls_from, ends_height, calls_giving}
 
@@ -187,7 +178,8 @@ module _ (l : LayoutParts) (image : List ℕ) (points : List Point) (depths : Li
       let same : bytes ≡ depth_in depths (At other) = omega (arith, e, most, high) in
       let order : to ≤ other =
       call_way start height other c sum (Calls to) (calls_of_next (next_in nexts start) to is) in
-      elim (cases_lt to other) as (λ _. (rank (At to) < rank (At other)) ⊎ ((At to ≡ At other) × ComesFirst more path)) [
+      elim (cases_lt to other) as
+      (λ _. (rank (At to) < rank (At other)) ⊎ ((At to ≡ At other) × ComesFirst more path)) [
         | inl less ↦ inl (omega (arith, less))
         | inr not_less ↦
             let equal : to ≡ other = omega (arith, not_less, order) in

@@ -1,18 +1,11 @@
--- The first of several places.
-use Rattle.std.proofs.Common.{◌≡◌, ◌<◌, ◌+◌, ℕ, Bool, true, false, List, [], ◌∷◌, length, get_or, take, refl, sym, ap}
-use Rattle.std.proofs.Common.{subst, ◌∙◌, arith, ◌⊎◌, inl, inr, Option, Some, None}
-use Rattle.std.specs.Prelude.{nat_lt}
-use Rattle.std.specs.List.{Contains}
-use Rattle.std.proofs.lemmas.Grind.{common_steps}
-use Rattle.std.proofs.lemmas.List.{take_more}
-use Rattle.std.proofs.lemmas.List.Elements.{Contains-push, Contains-push_cases, Contains-append_left}
-use Rattle.m51_module.specs.declared.parts.LayoutParts.{LayoutParts}
-use Rattle.m51_stackbound.specs.declared.judging.Rule.{Rule}
-use Rattle.m51_stackbound.specs.declared.point.ReachedAddress.{ReachedAddress}
-use Rattle.m51_stackbound.specs.declared.point.Point.{Point}
+-- The first of several reached addresses.
+use Rattle.m51_stackbound.proofs.Common.{◌≡◌, ◌<◌, ◌+◌, ℕ, Bool, true, false, List, [], ◌∷◌, length, get_or, take, refl}
+use Rattle.m51_stackbound.proofs.Common.{sym, ap, subst, ◌∙◌, arith, ◌⊎◌, inl, inr, Option, Some, None, nat_lt}
+use Rattle.m51_stackbound.proofs.Common.{Contains, common_steps, take_more, Contains-push, Contains-push_cases}
+use Rattle.m51_stackbound.proofs.Common.{Contains-append_left, LayoutParts, Rule, ReachedAddress, Point, rank, IsLeast}
+use Rattle.m51_stackbound.proofs.Common.{reached_address, IsFirstBreach}
 use Rattle.m51_stackbound.specs.Points.{instruction}
-use Rattle.m51_stackbound.specs.Rules.{rank, NoLater, no_later, lesser, IsLeast, breaks_by, place_of, IsBroken}
-use Rattle.m51_stackbound.specs.Rules.{IsFirstBreach}
+use Rattle.m51_stackbound.specs.Rules.{NoLater, no_later, lesser, breaks_by, IsBroken}
 
 pub no_later_is : (p q : ReachedAddress) → no_later p q ≡ true → NoLater p q
 unfolding no_later
@@ -37,39 +30,40 @@ no_later_twice p q r (inl a) (inr b) = inl (omega (arith, a, b.0))
 no_later_twice p q r (inr a) (inl b) = inl (omega (arith, a.0, b))
 no_later_twice p q r (inr a) (inr b) = inr (a.0 ∙ b.0, omega (arith, a.1, b.1))
 
--- the same places have the same first
+-- the same reached addresses have the same first
 pub least_same : (Is New : ReachedAddress → Type 0) (r : Option ReachedAddress) → IsLeast Is r
     → ((p : ReachedAddress) → New p → Is p) → ((p : ReachedAddress) → Is p → New p) → IsLeast New r
 least_same Is New None h back on = λ p k. h p (back p k)
 least_same Is New (Some least) h back on = (on least h.0, λ p k. h.1 p (back p k))
 
--- one more place
-pub least_more : (Is New : ReachedAddress → Type 0) (r : Option ReachedAddress) (place : ReachedAddress) → IsLeast Is r
-    → ((p : ReachedAddress) → New p → Is p ⊎ (place ≡ p)) → ((p : ReachedAddress) → Is p → New p) → New place
-    → IsLeast New (Some (lesser r place))
+-- one more reached address
+pub least_more : (Is New : ReachedAddress → Type 0) (r : Option ReachedAddress) (reached : ReachedAddress)
+    → IsLeast Is r
+    → ((p : ReachedAddress) → New p → Is p ⊎ (reached ≡ p)) → ((p : ReachedAddress) → Is p → New p) → New reached
+    → IsLeast New (Some (lesser r reached))
 unfolding lesser
-least_more Is New None place h back on new = (
+least_more Is New None reached h back on new = (
   new,
-  λ p k. elim (back p k) as (λ _. NoLater place p) [
+  λ p k. elim (back p k) as (λ _. NoLater reached p) [
     | inl before ↦ absurd (h p before)
-    | inr here ↦ subst (λ q. NoLater place q) here (no_later_self place)
+    | inr here ↦ subst (λ q. NoLater reached q) here (no_later_self reached)
   ],
 )
-least_more Is New (Some old) place h back on new = by (no_later old place) refl
+least_more Is New (Some old) reached h back on new = by (no_later old reached) refl
   where
-    by : (b : Bool) → no_later old place ≡ b → IsLeast New (Some (lesser (Some old) place))
+    by : (b : Bool) → no_later old reached ≡ b → IsLeast New (Some (lesser (Some old) reached))
     by true e = rw e ((
       on old h.0,
       λ p k. elim (back p k) as (λ _. NoLater old p) [
         | inl before ↦ h.1 p before
-        | inr here ↦ subst (λ q. NoLater old q) here (no_later_is old place e)
+        | inr here ↦ subst (λ q. NoLater old q) here (no_later_is old reached e)
       ],
     ))
     by false e = rw e ((
       new,
-      λ p k. elim (back p k) as (λ _. NoLater place p) [
-        | inl before ↦ no_later_twice place old p (later_is old place e) (h.1 p before)
-        | inr here ↦ subst (λ q. NoLater place q) here (no_later_self place)
+      λ p k. elim (back p k) as (λ _. NoLater reached p) [
+        | inl before ↦ no_later_twice reached old p (later_is old reached e) (h.1 p before)
+        | inr here ↦ subst (λ q. NoLater reached q) here (no_later_self reached)
       ],
     ))
 
@@ -96,12 +90,12 @@ module _ (l : LayoutParts) (image : List ℕ) (rule : Rule) (points : List Point
   breach_passes i d r below fails h =
       least_same (IsBroken l image rule (Contains (take i points)))
       (IsBroken l image rule (Contains (take (i + 1) points))) r h
-      (λ place b. elim (front_cases points i d b.point below b.is_point) as
-      (λ _. IsBroken l image rule (Contains (take i points)) place) [
+      (λ reached b. elim (front_cases points i d b.point below b.is_point) as
+      (λ _. IsBroken l image rule (Contains (take i points)) reached) [
         | inl before ↦ record { point = b.point; is_point = before; breaks = b.breaks; place_is = b.place_is }
         | inr here ↦ absurd (cc (fails, b.breaks, here))
       ])
-      (λ place b. record {
+      (λ reached b. record {
         point = b.point;
         is_point = front_kept points i d b.point below b.is_point;
         breaks = b.breaks;
@@ -111,17 +105,17 @@ module _ (l : LayoutParts) (image : List ℕ) (rule : Rule) (points : List Point
   pub breach_more : (i : ℕ) (d : Point) (r : Option ReachedAddress) → i < length points
       → breaks_by rule (get_or points i d) (instruction l image (get_or points i d).address) ≡ true
       → IsFirstBreach l image rule (take i points) r
-      → IsFirstBreach l image rule (take (i + 1) points) (Some (lesser r (place_of (get_or points i d))))
+      → IsFirstBreach l image rule (take (i + 1) points) (Some (lesser r (reached_address (get_or points i d))))
   breach_more i d r below breaks h =
-      let at = place_of (get_or points i d) in
+      let at = reached_address (get_or points i d) in
       least_more (IsBroken l image rule (Contains (take i points)))
       (IsBroken l image rule (Contains (take (i + 1) points))) r at h
-      (λ place b. elim (front_cases points i d b.point below b.is_point) as
-      (λ _. IsBroken l image rule (Contains (take i points)) place ⊎ (at ≡ place)) [
+      (λ reached b. elim (front_cases points i d b.point below b.is_point) as
+      (λ _. IsBroken l image rule (Contains (take i points)) reached ⊎ (at ≡ reached)) [
         | inl before ↦ inl (record { point = b.point; is_point = before; breaks = b.breaks; place_is = b.place_is })
-        | inr here ↦ inr (ap place_of here ∙ b.place_is)
+        | inr here ↦ inr (ap reached_address here ∙ b.place_is)
       ])
-      (λ place b. record {
+      (λ reached b. record {
         point = b.point;
         is_point = front_kept points i d b.point below b.is_point;
         breaks = b.breaks;
@@ -130,4 +124,4 @@ module _ (l : LayoutParts) (image : List ℕ) (rule : Rule) (points : List Point
       (record { point = get_or points i d; is_point = front_next points i d below; breaks = breaks; place_is = refl })
 
   pub breach_none : IsFirstBreach l image rule [] None
-  breach_none place b = omega (arith, b.is_point.1)
+  breach_none reached b = omega (arith, b.is_point.1)

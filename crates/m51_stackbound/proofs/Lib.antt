@@ -1,3 +1,4 @@
+pub mod Common
 pub mod Finding
 pub mod Heights
 pub mod Inside

@@ -1,52 +1,46 @@
 -- What holds of the listed points holds of the points of the program.
-use Rattle.std.proofs.Common.{◌≡◌, ◌≢◌, ◌<◌, ℕ, List, Option, length, get_or, sym, ap, ◌∙◌, arith, inl, inr}
-use Rattle.std.proofs.lemmas.Bool.{cases_lt}
-use Rattle.std.proofs.lemmas.Grind.{common_steps}
-use Rattle.std.proofs.lemmas.List.Elements.{Contains-get_or}
+use Rattle.m51_stackbound.proofs.Common.{◌≡◌, ◌≢◌, ◌<◌, ℕ, List, Option, length, get_or, sym, ap, ◌∙◌, arith, inl, inr}
+use Rattle.m51_stackbound.proofs.Common.{cases_lt, common_steps, Contains-get_or, Result, Ok, Err, Contains}
+use Rattle.m51_stackbound.proofs.Common.{LayoutParts, Rule, ReachedAddress, Point, HasTwoHeights, IsFirstBreach}
+use Rattle.m51_stackbound.proofs.Common.{IsLeast, reached_address, ArePoints, HasTwo}
 use Rattle.std.proofs.lemmas.List.{length-take-le}
-use Rattle.std.specs.Prelude.{IfOk, Result, Ok, Err}
-use Rattle.std.specs.List.{Contains}
+use Rattle.std.specs.Prelude.{IfOk}
 use Rattle.m51_cells.specs.declared.memory.NoMemory.{NoMemory}
-use Rattle.m51_module.specs.declared.parts.LayoutParts.{LayoutParts}
-use Rattle.m51_stackbound.specs.declared.judging.Rule.{Rule}
-use Rattle.m51_stackbound.specs.declared.point.ReachedAddress.{ReachedAddress}
-use Rattle.m51_stackbound.specs.declared.point.Point.{Point}
-use Rattle.m51_stackbound.specs.Bounds.{Breaks, HasTwoHeights}
-use Rattle.m51_stackbound.specs.Rules.{IsBroken, IsFirstBreach, IsLeast, place_of}
-use Rattle.m51_stackbound.specs.Search.{ArePoints}
-use Rattle.m51_stackbound.specs.Twice.{HasTwo}
+use Rattle.m51_stackbound.specs.Bounds.{Breaks}
+use Rattle.m51_stackbound.specs.Rules.{IsBroken}
 use Rattle.m51_stackbound.proofs.Leasts.{least_same}
 
 pub first_of_points : (l : LayoutParts) (image : List ℕ) (rule : Rule) (points : List Point) (r : Option ReachedAddress)
     → ArePoints l image points → IsFirstBreach l image rule points r → IsLeast (Breaks l image rule) r
 first_of_points l image rule points r are h =
     least_same (IsBroken l image rule (Contains points)) (Breaks l image rule) r h
-    (λ place b. record {
+    (λ reached b. record {
       point = b.point;
       is_point = are.all b.point b.is_point;
       breaks = b.breaks;
       place_is = b.place_is;
     })
-    (λ place b. record {
+    (λ reached b. record {
       point = b.point;
       is_point = are.only b.point b.is_point;
       breaks = b.breaks;
       place_is = b.place_is;
     })
 
--- two of the listed points have the place exactly if two points of the program have it with different heights
+-- two of the listed points have the reached address exactly if two points of the program have it with different heights
 module _ (l : LayoutParts) (image : List ℕ) (points : List Point) (are : ArePoints l image points) where
-  apart_heights : (p q : Point) (place : ReachedAddress) → p ≢ q → place_of p ≡ place → place_of q ≡ place
+  apart_heights : (p q : Point) (reached : ReachedAddress) → p ≢ q → reached_address p ≡ reached → reached_address q
+      ≡ reached
       → p.height ≢ q.height
-  apart_heights p q place other h k e =
+  apart_heights p q reached other h k e =
       other (same p q (ap (λ (r : ReachedAddress). r.start) (h ∙ sym k))
       (ap (λ (r : ReachedAddress). r.address) (h ∙ sym k)) e)
     where
       same : (p q : Point) → p.start ≡ q.start → p.address ≡ q.address → p.height ≡ q.height → p ≡ q
       same p q a b c = λ i. record { start = a i; address = b i; height = c i }
 
-  heights_from_two : (place : ReachedAddress) → HasTwo points (length points) place → HasTwoHeights l image place
-  heights_from_two place h =
+  heights_from_two : (reached : ReachedAddress) → HasTwo points (length points) reached → HasTwoHeights l image reached
+  heights_from_two reached h =
       let at = h.before.0 in
       let none = h.one in
       let low : at < h.second = omega (arith, h.before.1, length-take-le h.second points (omega (arith, h.inside))) in
@@ -59,21 +53,21 @@ module _ (l : LayoutParts) (image : List ℕ) (points : List Point) (are : ArePo
         two_is = are.only (get_or points h.second none) (Contains-get_or points h.second none h.inside);
         place_one = h.place_one;
         place_two = h.place_two none;
-        heights = apart_heights h.one (get_or points h.second none) place other h.place_one (h.place_two none);
+        heights = apart_heights h.one (get_or points h.second none) reached other h.place_one (h.place_two none);
       }
 
   -- of two different indices one comes first
-  two_from : (place : ReachedAddress) (p q : Point) (i j : ℕ) → i < j → j < length points
+  two_from : (reached : ReachedAddress) (p q : Point) (i j : ℕ) → i < j → j < length points
       → ((d : Point) → get_or points i d ≡ p) → ((d : Point) → get_or points j d ≡ q)
-      → place_of p ≡ place → place_of q ≡ place → HasTwo points (length points) place
-  two_from place p q i j low below at there h k = record {
+      → reached_address p ≡ reached → reached_address q ≡ reached → HasTwo points (length points) reached
+  two_from reached p q i j low below at there h k = record {
     second = j;
     below = below;
     inside = below;
     one = p;
     before = (i, grind (arith, common_steps, low, below), grind (arith, common_steps, low, below, at p));
     place_one = h;
-    place_two = λ d. ap place_of (there d) ∙ k;
+    place_two = λ d. ap reached_address (there d) ∙ k;
   }
 
   at_any : (p : Point) (h : Contains points p) (d : Point) → get_or points h.0 d ≡ p
@@ -81,14 +75,15 @@ module _ (l : LayoutParts) (image : List ℕ) (points : List Point) (are : ArePo
     same : get_or points h.0 d ≡ get_or points h.0 p
     same = let below = h.1 in grind (arith, common_steps, below)
 
-  two_from_heights : (place : ReachedAddress) → HasTwoHeights l image place → HasTwo points (length points) place
-  two_from_heights place h =
+  two_from_heights : (reached : ReachedAddress) → HasTwoHeights l image reached → HasTwo points (length points) reached
+  two_from_heights reached h =
       let a = are.all h.one h.one_is in
       let b = are.all h.two h.two_is in
-      elim (cases_lt a.0 b.0) as (λ _. HasTwo points (length points) place) [
-        | inl low ↦ two_from place h.one h.two a.0 b.0 low b.1 (at_any h.one a) (at_any h.two b) h.place_one h.place_two
-        | inr high ↦ elim (cases_lt b.0 a.0) as (λ _. HasTwo points (length points) place) [
-          | inl low ↦ two_from place h.two h.one b.0 a.0 low a.1 (at_any h.two b) (at_any h.one a) h.place_two
+      elim (cases_lt a.0 b.0) as (λ _. HasTwo points (length points) reached) [
+        | inl low ↦ two_from reached h.one h.two a.0 b.0 low b.1 (at_any h.one a) (at_any h.two b) h.place_one
+            h.place_two
+        | inr high ↦ elim (cases_lt b.0 a.0) as (λ _. HasTwo points (length points) reached) [
+          | inl low ↦ two_from reached h.two h.one b.0 a.0 low a.1 (at_any h.two b) (at_any h.one a) h.place_two
               h.place_one
           | inr equal ↦
               let is : a.0 ≡ b.0 = omega (arith, high, equal) in
@@ -105,5 +100,5 @@ module _ (l : LayoutParts) (image : List ℕ) (points : List Point) (are : ArePo
 
   pub ok_heights : (r : Result (Option ReachedAddress) NoMemory) → IfOk r (IsLeast (HasTwo points (length points)))
       → IfOk r (IsLeast (HasTwoHeights l image))
-  ok_heights (Ok place) h = first_heights place h
+  ok_heights (Ok reached) h = first_heights reached h
   ok_heights (Err error) h = h

@@ -1,11 +1,8 @@
 -- What a set of points holds after one is added.
-use Rattle.std.proofs.Common.{◌≡◌, Bool, true, false, List, [], ◌∷◌, ◌++◌, refl, subst, arith, inl, inr}
-use Rattle.std.specs.List.{list_any}
-use Rattle.std.proofs.lemmas.Grind.{common_steps}
-use Rattle.std.proofs.lemmas.Map.Views.{Contains-from_any, list_any-from_Contains}
+use Rattle.m51_stackbound.proofs.Common.{◌≡◌, Bool, true, false, List, [], ◌∷◌, ◌++◌, refl, subst, arith, inl, inr}
+use Rattle.m51_stackbound.proofs.Common.{list_any, common_steps, Contains-from_any, list_any-from_Contains, Point}
+use Rattle.m51_stackbound.proofs.Common.{Notes, NotesAll}
 use Rattle.indexmap.specs.IndexSet.{insert_key}
-use Rattle.m51_stackbound.specs.declared.point.Point.{Point}
-use Rattle.m51_stackbound.specs.Search.{Notes, NotesAll}
 use Rattle.m51_stackbound.specs.contracts.point.PointPartialEq.TheImpl.{eq-value as point_eq}
 use Rattle.m51_stackbound.specs.contracts.point.PointEq.TheImpl.Laws.{laws-law}
 

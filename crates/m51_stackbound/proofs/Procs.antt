@@ -1,22 +1,15 @@
 -- The starts in a table by addresses, and their list.
-use Rattle.std.proofs.Common.{◌≡◌, ◌<◌, ◌+◌, ℕ, zero, suc, Bool, true, false, List, [], ◌∷◌, ◌++◌, length, get_or, set}
-use Rattle.std.proofs.Common.{take, map, replicate, refl, sym, ap, subst, ◌∙◌, arith, ◌⊎◌, inl, inr}
-use Rattle.std.specs.List.{Contains}
-use Rattle.std.proofs.lemmas.Bool.{cases_lt}
-use Rattle.std.proofs.lemmas.List.{get_or-set_same, get_or-set_other, length-set, length-replicate, map-append}
-use Rattle.std.proofs.lemmas.List.Elements.{Contains-append_left, Contains-push, Contains-push_cases}
+use Rattle.m51_stackbound.proofs.Common.{◌≡◌, ◌<◌, ◌+◌, ℕ, zero, suc, Bool, true, false, List, [], ◌∷◌, ◌++◌, length}
+use Rattle.m51_stackbound.proofs.Common.{get_or, set, take, map, replicate, refl, sym, ap, subst, ◌∙◌, arith, ◌⊎◌, inl}
+use Rattle.m51_stackbound.proofs.Common.{inr, Contains, cases_lt, get_or-set_same, get_or-set_other, length-set}
+use Rattle.m51_stackbound.proofs.Common.{length-replicate, Contains-append_left, Contains-push, Contains-push_cases}
+use Rattle.m51_stackbound.proofs.Common.{LayoutParts, Proc, Start, Reset, At, same_or_not, Rises, Point, is_noted}
+use Rattle.m51_stackbound.proofs.Common.{AreStarts, AreListed, none_in_empty}
+use Rattle.std.proofs.lemmas.List.{map-append}
 use Rattle.std.proofs.lemmas.List.Quantifiers.{all_pairs_push}
-use Rattle.m51_module.specs.declared.parts.LayoutParts.{LayoutParts}
-use Rattle.m51_module.specs.declared.stack_bound.Proc.{Proc}
-use Rattle.m51_module.specs.declared.start.Start.{Start}
-use Rattle.m51_module.specs.declared.start.Start.TheVariants.{Reset, At}
-use Rattle.m51_module.proofs.Units.{same_or_not}
-use Rattle.m51_module.specs.Rising.{Rises}
-use Rattle.m51_stackbound.specs.declared.point.Point.{Point}
-use Rattle.m51_stackbound.specs.Listing.{is_noted, with_start, HasStart, AreStarts, IsListed, AreListed}
+use Rattle.m51_stackbound.specs.Listing.{with_start, HasStart, IsListed}
 use Rattle.m51_stackbound.proofs.Leasts.{front_cases, front_kept, front_next}
 use Rattle.m51_stackbound.proofs.Rooted.{same_address}
-use Rattle.m51_cells.proofs.Small.{none_in_empty}
 
 blank_start : (n k : ℕ) → get_or (replicate n false) k false ≡ false
 blank_start zero k = refl

@@ -1,31 +1,24 @@
 -- Depths that are raised until no call gives more.
-use Rattle.std.proofs.Common.{◌≡◌, ◌<◌, ◌≤◌, ◌+◌, ℕ, Bool, true, false, ◌||◌, List, [], ◌∷◌, length, get_or, set, take}
-use Rattle.std.proofs.Common.{sum, replicate, refl, sym, ap, subst, ◌∙◌, arith, ◌⊎◌, inl, inr, Option, Some, None}
-use Rattle.std.specs.Prelude.{if◌then◌else◌}
-use Rattle.std.specs.List.{Contains}
-use Rattle.std.proofs.lemmas.Bool.{cases_lt}
-use Rattle.std.proofs.lemmas.Grind.{common_steps}
-use Rattle.std.proofs.lemmas.List.{length-replicate, get_or-set_same, get_or-set_other, length-set}
+use Rattle.m51_stackbound.proofs.Common.{◌≡◌, ◌<◌, ◌≤◌, ◌+◌, ℕ, Bool, true, false, List, [], ◌∷◌, length, get_or, set}
+use Rattle.m51_stackbound.proofs.Common.{take, replicate, refl, sym, ap, subst, ◌∙◌, arith, ◌⊎◌, inl, inr, Option, Some}
+use Rattle.m51_stackbound.proofs.Common.{None, if◌then◌else◌, Contains, cases_lt, common_steps, length-replicate}
+use Rattle.m51_stackbound.proofs.Common.{get_or-set_same, get_or-set_other, length-set, Instr, LayoutParts, same_or_not}
+use Rattle.m51_stackbound.proofs.Common.{Point, Start, Reset, At, IsCyclic, cap, depth_in, IsClimbing, Raises, IsRaised}
+use Rattle.m51_stackbound.proofs.Common.{AreSettled, CallsAt, CallsThrough, HasHeight, Takes, Own, call_of, entry_at}
+use Rattle.m51_stackbound.proofs.Common.{IsPoint, After, rank, ArePoints}
+use Rattle.std.proofs.Common.{◌||◌}
+use Rattle.std.proofs.Common.{sum}
 use Rattle.std.proofs.lemmas.List.Sums.{sum_by-set}
 use Rattle.m51_cells.proofs.ListsAndOptions.{sum_most}
-use Rattle.m51_isa.specs.declared.instr.Instr.{Instr}
 use Rattle.m51_isa.specs.declared.instr.Instr.TheVariants.{AcallAddr11, LcallAddr16}
-use Rattle.m51_module.specs.declared.parts.LayoutParts.{LayoutParts}
-use Rattle.m51_module.proofs.Units.{same_or_not}
 use Rattle.m51_stackbound.specs.declared.calls.Call.{Call as StartCall}
-use Rattle.m51_stackbound.specs.declared.point.Point.{Point}
-use Rattle.m51_module.specs.declared.start.Start.{Start}
-use Rattle.m51_module.specs.declared.start.Start.TheVariants.{Reset, At}
-use Rattle.m51_stackbound.specs.Bounds.{IsCyclic}
 use Rattle.m51_stackbound.specs.Callers.{AreCallsOf}
-use Rattle.m51_stackbound.specs.Climb.{cap, depth_in, depth_by, IsTaken, AreTaken, IsBlank, IsClimbing, Raises}
-use Rattle.m51_stackbound.specs.Climb.{IsRaised, AreSettled, SaysDepth}
-use Rattle.m51_stackbound.specs.Depths.{Calls, CallsAt, CallsThrough, Direct, Through, HasHeight, Takes, Own, Call}
+use Rattle.m51_stackbound.specs.Climb.{depth_by, TakesDepth, AreTaken, IsBlank}
+use Rattle.m51_stackbound.specs.Climb.{SaysDepth}
+use Rattle.m51_stackbound.specs.Depths.{Calls, Direct, Through, Call}
 use Rattle.m51_stackbound.specs.Instructions.{is_call, next_of, target_of}
-use Rattle.m51_stackbound.specs.Points.{after_call, call_by, call_of, called, ends_at, entry_at, follow_by, instruction}
-use Rattle.m51_stackbound.specs.Points.{pops_below, pushes_above, sets_stack, IsPoint, After}
-use Rattle.m51_stackbound.specs.Rules.{rank}
-use Rattle.m51_stackbound.specs.Search.{ArePoints}
+use Rattle.m51_stackbound.specs.Points.{after_call, call_by, called, ends_at, follow_by, instruction}
+use Rattle.m51_stackbound.specs.Points.{pops_below, pushes_above, sets_stack}
 use Rattle.m51_stackbound.proofs.CallRows.{calls_all, calls_in}
 use Rattle.m51_stackbound.proofs.Leasts.{front_cases}
 
@@ -92,7 +85,7 @@ module _ (l : LayoutParts) (image : List ℕ) where
     len = b.len;
     most = λ i below. omega (arith, b.each i below);
     taken = λ start. elim (cases_lt (rank start) (length depths)) as
-        (λ _. (depth_in depths start ≡ 0) ⊎ IsTaken l image start (depth_in depths start)) [
+        (λ _. (depth_in depths start ≡ 0) ⊎ TakesDepth l image start (depth_in depths start)) [
           | inl below ↦ inl (b.each (rank start) below)
           | inr past ↦ inl (grind (arith, common_steps, past))
         ];
@@ -110,7 +103,7 @@ module _ (l : LayoutParts) (image : List ℕ) where
     height_is = refl;
   }
 
-  height_taken : (p : Point) → IsPoint l image p → p.height ≤ 255 → IsTaken l image p.start p.height
+  height_taken : (p : Point) → IsPoint l image p → p.height ≤ 255 → TakesDepth l image p.start p.height
   height_taken p is few = record {
     path = [];
     bytes = p.height;
@@ -123,9 +116,9 @@ module _ (l : LayoutParts) (image : List ℕ) where
 
   -- what a start takes by a call
   call_taken : (depths : List ℕ) (c : StartCall) → CallsAt l image c.from c.height c.to → AreTaken l image depths
-      → IsTaken l image c.from (depth_by depths c)
+      → TakesDepth l image c.from (depth_by depths c)
   call_taken depths c call are =
-      elim (are.taken (At c.to)) as (λ _. IsTaken l image c.from (cap (c.height + 2 + depth_in depths (At c.to)))) [
+      elim (are.taken (At c.to)) as (λ _. TakesDepth l image c.from (cap (c.height + 2 + depth_in depths (At c.to)))) [
         | inl none ↦ record {
           path = At c.to ∷ [];
           bytes = c.height + 2 + 0;
@@ -143,7 +136,7 @@ module _ (l : LayoutParts) (image : List ℕ) where
 
   -- one depth is raised
   raised : (old new : List ℕ) (start : Start) (depth : ℕ) (rose : Bool) → rank start < length old → depth ≤ 256
-      → AreTaken l image old → IsTaken l image start depth → Raises start depth old new rose → AreTaken l image new
+      → AreTaken l image old → TakesDepth l image start depth → Raises start depth old new rose → AreTaken l image new
   raised old new start depth false below few are taken h = subst (λ ds. AreTaken l image ds) (sym h.1) are
   raised old new start depth true below few are taken h = subst (λ ds. AreTaken l image ds) (sym h.1) (record {
     len = length-set old (rank start) depth ∙ are.len;
@@ -154,9 +147,9 @@ module _ (l : LayoutParts) (image : List ℕ) where
           (are.most i (omega (arith, inside, length-set old (rank start) depth)))
     ];
     taken = λ s. elim (same_or_not (rank s) (rank start)) as
-        (λ _. (get_or (set old (rank start) depth) (rank s) 0 ≡ 0) ⊎ IsTaken l image s
+        (λ _. (get_or (set old (rank start) depth) (rank s) 0 ≡ 0) ⊎ TakesDepth l image s
         (get_or (set old (rank start) depth) (rank s) 0)) [
-          | inl e ↦ inr (subst (λ t. IsTaken l image t (get_or (set old (rank start) depth) (rank t) 0))
+          | inl e ↦ inr (subst (λ t. TakesDepth l image t (get_or (set old (rank start) depth) (rank t) 0))
               (sym (rank_same s start e)) (rw (get_or-set_same old (rank start) depth 0 below) taken))
           | inr other ↦ rw (get_or-set_other old (rank start) (rank s) depth 0 other) (are.taken s)
         ];
@@ -177,7 +170,7 @@ module _ (l : LayoutParts) (image : List ℕ) where
     pub more : rose ≡ true → sum old < sum new
 
   has_risen : (old new : List ℕ) (start : Start) (depth : ℕ) (rose : Bool) → rank start < length old → depth ≤ 256
-      → AreTaken l image old → IsTaken l image start depth → Raises start depth old new rose
+      → AreTaken l image old → TakesDepth l image start depth → Raises start depth old new rose
       → HasRisen old new start depth rose
   has_risen old new start depth false below few are taken h =
       subst (λ ds. HasRisen old ds start depth false) (sym h.1) (record {

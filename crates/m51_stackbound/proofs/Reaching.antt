@@ -1,19 +1,14 @@
 -- The search for points finds those that are, and no others.
-use Rattle.std.proofs.Common.{◌≡◌, ◌≢◌, ◌<◌, ◌≤◌, ◌+◌, ℕ, List, [], ◌∷◌, ◌++◌, length, get_or, refl, sym, subst, ◌∙◌}
-use Rattle.std.proofs.Common.{arith, ◌⊎◌, inl, inr}
-use Rattle.std.specs.List.{Contains}
-use Rattle.std.proofs.lemmas.Bool.{cases_lt}
-use Rattle.std.proofs.lemmas.Grind.{common_steps}
-use Rattle.std.proofs.lemmas.List.Elements.{Contains-get_or, Contains-push, Contains-push_cases, Contains-append_left}
+use Rattle.m51_stackbound.proofs.Common.{◌≡◌, ◌≢◌, ◌<◌, ◌≤◌, ◌+◌, ℕ, List, [], ◌∷◌, ◌++◌, length, get_or, refl, sym}
+use Rattle.m51_stackbound.proofs.Common.{subst, ◌∙◌, arith, ◌⊎◌, inl, inr, Contains, cases_lt, common_steps}
+use Rattle.m51_stackbound.proofs.Common.{Contains-get_or, Contains-push, Contains-push_cases, Contains-append_left}
+use Rattle.m51_stackbound.proofs.Common.{contains_after, first_or_after, none_in_empty, Result, Ok, Err, LayoutParts}
+use Rattle.m51_stackbound.proofs.Common.{Point, successors, IsReached, First, After, Notes, NotesAll}
 use Rattle.std.proofs.lemmas.List.Quantifiers.{all_pairs_push}
-use Rattle.m51_cells.proofs.Small.{contains_after, first_or_after, none_in_empty}
 use Rattle.m51_cells.specs.declared.limits.TheConstants.{MOST_POINTS}
-use Rattle.std.specs.Prelude.{IfOk, Option, Some, None, Result, Ok, Err}
+use Rattle.std.specs.Prelude.{IfOk, Option, Some, None}
 use Rattle.m51_cells.specs.declared.memory.NoMemory.{NoMemory}
-use Rattle.m51_module.specs.declared.parts.LayoutParts.{LayoutParts}
-use Rattle.m51_stackbound.specs.declared.point.Point.{Point}
-use Rattle.m51_stackbound.specs.Points.{successors, IsReached, First, After}
-use Rattle.m51_stackbound.specs.Search.{Notes, NotesAll, AreDifferent, AreReached, AreTooMany, Finds}
+use Rattle.m51_stackbound.specs.Search.{AreDifferent, AreReached, AreTooMany, Finds}
 
 -- what adding points does to a list: it grows at its end by what is new
 pub record Grows (old new : List Point) (added : Point → Type 0) : Type 0 where

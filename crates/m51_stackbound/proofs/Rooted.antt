@@ -1,16 +1,10 @@
 -- Points and the starts that they are of: what is entered, what covers it, and which root leads to it.
-use Rattle.std.proofs.Common.{◌≡◌, ◌≤◌, ◌+◌, ℕ, zero, suc, List, [], ◌∷◌, map, refl, sym, ap, subst, ◌∙◌, arith, ◌⊎◌}
-use Rattle.std.proofs.Common.{inl, inr}
-use Rattle.std.specs.List.{Contains}
-use Rattle.m51_module.specs.declared.parts.LayoutParts.{LayoutParts}
-use Rattle.m51_module.specs.declared.start.Start.{Start}
-use Rattle.m51_module.specs.declared.start.Start.TheVariants.{Reset, At}
-use Rattle.m51_stackbound.specs.declared.point.Point.{Point}
-use Rattle.m51_stackbound.specs.Bounds.{Nothing, One, ComesTo}
-use Rattle.m51_stackbound.specs.Depths.{CallsAt, HasHeight, Takes, Own, Call}
-use Rattle.m51_stackbound.specs.Points.{entry_at, first_points, point_at, IsPoint, IsReached, First, After}
-use Rattle.m51_stackbound.specs.Units.{handlers}
-use Rattle.m51_cells.proofs.Small.{contains_after, first_or_after, none_in_empty}
+use Rattle.m51_stackbound.proofs.Common.{◌≡◌, ◌≤◌, ◌+◌, ℕ, zero, suc, List, [], ◌∷◌, map, refl, sym, ap, subst, ◌∙◌}
+use Rattle.m51_stackbound.proofs.Common.{arith, ◌⊎◌, inl, inr, Contains, LayoutParts, Start, Reset, At, Point, Nothing}
+use Rattle.m51_stackbound.proofs.Common.{One, ComesTo, CallsAt, HasHeight, Takes, Own, entry_at, first_points, point_at}
+use Rattle.m51_stackbound.proofs.Common.{IsPoint, IsReached, First, After, handlers, contains_after, first_or_after}
+use Rattle.m51_stackbound.proofs.Common.{none_in_empty}
+use Rattle.m51_stackbound.specs.Depths.{Call}
 use Rattle.m51_stackbound.proofs.Reaching.{contains_first}
 use Rattle.m51_stackbound.proofs.Stepping.{steps_to}
 

@@ -1,18 +1,13 @@
 -- Where the successors of a point are: under its own start, or at the entry of a start that it calls.
-use Rattle.std.proofs.Common.{◌≡◌, ℕ, Bool, true, false, List, [], ◌∷◌, ◌++◌, refl, sym, ap, subst, ◌⊎◌, inl, inr}
-use Rattle.std.proofs.Common.{Option, Some, None}
-use Rattle.std.specs.Prelude.{if◌then◌else◌, is_some}
-use Rattle.std.specs.List.{Contains}
+use Rattle.m51_stackbound.proofs.Common.{◌≡◌, ℕ, Bool, true, false, List, [], ◌∷◌, ◌++◌, refl, sym, ap, subst, ◌⊎◌, inl}
+use Rattle.m51_stackbound.proofs.Common.{inr, Option, Some, None, if◌then◌else◌, is_some, Contains, Instr, LayoutParts}
+use Rattle.m51_stackbound.proofs.Common.{Point, call_of, entry_at, point_at, successors, first_or_after, none_in_empty}
 use Rattle.std.proofs.lemmas.List.Elements.{Contains-append_cases}
-use Rattle.m51_isa.specs.declared.instr.Instr.{Instr}
-use Rattle.m51_module.specs.declared.parts.LayoutParts.{LayoutParts}
 use Rattle.m51_module.specs.Walks.{Edges}
-use Rattle.m51_stackbound.specs.declared.point.Point.{Point}
 use Rattle.m51_stackbound.specs.Instructions.{is_call, is_jump, next_of, target_of}
-use Rattle.m51_stackbound.specs.Points.{after_call, after_instr, at_next, at_target, call_by, call_of, called, ends_at}
-use Rattle.m51_stackbound.specs.Points.{entry_at, follow, follow_by, height_after, instruction, point_at, successors}
-use Rattle.m51_stackbound.specs.Units.{counts, in_one_unit, joined, same, unit_of}
-use Rattle.m51_cells.proofs.Small.{first_or_after, none_in_empty}
+use Rattle.m51_stackbound.specs.Points.{after_call, after_instr, at_next, at_target, call_by, called, ends_at}
+use Rattle.m51_stackbound.specs.Points.{follow, follow_by, height_after, instruction}
+use Rattle.m51_stackbound.specs.Units.{counts, in_one_unit, same_or_edge, same, unit_of}
 
 -- a unit covers the address
 abbrev pub is_covered : LayoutParts → ℕ → Bool
@@ -46,7 +41,7 @@ same_right (Some a) (Some b) h = refl
 same_right (Some a) None h = absurd (cc h)
 same_right None two h = absurd (cc h)
 
-joined_right : (edges : Edges) (one two : Option ℕ) → joined edges one two ≡ true → is_some two ≡ true
+joined_right : (edges : Edges) (one two : Option ℕ) → same_or_edge edges one two ≡ true → is_some two ≡ true
 joined_right edges (Some a) (Some b) h = refl
 joined_right edges (Some a) None h = absurd (cc h)
 joined_right edges None two h = absurd (cc h)
@@ -80,7 +75,8 @@ module _ (l : LayoutParts) (p : Point) where
   unfolding at_target
   target_within None height q h = absurd (none_in_empty q h)
   target_within (Some target) height q h =
-      elim (from_cond (counts l p.address target) (point_at p.start target height ∷ []) [] q h) as (λ _. IsWithin l p q) [
+      elim (from_cond (counts l p.address target) (point_at p.start target height ∷ []) [] q h) as
+      (λ _. IsWithin l p q) [
         | inl t ↦ at_point target height q (target_covered target t.0) t.1
         | inr none ↦ absurd (none_in_empty q none.1)
       ]

@@ -1,9 +1,7 @@
 -- The total is the sum of depths, where the roots have depths.
-use Rattle.std.proofs.Common.{◌≤◌, ◌+◌, ℕ, List, refl, subst, sym, arith}
-use Rattle.m51_module.specs.declared.parts.LayoutParts.{LayoutParts}
-use Rattle.m51_module.specs.declared.start.Start.TheVariants.{Reset}
-use Rattle.m51_stackbound.specs.Bounds.{Adds, Nothing, One, Two, ComesTo, IsTotal}
-use Rattle.m51_stackbound.specs.Depths.{IsDepth}
+use Rattle.m51_stackbound.proofs.Common.{◌≤◌, ◌+◌, ℕ, List, refl, subst, sym, arith, LayoutParts, Reset, Nothing, One}
+use Rattle.m51_stackbound.proofs.Common.{ComesTo, IsTotal, IsDepth}
+use Rattle.m51_stackbound.specs.Bounds.{Adds, Two}
 use Rattle.m51_stackbound.specs.Laws.{DepthsAdd, NoHandler, OneHandler, TwoHandlers, IsSumOfDepths, HaveDepths}
 use Rattle.m51_stackbound.specs.Laws.{TotalIsSumOfDepths}
 

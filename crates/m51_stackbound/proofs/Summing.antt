@@ -1,15 +1,9 @@
 -- The sum by the table is the total, and SP may exceed 255 where a depth is above 255.
-use Rattle.std.proofs.Common.{◌≤◌, ◌+◌, ℕ, List, refl, subst, arith, inl, inr}
-use Rattle.std.specs.List.{Contains}
-use Rattle.m51_module.specs.declared.parts.LayoutParts.{LayoutParts}
-use Rattle.m51_module.specs.declared.start.Start.{Start}
-use Rattle.m51_module.specs.declared.start.Start.TheVariants.{Reset, At}
-use Rattle.m51_stackbound.specs.Bounds.{Adds, Nothing, One, Two, ComesTo, IsTotal}
-use Rattle.m51_stackbound.specs.Climb.{depth_in}
-use Rattle.m51_stackbound.specs.Depths.{HasHeight, IsDepth}
-use Rattle.m51_stackbound.specs.Points.{entry_at, point_at}
-use Rattle.m51_stackbound.specs.Totals.{OneAdds, TwoAdd, IsSum}
-use Rattle.m51_stackbound.specs.Units.{handlers}
+use Rattle.m51_stackbound.proofs.Common.{◌≤◌, ◌+◌, ℕ, List, refl, subst, arith, inl, inr, Contains, LayoutParts, Start}
+use Rattle.m51_stackbound.proofs.Common.{Reset, At, Nothing, One, ComesTo, IsTotal, depth_in, HasHeight, IsDepth}
+use Rattle.m51_stackbound.proofs.Common.{entry_at, point_at, IsSum, handlers}
+use Rattle.m51_stackbound.specs.Bounds.{Adds, Two}
+use Rattle.m51_stackbound.specs.Totals.{OneAdds, TwoAdd}
 use Rattle.m51_stackbound.proofs.Rooted.{handler_first, reset_first}
 
 module _ (l : LayoutParts) (image : List ℕ) (depths : List ℕ)

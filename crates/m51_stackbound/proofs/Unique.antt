@@ -1,33 +1,21 @@
 -- The answer is unique: two answers that are tied, are the same.
-use Rattle.std.proofs.Common.{◌≡◌, ◌<◌, ◌≤◌, ℕ, zero, suc, List, [], ◌∷◌, length, get_or, map, refl, sym, ap, subst}
-use Rattle.std.proofs.Common.{◌∙◌, arith, inl, inr}
-use Rattle.std.specs.Prelude.{Some, Result, Ok, Err}
-use Rattle.std.specs.List.{Contains}
-use Rattle.std.proofs.lemmas.Bool.{cases_lt}
-use Rattle.m51_module.specs.declared.parts.LayoutParts.{LayoutParts}
-use Rattle.m51_module.specs.declared.stack_bound.Proc.{Proc}
-use Rattle.m51_module.specs.declared.stack_bound.RootDepth.{RootDepth}
-use Rattle.m51_module.specs.declared.stack_bound.StackBound.{StackBound}
+use Rattle.m51_stackbound.proofs.Common.{◌≡◌, ◌<◌, ◌≤◌, ℕ, zero, suc, List, [], ◌∷◌, length, get_or, map, refl, sym, ap}
+use Rattle.m51_stackbound.proofs.Common.{subst, ◌∙◌, arith, inl, inr, Result, Ok, Err, Contains, cases_lt, LayoutParts}
+use Rattle.m51_stackbound.proofs.Common.{Proc, RootDepth, StackBound, Start, Reset, At, IsUnitAt, Rises, IsSound}
+use Rattle.m51_stackbound.proofs.Common.{ReachedAddress, HasTwoHeights, IsCyclic, IsTotal, Keeps, IsDepth, Takes}
+use Rattle.m51_stackbound.proofs.Common.{IsLeast, rank, handlers, first_or_after, none_in_empty, First, first_points}
+use Rattle.std.specs.Prelude.{Some}
 use Rattle.m51_module.specs.declared.stack_bound.StackError.{StackError}
 use Rattle.m51_module.specs.declared.stack_bound.StackError.TheVariants.{K1, K2, K3, K4, K5, K6, Limit, Memory}
-use Rattle.m51_module.specs.declared.start.Start.{Start}
-use Rattle.m51_module.specs.declared.start.Start.TheVariants.{Reset, At}
-use Rattle.m51_module.specs.Plan.{IsUnitAt}
-use Rattle.m51_module.specs.Rising.{Rises}
-use Rattle.m51_module.specs.Sound.{IsSound}
 use Rattle.m51_module.proofs.Units.{one_root, one_unit}
 use Rattle.m51_stackbound.specs.declared.judging.Rule.TheVariants.{WritesSp, Computed, PopsBelow}
-use Rattle.m51_stackbound.specs.declared.point.ReachedAddress.{ReachedAddress}
-use Rattle.m51_stackbound.specs.Bounds.{AreEach, AreFew, Answers, Breaks, HasTwoHeights, IsBound, IsCyclic, IsProc}
-use Rattle.m51_stackbound.specs.Bounds.{IsRootDepth, IsTooDeep, IsTotal, Keeps}
-use Rattle.m51_stackbound.specs.Depths.{ComesFirst, IsDepth, IsPath, Takes}
+use Rattle.m51_stackbound.specs.Bounds.{AreEach, AreFew, Answers, Breaks, IsBound, IsProc}
+use Rattle.m51_stackbound.specs.Bounds.{IsRootDepth, IsTooDeep}
+use Rattle.m51_stackbound.specs.Depths.{ComesFirst, IsPath}
 use Rattle.m51_stackbound.specs.Laws.{IsTied, AnswerIsUnique}
-use Rattle.m51_stackbound.specs.Rules.{IsLeast, NoLater, rank}
-use Rattle.m51_stackbound.specs.Units.{handlers}
+use Rattle.m51_stackbound.specs.Rules.{NoLater}
 use Rattle.m51_stackbound.proofs.Crowding.{few_reached}
 use Rattle.m51_stackbound.proofs.Raised.{rank_same}
-use Rattle.m51_cells.proofs.Small.{first_or_after, none_in_empty}
-use Rattle.m51_stackbound.specs.Points.{First, first_points}
 
 -- how far the program passes before this answer comes
 stage : Result StackBound StackError → ℕ
@@ -41,7 +29,7 @@ stage (Err K6) = 6
 stage (Ok b) = 7
 stage (Err Memory) = 8
 
--- the first place, or start, is one
+-- the first reached address, or start, is one
 one_place : (Is : ReachedAddress → Type 0) (p q : ReachedAddress) → IsLeast Is (Some p) → IsLeast Is (Some q) → p ≡ q
 one_place Is p q h k = by (h.1 q k.0) (k.1 p h.0)
   where
@@ -213,7 +201,7 @@ module _ (l : LayoutParts) (image : List ℕ) where
     Rung (suc (suc zero)) = Keeps l image Computed
     Rung (suc (suc (suc zero))) = Keeps l image PopsBelow
     Rung (suc (suc (suc (suc zero)))) = (start : Start) → IsCyclic l image start → ⊥
-    Rung (suc (suc (suc (suc (suc zero))))) = (place : ReachedAddress) → HasTwoHeights l image place → ⊥
+    Rung (suc (suc (suc (suc (suc zero))))) = (reached : ReachedAddress) → HasTwoHeights l image reached → ⊥
     Rung (suc (suc (suc (suc (suc (suc n)))))) = IsTooDeep l image → ⊥
 
     -- all rungs below
@@ -222,7 +210,7 @@ module _ (l : LayoutParts) (image : List ℕ) where
     Passes (suc n) = Passes n × Rung n
 
     too_deep : (b : StackBound) → b.total ≤ 255 → IsBound l image b → IsTooDeep l image → ⊥
-    too_deep b few h (inl (place, breaks)) = h.no_push place breaks
+    too_deep b few h (inl (reached, breaks)) = h.no_push reached breaks
     too_deep b few h (inr (value, comes, high)) = let most = h.total.most value comes in omega (arith, most, high, few)
 
     passes : (r : Result StackBound StackError) → IsTied r → Answers l image r → Passes (stage r)

@@ -1,25 +1,23 @@
 -- What walks over rows find, and which starts do not call themselves.
-use Rattle.std.proofs.Common.{◌≡◌, ◌<◌, ◌≤◌, ◌+◌, ◌-◌, ◌*◌, ◌↔◌, ℕ, Bool, true, false, List, [], ◌∷◌, ◌++◌, length}
-use Rattle.std.proofs.Common.{get_or, set, replicate, refl, sym, ap, subst, ◌∙◌, arith, ◌⊎◌, inl, inr, append_assoc}
+use Rattle.m51_stackbound.proofs.Common.{◌≡◌, ◌<◌, ◌≤◌, ◌+◌, ◌-◌, ℕ, Bool, true, false, List, [], ◌∷◌, ◌++◌, length}
+use Rattle.m51_stackbound.proofs.Common.{get_or, set, replicate, refl, sym, ap, subst, ◌∙◌, arith, ◌⊎◌, inl, inr}
+use Rattle.m51_stackbound.proofs.Common.{Contains, nat_eq, cases_lt, common_steps, get_or-set_same, get_or-set_other}
+use Rattle.m51_stackbound.proofs.Common.{length-set, length-replicate, Contains-append_left, Contains-get_or}
+use Rattle.m51_stackbound.proofs.Common.{Contains-push, Contains-push_cases, first_or_after, none_in_empty, LayoutParts}
+use Rattle.m51_stackbound.proofs.Common.{At, same_or_not, AreCallRows, AreCleared, GoesOn, IsClosed, callee_row}
+use Rattle.m51_stackbound.proofs.Common.{CallsThrough}
+use Rattle.std.proofs.Common.{◌*◌, ◌↔◌}
+use Rattle.std.proofs.Common.{append_assoc}
 use Rattle.std.proofs.Common.{length-append}
-use Rattle.std.specs.List.{Contains, sum_by}
-use Rattle.std.specs.Prelude.{nat_eq}
-use Rattle.std.proofs.lemmas.Bool.{cases_lt}
+use Rattle.std.specs.List.{sum_by}
 use Rattle.std.proofs.lemmas.Bool.Decides.{eqb_tells}
-use Rattle.std.proofs.lemmas.Grind.{common_steps}
-use Rattle.std.proofs.lemmas.List.{append-nil, get_or_append_left, get_or-append_right, get_or-set_same}
-use Rattle.std.proofs.lemmas.List.{get_or-set_other, length-set, length-replicate}
-use Rattle.std.proofs.lemmas.List.Elements.{Contains-append_left, Contains-append_cases, Contains-get_or, Contains-push}
-use Rattle.std.proofs.lemmas.List.Elements.{Contains-push_cases}
+use Rattle.std.proofs.lemmas.List.{append-nil, get_or_append_left, get_or-append_right}
+use Rattle.std.proofs.lemmas.List.Elements.{Contains-append_cases}
 use Rattle.std.proofs.lemmas.List.Folds.{sum_by-replicate}
 use Rattle.std.proofs.lemmas.List.Sums.{sum_by-set}
-use Rattle.m51_cells.proofs.Small.{first_or_after, none_in_empty}
-use Rattle.m51_module.specs.declared.parts.LayoutParts.{LayoutParts}
-use Rattle.m51_module.specs.declared.start.Start.TheVariants.{At}
-use Rattle.m51_module.proofs.Units.{same_or_not}
-use Rattle.m51_stackbound.specs.Callers.{AreCallRows, AreCleared, AreMarked, GoesOn, HasCallees, IsClosed, Leads, Once}
-use Rattle.m51_stackbound.specs.Callers.{one_unmarked, Over, row_of, Walks, with_clear}
-use Rattle.m51_stackbound.specs.Depths.{CallsThrough, Direct, Through}
+use Rattle.m51_stackbound.specs.Callers.{AreMarked, HasCallees, Leads, Once}
+use Rattle.m51_stackbound.specs.Callers.{one_unmarked, Over, Walks, with_clear}
+use Rattle.m51_stackbound.specs.Depths.{Direct, Through}
 
 blank_mark : (n k : ℕ) → get_or (replicate n false) k false ≡ false
 blank_mark n k = grind (arith, common_steps)
@@ -157,7 +155,7 @@ pub record IsWalking (rows : List (List ℕ)) (from : ℕ) (old starts : List �
   pub looked : (i : ℕ) → length old ≤ i → i < next → i < length starts → HasCallees rows starts (get_or starts i 0)
 
 module _ (rows : List (List ℕ)) (from : ℕ) (old : List ℕ) where
-  pub walk_first : (starts : List ℕ) → GoesOn old (row_of rows from) starts
+  pub walk_first : (starts : List ℕ) → GoesOn old (callee_row rows from) starts
       → IsWalking rows from old starts (length old)
   walk_first starts g = record {
     more = g.more;
@@ -168,7 +166,7 @@ module _ (rows : List (List ℕ)) (from : ℕ) (old : List ℕ) where
   }
 
   pub walk_step : (now new : List ℕ) (next : ℕ) → length old ≤ next → next < length now
-      → IsWalking rows from old now next → GoesOn now (row_of rows (get_or now next 0)) new
+      → IsWalking rows from old now next → GoesOn now (callee_row rows (get_or now next 0)) new
       → IsWalking rows from old new (next + 1)
   walk_step now new next high below w g =
       let via : ℕ = get_or now next 0 in
@@ -179,18 +177,18 @@ module _ (rows : List (List ℕ)) (from : ℕ) (old : List ℕ) where
           | inl before ↦ w.only a before
           | inr later ↦ Over via a (w.only via (added old w.more now next w.is high below)) (g.from a later)
         ];
-        begun = λ a k. went_kept now (row_of rows via) new g a (w.begun a k);
+        begun = λ a k. went_kept now (callee_row rows via) new g a (w.begun a k);
         looked = λ i up low inside a k. elim (cases_lt i next) as (λ _. Contains new a) [
           | inl early ↦
               let within : i < length now = omega (arith, early, below) in
-              went_kept now (row_of rows via) new g a
+              went_kept now (callee_row rows via) new g a
               (w.looked i up early within a
-              (subst (λ n. Contains (row_of rows n) a) (went_front now (row_of rows via) new g i 0 within) k))
+              (subst (λ n. Contains (callee_row rows n) a) (went_front now (callee_row rows via) new g i 0 within) k))
           | inr late ↦
               let is : i ≡ next = omega (arith, late, low) in
               let same : get_or new i 0 ≡ via = ap (λ n. get_or new n 0) is
-              ∙ went_front now (row_of rows via) new g next 0 below in
-              g.all a (subst (λ n. Contains (row_of rows n) a) same k)
+              ∙ went_front now (callee_row rows via) new g next 0 below in
+              g.all a (subst (λ n. Contains (callee_row rows n) a) same k)
         ];
       }
 
@@ -243,7 +241,7 @@ module _ (rows : List (List ℕ)) (from : ℕ) (old : List ℕ) where
             | inr here ↦ here b called
           ]
           | inr last ↦ elim (first_or_after from [] a last) as (λ _. Contains new b) [
-            | inl here ↦ w.begun b (subst (λ n. Contains (row_of rows n) b) (sym here) called)
+            | inl here ↦ w.begun b (subst (λ n. Contains (callee_row rows n) b) (sym here) called)
             | inr none ↦ absurd (none_in_empty a none)
           ]
         ])

@@ -1,21 +1,13 @@
 -- The table of how paths continue: of the ways in which points give a depth it keeps the one that comes first.
-use Rattle.std.proofs.Common.{◌≡◌, ◌≢◌, ◌<◌, ◌≤◌, ◌+◌, ℕ, zero, suc, Bool, true, false, List, [], length, get_or, set}
-use Rattle.std.proofs.Common.{take, replicate, refl, sym, ap, subst, ◌∙◌, arith, ◌⊎◌, inl, inr, Option, Some, None}
-use Rattle.std.specs.Prelude.{if◌then◌else◌, min, nat_eq}
+use Rattle.m51_stackbound.proofs.Common.{◌≡◌, ◌≢◌, ◌<◌, ◌≤◌, ◌+◌, ℕ, zero, suc, Bool, true, false, List, [], length}
+use Rattle.m51_stackbound.proofs.Common.{get_or, set, take, replicate, refl, sym, ap, subst, ◌∙◌, arith, ◌⊎◌, inl, inr}
+use Rattle.m51_stackbound.proofs.Common.{Option, Some, None, if◌then◌else◌, nat_eq, common_steps, get_or-set_same}
+use Rattle.m51_stackbound.proofs.Common.{get_or-set_other, length-set, length-replicate, LayoutParts, Start, At}
+use Rattle.m51_stackbound.proofs.Common.{same_or_not, Next, Point, depth_in, next_in, AreNexts, call_of, rank}
+use Rattle.std.specs.Prelude.{min}
 use Rattle.std.proofs.lemmas.Bool.{eq-eqb, eqb-true}
-use Rattle.std.proofs.lemmas.Grind.{common_steps}
-use Rattle.std.proofs.lemmas.List.{get_or-set_same, get_or-set_other, length-set, length-replicate}
-use Rattle.m51_module.specs.declared.parts.LayoutParts.{LayoutParts}
-use Rattle.m51_module.specs.declared.start.Start.{Start}
-use Rattle.m51_module.specs.declared.start.Start.TheVariants.{At}
-use Rattle.m51_module.proofs.Units.{same_or_not}
-use Rattle.m51_stackbound.specs.declared.paths.Next.{Next}
 use Rattle.m51_stackbound.specs.declared.paths.Next.TheVariants.{Unknown, Ends, Calls}
-use Rattle.m51_stackbound.specs.declared.point.Point.{Point}
-use Rattle.m51_stackbound.specs.Climb.{depth_in}
-use Rattle.m51_stackbound.specs.Nexts.{next_by, next_called, earlier, IsNoLater, Gives, IsEarliest, next_in, AreNexts}
-use Rattle.m51_stackbound.specs.Points.{call_of}
-use Rattle.m51_stackbound.specs.Rules.{rank}
+use Rattle.m51_stackbound.specs.Nexts.{next_by, next_called, earlier, IsNoLater, Gives, IsEarliest}
 use Rattle.m51_stackbound.proofs.Leasts.{front_cases, front_kept, front_next}
 use Rattle.m51_stackbound.proofs.Raised.{rank_same}
 
@@ -174,22 +166,23 @@ module _ (l : LayoutParts) (image : List ℕ) (points : List Point) (depths : Li
     -- the start of the newest point
     one_more : (start : Start) (old : Next) → here.start ≡ start → IsEarliest l image (take i points) depths start old
         → IsEarliest l image (take (i + 1) points) depths start (earlier old way)
-    one_more start old s h = record {
-      given = elim (earlier_cases old way) as
-          (λ _. (earlier old way ≡ Unknown) ⊎ Gives l image (take (i + 1) points) depths start (earlier old way)) [
+    one_more start o s h = record {
+      given = elim (earlier_cases o way) as
+          (λ _. (earlier o way ≡ Unknown) ⊎ Gives l image (take (i + 1) points) depths start (earlier o way)) [
             | inl e ↦ elim h.given as
-                (λ _. (earlier old way ≡ Unknown) ⊎ Gives l image (take (i + 1) points) depths start (earlier old way)) [
+                (λ _. (earlier o way ≡ Unknown) ⊎ Gives l image (take (i + 1) points) depths start (earlier o way)) [
                   | inl none ↦ inl (e ∙ none)
-                  | inr g ↦ inr (subst (λ n. Gives l image (take (i + 1) points) depths start n) (sym e) (kept start old g))
+                  | inr g ↦ inr
+                      (subst (λ n. Gives l image (take (i + 1) points) depths start n) (sym e) (kept start o g))
                 ]
             | inr e ↦ inr (subst (λ n. Gives l image (take (i + 1) points) depths start n) (sym e) (newest start s))
           ];
       earliest = λ p k q. elim (front_cases points i d p below k) as
-          (λ _. IsNoLater (earlier old way) (next_by depths p (call_of l image p))) [
-            | inl before ↦ no_later_twice (earlier old way) old (next_by depths p (call_of l image p))
-                (earlier_first old way) (h.earliest p before q)
-            | inr is ↦ subst (λ (r : Point). IsNoLater (earlier old way) (next_by depths r (call_of l image r))) is
-                (earlier_second old way)
+          (λ _. IsNoLater (earlier o way) (next_by depths p (call_of l image p))) [
+            | inl before ↦ no_later_twice (earlier o way) o (next_by depths p (call_of l image p))
+                (earlier_first o way) (h.earliest p before q)
+            | inr is ↦ subst (λ (r : Point). IsNoLater (earlier o way) (next_by depths r (call_of l image r))) is
+                (earlier_second o way)
           ];
     }
 

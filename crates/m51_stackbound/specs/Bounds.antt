@@ -17,7 +17,7 @@ use Rattle.m51_module.specs.declared.start.Start.{Start}
 use Rattle.m51_module.specs.declared.start.Start.TheVariants.{Reset, At}
 use Rattle.m51_stackbound.specs.Depths.{CallsThrough, HasHeight, IsDepth, IsPath, Takes}
 use Rattle.m51_stackbound.specs.Points.{IsPoint}
-use Rattle.m51_stackbound.specs.Rules.{IsBroken, IsLeast, place_of, rank}
+use Rattle.m51_stackbound.specs.Rules.{IsBroken, IsLeast, reached_address, rank}
 use Rattle.m51_stackbound.specs.Search.{ArePoints, HasTooMany}
 use Rattle.m51_stackbound.specs.Units.{handlers}
 
@@ -29,19 +29,19 @@ AreEach Is (v ∷ vectors) [] = ⊥
 AreEach Is (v ∷ vectors) (r ∷ more) = Is v r × AreEach Is vectors more
 
 module _ (l : LayoutParts) (image : List ℕ) where
-  -- a point of the program breaks the rule at the place
+  -- a point of the program breaks the rule at the reached address
   abbrev pub Breaks : Rule → ReachedAddress → Type 0
   Breaks rule = IsBroken l image rule (IsPoint l image)
 
   -- no point breaks the rule
   abbrev pub Keeps : Rule → Type 0
-  Keeps rule = (place : ReachedAddress) → Breaks rule place → ⊥
+  Keeps rule = (reached : ReachedAddress) → Breaks rule reached → ⊥
 
   -- there are not too many points
   abbrev pub AreFew : Type 0
   AreFew = (points : List Point) × ArePoints l image points
 
-  -- the place is the first at which the rule is broken
+  -- the reached address is the first at which the rule is broken
   abbrev pub IsFirst : Rule → Start → ℕ → Type 0
   IsFirst rule start at = IsLeast (Breaks rule) (Some (record { start = start; address = at }))
 
@@ -71,20 +71,20 @@ module _ (l : LayoutParts) (image : List ℕ) where
     pub rules : KeepsRules
     pub no_cycle : (start : Start) → IsCyclic start → ⊥
 
-  -- K5: two points have the place and different heights
-  pub record HasTwoHeights (place : ReachedAddress) : Type 0 where
+  -- K5: two points have the reached address and different heights
+  pub record HasTwoHeights (reached : ReachedAddress) : Type 0 where
     pub one : Point
     pub two : Point
     pub one_is : IsPoint l image one
     pub two_is : IsPoint l image two
-    pub place_one : place_of one ≡ place
-    pub place_two : place_of two ≡ place
+    pub place_one : reached_address one ≡ reached
+    pub place_two : reached_address two ≡ reached
     pub heights : one.height ≢ two.height
 
   -- each address of a start has one height
   pub record KeepsHeights : Type 0 where
     pub apart : KeepsApart
-    pub one_height : (place : ReachedAddress) → HasTwoHeights place → ⊥
+    pub one_height : (reached : ReachedAddress) → HasTwoHeights reached → ⊥
 
   -- what interrupts add: at most two different ones, each with two bytes for its return address
   pub data Adds : ℕ → Type 0 where
@@ -109,7 +109,7 @@ module _ (l : LayoutParts) (image : List ℕ) where
 
   -- K6: PUSH is at height 255, or a value is above 255
   abbrev pub IsTooDeep : Type 0
-  IsTooDeep = ((place : ReachedAddress) × Breaks PushesAbove place) ⊎ ((value : ℕ) × ComesTo value × (255 < value))
+  IsTooDeep = ((reached : ReachedAddress) × Breaks PushesAbove reached) ⊎ ((value : ℕ) × ComesTo value × (255 < value))
 
   -- the start is that of a point
   abbrev pub IsStart : Start → Type 0

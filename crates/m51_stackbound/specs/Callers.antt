@@ -25,13 +25,13 @@ abbrev pub AreCallsOf : LayoutParts → List ℕ → List Point → List Call �
 AreCallsOf l image points calls = IsPermutation (calls_of l image points) calls
 
 -- the row of a start: whom it calls
-abbrev pub row_of : List (List ℕ) → ℕ → List ℕ
-row_of rows from = slice_index_or rows from []
+abbrev pub callee_row : List (List ℕ) → ℕ → List ℕ
+callee_row rows from = slice_index_or rows from []
 
 -- rows with one call more; there is no row of the reset
 abbrev pub with_call : List (List ℕ) → Start → ℕ → List (List ℕ)
 with_call rows Reset to = rows
-with_call rows (At from) to = slice_set rows from (row_of rows from ++ to ∷ [])
+with_call rows (At from) to = slice_set rows from (callee_row rows from ++ to ∷ [])
 
 -- one of the calls is from the first start to the second
 pub record IsCalled (calls : List Call) (from to : ℕ) : Type 0 where
@@ -43,18 +43,18 @@ pub record IsCalled (calls : List Call) (from to : ℕ) : Type 0 where
 -- the rows of these calls
 pub record AreRowsOf (calls : List Call) (rows : List (List ℕ)) : Type 0 where
   pub len : length rows ≡ 65536
-  pub only : (from to : ℕ) → Contains (row_of rows from) to → IsCalled calls from to
-  pub all : (from to : ℕ) → IsCalled calls from to → Contains (row_of rows from) to
+  pub only : (from to : ℕ) → Contains (callee_row rows from) to → IsCalled calls from to
+  pub all : (from to : ℕ) → IsCalled calls from to → Contains (callee_row rows from) to
 
 -- the rows of a program
 pub record AreCallRows (l : LayoutParts) (image : List ℕ) (rows : List (List ℕ)) : Type 0 where
-  pub only : (from to : ℕ) → Contains (row_of rows from) to → Calls l image (At from) to
-  pub all : (from to : ℕ) → Calls l image (At from) to → Contains (row_of rows from) to
+  pub only : (from to : ℕ) → Contains (callee_row rows from) to → Calls l image (At from) to
+  pub all : (from to : ℕ) → Calls l image (At from) to → Contains (callee_row rows from) to
 
 -- the rows lead from one start to another
 pub data Leads (rows : List (List ℕ)) (from : ℕ) : ℕ → Type 0 where
-  Once : (to : ℕ) → Contains (row_of rows from) to → Leads rows from to
-  Over : (via to : ℕ) → Leads rows from via → Contains (row_of rows via) to → Leads rows from to
+  Once : (to : ℕ) → Contains (callee_row rows from) to → Leads rows from to
+  Over : (via to : ℕ) → Leads rows from via → Contains (callee_row rows via) to → Leads rows from to
 
 -- the list, continued with those of these starts that it does not have
 pub record GoesOn (old starts new : List ℕ) : Type 0 where
@@ -65,7 +65,7 @@ pub record GoesOn (old starts new : List ℕ) : Type 0 where
 
 -- the list has all that this start calls
 abbrev pub HasCallees : List (List ℕ) → List ℕ → ℕ → Type 0
-HasCallees rows starts from = (to : ℕ) → Contains (row_of rows from) to → Contains starts to
+HasCallees rows starts from = (to : ℕ) → Contains (callee_row rows from) to → Contains starts to
 
 -- the list, continued with starts to which the rows lead from this one, has all that this one and they call
 pub record Walks (rows : List (List ℕ)) (from : ℕ) (old new : List ℕ) : Type 0 where

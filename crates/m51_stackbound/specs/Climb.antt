@@ -28,7 +28,7 @@ abbrev pub AreCalls : LayoutParts → List ℕ → List Call → Type 0
 AreCalls l image calls = (c : Call) → Contains calls c → CallsAt l image c.from c.height c.to
 
 -- the start and what it calls take this number of bytes, by a path
-pub record IsTaken (l : LayoutParts) (image : List ℕ) (start : Start) (depth : ℕ) : Type 0 where
+pub record TakesDepth (l : LayoutParts) (image : List ℕ) (start : Start) (depth : ℕ) : Type 0 where
   pub path : List Start
   pub bytes : ℕ
   pub takes : Takes l image start path bytes
@@ -38,7 +38,7 @@ pub record IsTaken (l : LayoutParts) (image : List ℕ) (start : Start) (depth :
 pub record AreTaken (l : LayoutParts) (image : List ℕ) (depths : List ℕ) : Type 0 where
   pub len : length depths ≡ 65537
   pub most : (i : ℕ) → i < length depths → slice_index depths i ≤ 256
-  pub taken : (start : Start) → (depth_in depths start ≡ 0) ⊎ IsTaken l image start (depth_in depths start)
+  pub taken : (start : Start) → (depth_in depths start ≡ 0) ⊎ TakesDepth l image start (depth_in depths start)
 
 -- a table of zeros
 pub record IsBlank (depths : List ℕ) : Type 0 where

@@ -119,7 +119,7 @@ pub record IsRowAt
   pub row : IsRow depths nexts root start r
 
 -- the roots of the reset and of these interrupts, by the tables
-pub record AreRows
+pub record AreRootRows
     (l : LayoutParts) (depths : List ℕ) (nexts : List Next) (vectors : List ℕ) (roots : List RootDepth)
     : Type 0 where
   pub reset : RootDepth

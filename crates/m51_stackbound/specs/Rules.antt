@@ -1,4 +1,4 @@
--- Rules that a point may break, and the order of places.
+-- Rules that a point may break, and the order of reached addresses.
 use Rattle.std.specs.Prelude.{◌≡◌, ◌⊎◌, ℕ, ◌+◌, ◌<◌, ◌≤◌, Bool, true, false, ◌&&◌, ◌||◌, nat_eq, nat_lt, nat_le}
 use Rattle.std.specs.Prelude.{if◌then◌else◌, List, Option, Some, None}
 use Rattle.std.specs.List.{Contains}
@@ -18,7 +18,7 @@ abbrev pub rank : Start → ℕ
 rank Reset = 0
 rank (At address) = address + 1
 
--- the first place is no later than the second: by starts, and then by addresses
+-- the first reached address is no later than the second: by starts, and then by addresses
 abbrev pub NoLater : ReachedAddress → ReachedAddress → Type 0
 NoLater p q = (rank p.start < rank q.start) ⊎ ((rank p.start ≡ rank q.start) × (p.address ≤ q.address))
 
@@ -26,15 +26,15 @@ unfoldable pub no_later : ReachedAddress → ReachedAddress → Bool
 no_later p q =
     nat_lt (rank p.start) (rank q.start) || (nat_eq (rank p.start) (rank q.start) && nat_le p.address q.address)
 
--- the first of the places that were met and of one more
+-- the first of the reached addresses that were met and of one more
 unfoldable pub lesser : Option ReachedAddress → ReachedAddress → ReachedAddress
-lesser None place = place
-lesser (Some old) place = if no_later old place then old else place
+lesser None reached = reached
+lesser (Some old) reached = if no_later old reached then old else reached
 
--- the first of all places that are so, if there is one
+-- the first of all reached addresses that are so, if there is one
 abbrev pub IsLeast : (ReachedAddress → Type 0) → Option ReachedAddress → Type 0
-IsLeast Is None = (place : ReachedAddress) → Is place → ⊥
-IsLeast Is (Some least) = Is least × ((place : ReachedAddress) → Is place → NoLater least place)
+IsLeast Is None = (reached : ReachedAddress) → Is reached → ⊥
+IsLeast Is (Some least) = Is least × ((reached : ReachedAddress) → Is reached → NoLater least reached)
 
 -- a point with this instruction breaks the rule
 abbrev pub breaks : Rule → Point → Instr → Bool
@@ -47,18 +47,18 @@ unfoldable pub breaks_by : Rule → Point → Option Instr → Bool
 breaks_by rule p None = false
 breaks_by rule p (Some instr) = breaks rule p instr
 
-abbrev pub place_of : Point → ReachedAddress
-place_of p = record { start = p.start; address = p.address }
+abbrev pub reached_address : Point → ReachedAddress
+reached_address p = record { start = p.start; address = p.address }
 
--- one of these points breaks the rule at the place
+-- one of these points breaks the rule at the reached address
 pub record IsBroken
-    (l : LayoutParts) (image : List ℕ) (rule : Rule) (Is : Point → Type 0) (place : ReachedAddress)
+    (l : LayoutParts) (image : List ℕ) (rule : Rule) (Is : Point → Type 0) (reached : ReachedAddress)
     : Type 0 where
   pub point : Point
   pub is_point : Is point
   pub breaks : breaks_by rule point (instruction l image point.address) ≡ true
-  pub place_is : place_of point ≡ place
+  pub place_is : reached_address point ≡ reached
 
--- the first place at which one of the listed points breaks the rule
+-- the first reached address at which one of the listed points breaks the rule
 abbrev pub IsFirstBreach : LayoutParts → List ℕ → Rule → List Point → Option ReachedAddress → Type 0
 IsFirstBreach l image rule points = IsLeast (IsBroken l image rule (Contains points))

@@ -12,13 +12,13 @@ use Rattle.m51_module.specs.Walks.{has_edge}
 abbrev pub has_address : ℕ → Placed → Bool
 has_address address p = not (nat_lt address p.base) && nat_lt address (p.base + p.size)
 
-abbrev pub is_absolute : Mark → Bool
-is_absolute Absolute = true
-is_absolute _ = false
+abbrev pub is_marked_absolute : Mark → Bool
+is_marked_absolute Absolute = true
+is_marked_absolute _ = false
 
 -- an absolute segment begins at the address
 abbrev pub begins_at : ℕ → Placed → Bool
-begins_at address p = is_absolute p.mark && nat_eq p.base address
+begins_at address p = is_marked_absolute p.mark && nat_eq p.base address
 
 -- the first unit whose extent is so
 abbrev pub unit_where : (Placed → Bool) → LayoutParts → Option ℕ
@@ -32,9 +32,9 @@ abbrev pub same : Option ℕ → Option ℕ → Bool
 same (Some one) (Some two) = nat_eq one two
 same _ _ = false
 
-abbrev pub joined : List (ℕ × ℕ) → Option ℕ → Option ℕ → Bool
-joined edges (Some one) (Some two) = nat_eq one two || has_edge edges one two
-joined edges _ _ = false
+abbrev pub same_or_edge : List (ℕ × ℕ) → Option ℕ → Option ℕ → Bool
+same_or_edge edges (Some one) (Some two) = nat_eq one two || has_edge edges one two
+same_or_edge edges _ _ = false
 
 -- one unit covers both addresses
 unfoldable pub in_one_unit : LayoutParts → ℕ → ℕ → Bool
@@ -42,7 +42,7 @@ in_one_unit l from to = same (unit_of l from) (unit_of l to)
 
 -- a target counts: it lies in the same unit, or in one to which an edge leads
 unfoldable pub counts : LayoutParts → ℕ → ℕ → Bool
-counts l from to = joined l.edges (unit_of l from) (unit_of l to)
+counts l from to = same_or_edge l.edges (unit_of l from) (unit_of l to)
 
 -- bytes from the address on, of this number, lie in the unit that covers it
 abbrev pub lie_inside : LayoutParts → ℕ → ℕ → Bool

@@ -26,7 +26,7 @@ use m51_cells::{ListOf, NoMemory};
 use m51_module::{Image, Layout, StackBound, StackError};
 use std::alloc::Global;
 
-// The first place at which a point of the program breaks the rule.
+// The first reached address at which a point of the program breaks the rule.
 #[tactic(auto, using(crate::proofs::Lifting::first_of_points))]
 fn first_broken(
     layout: &Layout,
@@ -40,25 +40,25 @@ fn first_broken(
     first_breach(layout, image, rule, points)
 }
 
-// K1 to K3: the first rule that a point breaks, and the first place where it does.
+// K1 to K3: the first rule that a point breaks, and the first reached address where it does.
 fn breach(layout: &Layout, image: &Image, points: &[Point]) -> Option<StackError>
     requires { ArePoints layout.now image.now points.now }
     ensures { IsBreach layout.now image.now result }
 {
     match first_broken(layout, image, Rule::WritesSp, points) {
-        Some(place) => Some(StackError::K1 {
-            start: place.start,
-            at: place.address,
+        Some(reached) => Some(StackError::K1 {
+            start: reached.start,
+            at: reached.address,
         }),
         None => match first_broken(layout, image, Rule::Computed, points) {
-            Some(place) => Some(StackError::K2 {
-                start: place.start,
-                at: place.address,
+            Some(reached) => Some(StackError::K2 {
+                start: reached.start,
+                at: reached.address,
             }),
             None => match first_broken(layout, image, Rule::PopsBelow, points) {
-                Some(place) => Some(StackError::K3 {
-                    start: place.start,
-                    at: place.address,
+                Some(reached) => Some(StackError::K3 {
+                    start: reached.start,
+                    at: reached.address,
                 }),
                 None => None,
             },
@@ -66,7 +66,7 @@ fn breach(layout: &Layout, image: &Image, points: &[Point]) -> Option<StackError
     }
 }
 
-// K5: the first place at which the program has two heights.
+// K5: the first reached address at which the program has two heights.
 fn first_doubled(
     alloc: Global,
     layout: &Layout,
@@ -161,9 +161,9 @@ fn twice(
 {
     let doubled = first_doubled(alloc, layout, image, points)?;
     match doubled {
-        Some(place) => Ok(Some(StackError::K5 {
-            start: place.start,
-            at: place.address,
+        Some(reached) => Ok(Some(StackError::K5 {
+            start: reached.start,
+            at: reached.address,
         })),
         None => Ok(None),
     }

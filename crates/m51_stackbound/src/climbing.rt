@@ -51,11 +51,11 @@ fn raise(depths: &mut [u16], start: Start, depth: u16) -> bool
     ensures raised { Raises start depth depths.old depths.new result }
     ensures few { rank start < 65537 }
 {
-    let place = rank(start) as usize;
-    if depth <= depths[place] {
+    let index = rank(start) as usize;
+    if depth <= depths[index] {
         return false;
     }
-    depths[place] = depth;
+    depths[index] = depth;
     true
 }
 

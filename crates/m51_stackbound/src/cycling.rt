@@ -47,8 +47,8 @@ pub(crate) fn first_cyclic(
     let rows = rows_of(alloc, calls)?;
     let order = order_of(alloc, calls)?;
     let cleared = cleared(alloc, &rows, &order)?;
-    for place in 0..ADDRESSES {
-        let at = place as u16;
+    for address in 0..ADDRESSES {
+        let at = address as u16;
         if is_cyclic(alloc, &rows, &cleared, at)? {
             return Ok(Some(Start::At(at)));
         }

@@ -3,7 +3,7 @@ ghost use Rattle.std.specs.Prelude.{◌≡◌, [], IfOk, length};
 ghost use Rattle.m51_stackbound.specs.Rules.{IsLeast};
 ghost use Rattle.m51_stackbound.specs.Twice.{HasTwo, NotesPlace};
 
-use crate::judging::{lesser, place_of};
+use crate::judging::{lesser, reached_address};
 use crate::point::{Point, ReachedAddress};
 use indexmap::IndexSet;
 use m51_cells::NoMemory;
@@ -15,7 +15,7 @@ use std::marker::Model;
 /// Source: own choice ("Stack bound").
 #[derive(Drop)]
 struct ReachedAddresses {
-    places: IndexSet<ReachedAddress>,
+    addresses: IndexSet<ReachedAddress>,
 }
 
 impl Model for ReachedAddresses {
@@ -24,41 +24,41 @@ impl Model for ReachedAddresses {
 
     ghost Value = { List AddressValue };
 
-    ghost view = { λ p. p.places.keys };
+    ghost view = { λ p. p.addresses.keys };
 }
 
 impl ReachedAddresses {
-    // No place yet.
+    // No reached address yet.
     fn new(alloc: Global) -> ReachedAddresses
         ensures { result ≡ [] }
     {
         ReachedAddresses {
-            places: IndexSet::new(alloc),
+            addresses: IndexSet::new(alloc),
         }
     }
 
-    // Adds a place, and says whether it was there. Out of memory is the only error.
-    fn note(&mut self, place: ReachedAddress) -> Result<bool, NoMemory>
-        ensures { IfOk result (λ again. NotesPlace self.old place self.new again) }
+    // Adds a reached address, and says whether it was there. Out of memory is the only error.
+    fn note(&mut self, reached: ReachedAddress) -> Result<bool, NoMemory>
+        ensures { IfOk result (λ again. NotesPlace self.old reached self.new again) }
     {
-        let (_, added) = self.places.insert_full(place)?;
+        let (_, added) = self.addresses.insert_full(reached)?;
         Ok(!added)
     }
 }
 
-/// K5: the first place that two of the points have.
+/// K5: the first reached address that two of the points have.
 pub(crate) fn first_twice(
     alloc: Global,
     points: &[Point],
 ) -> Result<Option<ReachedAddress>, NoMemory>
-    ensures { IfOk result (λ place. IsLeast (HasTwo points.now (length points.now)) place) }
+    ensures { IfOk result (λ reached. IsLeast (HasTwo points.now (length points.now)) reached) }
 {
-    let mut places = ReachedAddresses::new(alloc);
+    let mut addresses = ReachedAddresses::new(alloc);
     let mut least = None;
     for point in points {
-        let place = place_of(point);
-        if places.note(place)? {
-            least = Some(lesser(least, place));
+        let reached = reached_address(point);
+        if addresses.note(reached)? {
+            least = Some(lesser(least, reached));
         }
     }
     Ok(least)

@@ -1,7 +1,7 @@
-//! The rules that a point may break, and the first place at which one is broken.
+//! The rules that a point may break, and the first reached address at which one is broken.
 ghost use Rattle.std.specs.Prelude.{◌≡◌, ◌<◌};
 ghost use Rattle.m51_stackbound.specs.Points.{instruction};
-ghost use Rattle.m51_stackbound.specs.Rules.{rank, no_later, lesser, breaks, breaks_by, place_of, IsFirstBreach};
+ghost use Rattle.m51_stackbound.specs.Rules.{rank, no_later, lesser, breaks, breaks_by, reached_address, IsFirstBreach};
 
 use crate::following::{instruction, pops_below, pushes_above, sets_stack};
 use crate::instructions::is_computed;
@@ -35,7 +35,7 @@ pub(crate) fn rank(start: Start) -> u32
     }
 }
 
-// Whether the first place is no later than the second.
+// Whether the first reached address is no later than the second.
 #[tactic(auto, unfolding(crate::specs::Rules::no_later))]
 fn no_later(one: &ReachedAddress, two: &ReachedAddress) -> bool
     ensures { result ≡ no_later one.now two.now }
@@ -44,20 +44,26 @@ fn no_later(one: &ReachedAddress, two: &ReachedAddress) -> bool
     first < second || (first == second && one.address <= two.address)
 }
 
-/// The first of the places that were met and of one more.
+/// The first of the reached addresses that were met and of one more.
 #[tactic(auto, unfolding(crate::specs::Rules::lesser))]
-pub(crate) fn lesser(least: Option<ReachedAddress>, place: ReachedAddress) -> ReachedAddress
-    ensures { result ≡ lesser least place }
+pub(crate) fn lesser(least: Option<ReachedAddress>, reached: ReachedAddress) -> ReachedAddress
+    ensures { result ≡ lesser least reached }
 {
     match least {
-        Some(old) => { if no_later(&old, &place) { old } else { place } }
-        None => place,
+        Some(old) => {
+            if no_later(&old, &reached) {
+                old
+            } else {
+                reached
+            }
+        }
+        None => reached,
     }
 }
 
-/// The place of a point.
-pub(crate) fn place_of(point: &Point) -> ReachedAddress
-    ensures { result ≡ place_of point.now }
+/// The reached address of a point.
+pub(crate) fn reached_address(point: &Point) -> ReachedAddress
+    ensures { result ≡ reached_address point.now }
 {
     ReachedAddress {
         start: point.start,
@@ -88,7 +94,7 @@ fn breaks_at(layout: &Layout, image: &Image, rule: Rule, point: &Point) -> bool
     }
 }
 
-/// The first place at which one of the points breaks the rule.
+/// The first reached address at which one of the points breaks the rule.
 pub(crate) fn first_breach(
     layout: &Layout,
     image: &Image,
@@ -100,7 +106,7 @@ pub(crate) fn first_breach(
     let mut least = None;
     for point in points {
         if breaks_at(layout, image, rule, point) {
-            least = Some(lesser(least, place_of(point)));
+            least = Some(lesser(least, reached_address(point)));
         }
     }
     least

@@ -4,7 +4,7 @@ ghost use Rattle.std.specs.List.{Contains};
 ghost use Rattle.m51_module.specs.Plan.{IsRootAt, IsUnitAt};
 ghost use Rattle.m51_module.specs.declared.start.Start.TheVariants.{At};
 ghost use Rattle.m51_stackbound.specs.Listing.{AreListed, AreStarts, is_noted, with_start};
-ghost use Rattle.m51_stackbound.specs.Nexts.{AreRows, AreTables};
+ghost use Rattle.m51_stackbound.specs.Nexts.{AreRootRows, AreTables};
 
 use crate::climbing::depth_in;
 use crate::marks::{ADDRESSES, no_marks};
@@ -59,9 +59,9 @@ pub(crate) fn procs_of(
     ensures { IfOk result (λ procs. AreListed layout.now starts.now depths.now 65536 procs.items) }
 {
     let mut procs = Vec::new(alloc);
-    for place in 0..ADDRESSES {
-        if starts[place] {
-            let at = place as u16;
+    for address in 0..ADDRESSES {
+        if starts[address] {
+            let at = address as u16;
             procs.push(Proc {
                 at,
                 unit: unit_number(layout, at),
@@ -83,7 +83,7 @@ pub(crate) fn roots_of(
     requires reset { (unit : ℕ) × IsRootAt layout.now 0 unit }
     requires handlers { (v : ℕ) → Contains vectors.now v → (unit : ℕ) × IsRootAt layout.now v unit }
     requires tables { AreTables depths.now nexts.now }
-    ensures { IfOk result (λ roots. AreRows layout.now depths.now nexts.now vectors.now roots.items) }
+    ensures { IfOk result (λ roots. AreRootRows layout.now depths.now nexts.now vectors.now roots.items) }
 {
     let mut roots = Vec::new(alloc);
     let reset = root_depth(alloc, depths, nexts, root_number(layout, 0), Start::Reset)?;

@@ -90,8 +90,8 @@ fn note_next(nexts: &mut [Next], start: Start, next: Next)
     ensures noted { nexts.new ≡ slice_set nexts.old (rank start) (earlier (next_in nexts.old start) next) }
     ensures few { rank start < 65537 }
 {
-    let place = rank(start) as usize;
-    nexts[place] = earlier(nexts[place], next);
+    let index = rank(start) as usize;
+    nexts[index] = earlier(nexts[index], next);
 }
 
 // A table in which no path continues.

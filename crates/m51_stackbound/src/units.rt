@@ -71,8 +71,8 @@ pub(crate) fn counts(layout: &Layout, from: u16, to: u16) -> bool
 pub(crate) fn lie_inside(layout: &Layout, at: u16, count: u8) -> bool
     ensures { result ≡ lie_inside layout.now at count }
 {
-    for place in 0..count {
-        if !in_one_unit(layout, at, at.wrapping_add(u16::from(place))) {
+    for index in 0..count {
+        if !in_one_unit(layout, at, at.wrapping_add(u16::from(index))) {
             return false;
         }
     }

@@ -47,12 +47,12 @@ impl Found {
         self.starts.len()
     }
 
-    // The start that was found at that place.
-    fn at(&self, place: usize) -> u16
-        requires { place < length self.now }
-        ensures { result ≡ slice_index self.now place }
+    // The start that was found at that index.
+    fn at(&self, index: usize) -> u16
+        requires { index < length self.now }
+        ensures { result ≡ slice_index self.now index }
     {
-        self.starts[place]
+        self.starts[index]
     }
 
     // Whether the start was found.

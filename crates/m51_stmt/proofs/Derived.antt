@@ -16,7 +16,7 @@ use Rattle.m51_expr.specs.declared.symbol.Symbol.TheVariants as symbols
 use Rattle.m51_expr.specs.Words.{is_reserved}
 use Rattle.m51_expr.specs.Tree.{Tree}
 use Rattle.m51_expr.specs.Looks.{has_form}
-use Rattle.m51_expr.specs.Reading.{Reads, line_of, expression_in, enough}
+use Rattle.m51_expr.specs.Reading.{ParsedTree, line_of_symbols, expression_in, enough}
 use Rattle.m51_expr.specs.Grammar.{Writes}
 use Rattle.m51_expr.proofs.Sound.{sound}
 use Rattle.m51_stmt.specs.declared.definitions.DefinitionWord.{DefinitionWord}
@@ -31,8 +31,9 @@ use Rattle.m51_stmt.specs.Words.{is_comma}
 use Rattle.m51_stmt.specs.Kinds.{kind_of, reloc_of, extern_kind_of}
 use Rattle.m51_stmt.specs.Lists.{parts, each_of, list_of, name_alone, all_read, expression, value, item}
 use Rattle.m51_stmt.specs.Operands.{sum, indirect, alone, operand_by, operand, operands, if_form, instruction}
-use Rattle.m51_stmt.specs.Externs.{next, named, ended, externs_from, externs}
-use Rattle.m51_stmt.specs.Definitions.{definition_of, is_allowed, is_overlayable, segment_of, segment, definition_form}
+use Rattle.m51_stmt.specs.Externs.{next, names_added, names_at_end, externs_from, externs}
+use Rattle.m51_stmt.specs.Definitions.{definition_word, is_allowed, is_overlayable, segment_body, segment}
+use Rattle.m51_stmt.specs.Definitions.{definition_form}
 use Rattle.m51_stmt.specs.Directives.{directive_of, is_at, select, end_form, directive_form}
 use Rattle.m51_stmt.specs.Lines.{defined, said, with_label, statement}
 use Rattle.m51_stmt.specs.Lines as lines
@@ -53,13 +54,14 @@ some_unless true h = none_is
 some_unless false h = h refl
 
 -- expressions
-expr_by : (l : List Symbol) (n : ℕ) (r : Reads) → n ≡ length l → expression_in l ≡ r → IfSome (all_read n r) (IsExpr l)
+expr_by : (l : List Symbol) (n : ℕ) (r : ParsedTree) → n ≡ length l → expression_in l ≡ r
+    → IfSome (all_read n r) (IsExpr l)
 expr_by l n None is read = none_is
 expr_by l n (Some (e, at)) is read = some_if (at == n) (λ all.
     some_is (record {
       writes =
-          subst (Writes (line_of l) 0 0 e) (eqb-true at n all ∙ is)
-          (sound (enough (length l) 0) (line_of l) 0 e at read).writes;
+          subst (Writes (line_of_symbols l) 0 0 e) (eqb-true at n all ∙ is)
+          (sound (enough (length l) 0) (line_of_symbols l) 0 e at read).writes;
     }))
 
 expr_derived : (l : List Symbol) → IfSome (expression l) (IsExpr l)
@@ -164,7 +166,7 @@ item_derived (symbols.Text cs ∷ []) = some_is grammar.Text
 item_derived (symbols.Text cs ∷ s ∷ rest) = item_by (symbols.Text cs ∷ s ∷ rest) refl
 item_derived l = item_by l refl
 
--- EXTRN: the derivation of the symbols from a place on, by what is awaited there
+-- EXTRN: the derivation of the symbols from an index on, by what is awaited there
 abbrev Rest : Awaited → List Symbol → List (List ℕ × Kind) → Type 0
 Rest awaited.Kind l xs = AreExterns None l xs
 Rest (awaited.Open k) l xs = (word : List ℕ) → extern_kind_of word ≡ Some k → AreExterns None (symbols.Word word ∷ l) xs
@@ -201,7 +203,7 @@ adds name k false rest is h =
     (record { holds = λ xs read. (h (awaited.Sign k)).holds xs read name is })
 
 next_derived : (here : Awaited) (s : Symbol) (rest : List Symbol) → Derives rest
-    → Later (named here s) here (next here s) s rest
+    → Later (names_added here s) here (next here s) s rest
 next_derived awaited.Kind (symbols.Word word) rest h = opens word (extern_kind_of word) rest refl h
 next_derived (awaited.Open k) symbols.Open rest h =
     goes_on (awaited.Open k) (awaited.Name k) symbols.Open rest h (λ xs d word is. grammar.Group is d)
@@ -214,7 +216,7 @@ next_derived awaited.End symbols.Comma rest h =
     goes_on awaited.End awaited.Kind symbols.Comma rest h (λ xs d k name free. grammar.Next free d)
 next_derived here s rest h = none_is
 
-ended_derived : (here : Awaited) → IfSome (ended here) (Rest here [])
+ended_derived : (here : Awaited) → IfSome (names_at_end here) (Rest here [])
 ended_derived awaited.End = some_is (λ k name free. grammar.Last free)
 ended_derived here = none_is
 
@@ -225,7 +227,7 @@ externs_derived (s ∷ rest) here = next_derived here s rest (λ later. externs_
 -- definitions
 segment_by : (name word : List ℕ) (type last : List Symbol) (k : Option Kind) (r : Option Reloc) (b : Bool)
     → kind_of word ≡ k → ((x : Reloc) → r ≡ Some x → HasType type x) → HasOverlay last b
-    → IfSome (segment_of name k r b) (IsDefinition name definition.Segment (symbols.Word word ∷ type ++ last))
+    → IfSome (segment_body name k r b) (IsDefinition name definition.Segment (symbols.Word word ∷ type ++ last))
 segment_by name word type last None r b kinds types over = none_is
 segment_by name word type last (Some k) None b kinds types over = none_is
 segment_by name word type last (Some k) (Some r) b kinds types over =
@@ -244,8 +246,8 @@ segment_derived name (symbols.Word word ∷ []) =
 segment_derived name (symbols.Word word ∷ symbols.Word last ∷ []) = two (is_overlayable last) refl
   where
     two : (b : Bool) → is_overlayable last ≡ b
-        → IfSome (cond b (segment_of name (kind_of word) (Some reloc.Unit) true)
-        (segment_of name (kind_of word) (reloc_of last) false))
+        → IfSome (cond b (segment_body name (kind_of word) (Some reloc.Unit) true)
+        (segment_body name (kind_of word) (reloc_of last) false))
         (IsDefinition name definition.Segment (symbols.Word word ∷ symbols.Word last ∷ []))
     two true is = segment_by name word [] (symbols.Word last ∷ []) (kind_of word) (Some reloc.Unit) true refl unit_type
         (overlaid last is)
@@ -332,7 +334,7 @@ defined_derived : (labelled : Bool) (name : List ℕ) (l : List Symbol)
 defined_derived true name (symbols.Word word ∷ rest) = none_is
 defined_derived false name (symbols.Word word ∷ rest) = some_unless (is_reserved name) (λ free.
     some_then (λ d. definition_form d name rest) (IsSaid false (symbols.Name name ∷ symbols.Word word ∷ rest))
-    (definition_of word) (λ d found.
+    (definition_word word) (λ d found.
     record { holds = λ b read. grammar.Defined free found ((definition_derived d name rest).holds b read) }))
 defined_derived labelled name l = none_is
 
@@ -347,7 +349,8 @@ bare_derived : (l : List Symbol) (o : Option BodyTree) → IfSome o (IsSaid fals
 bare_derived l o h = some_map (with_label None) (IsStatement l) o
     (record { holds = λ b read. grammar.Bare (h.holds b read) })
 
-named_derived : (name : List ℕ) (l : List Symbol) → IfSome (lines.named name l) (IsStatement (symbols.Name name ∷ l))
+named_derived : (name : List ℕ) (l : List Symbol)
+    → IfSome (lines.named_line name l) (IsStatement (symbols.Name name ∷ l))
 named_derived name (symbols.Colon ∷ rest) = some_unless (is_reserved name) (λ free.
     some_map (with_label (Some name)) (IsStatement (symbols.Name name ∷ symbols.Colon ∷ rest)) (said true rest)
     (record { holds = λ b read. grammar.Labelled free ((said_derived true rest).holds b read) }))

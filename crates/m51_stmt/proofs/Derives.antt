@@ -31,7 +31,8 @@ use Rattle.m51_stmt.specs.Lists.{with_symbol, parts, all_parts, each_of, list_of
 use Rattle.m51_stmt.specs.Lists.{value, item}
 use Rattle.m51_stmt.specs.Operands.{operand, operands, if_form, instruction}
 use Rattle.m51_stmt.specs.Externs.{externs_from}
-use Rattle.m51_stmt.specs.Definitions.{definition_of, is_allowed, is_overlayable, segment_of, segment, definition_form}
+use Rattle.m51_stmt.specs.Definitions.{definition_word, is_allowed, is_overlayable, segment_body, segment}
+use Rattle.m51_stmt.specs.Definitions.{definition_form}
 use Rattle.m51_stmt.specs.Directives.{directive_of, directive_form}
 use Rattle.m51_stmt.specs.Lines.{said, with_label, statement}
 use Rattle.m51_stmt.specs.Grammar as grammar
@@ -89,7 +90,7 @@ infix_inside None r op h = tt
 infix_inside (Some symbols.Comma) r op h = absurd (cc h)
 infix_inside (Some s) r op h = refl
 
--- a place before another one, it, or a place after it
+-- an index before another one, it, or an index after it
 at_or : (P : ℕ → Type 0) (mid i : ℕ) → (i < mid → P i) → P mid → (mid < i → P i) → P i
 at_or P mid i before here after =
     ⊎_elim before (λ ge. ⊎_elim after (λ le. let same : mid ≡ i = omega (arith, ge, le) in subst P same here)
@@ -248,25 +249,25 @@ named_then name k rest free =
     ap (λ b. option_and_then (λ later. with_name name k (externs_from later rest))
     (cond b None (Some (awaited.Sign k)))) free
 
-externs_read : (place : Option Kind) (l : List Symbol) (xs : Externs) → AreExterns place l xs
-    → externs_from (place_of place) l ≡ Some xs
-externs_read place l xs (grammar.Group {k = k} {rest = rest} is d) =
+externs_read : (expected : Option Kind) (l : List Symbol) (xs : Externs) → AreExterns expected l xs
+    → externs_from (place_of expected) l ≡ Some xs
+externs_read expected l xs (grammar.Group {k = k} {rest = rest} is d) =
     ap (λ (o : Option Kind). option_and_then (λ later. same_list (externs_from later (symbols.Open ∷ rest)))
     (option_map awaited.Open o)) is
     ∙ ap (λ o. same_list (same_list o)) (externs_read (Some k) rest xs d)
-externs_read place l xs (grammar.More {name = name} {k = k} {rest = rest} {xs = more} free d) =
+externs_read expected l xs (grammar.More {name = name} {k = k} {rest = rest} {xs = more} free d) =
     named_then name k (symbols.Comma ∷ rest) free
     ∙ ap (λ o. with_name name k (same_list o)) (externs_read (Some k) rest more d)
-externs_read place l xs (grammar.Last {name = name} {k = k} free) = named_then name k (symbols.Close ∷ []) free
-externs_read place l xs (grammar.Next {name = name} {k = k} {rest = rest} {xs = more} free d) =
+externs_read expected l xs (grammar.Last {name = name} {k = k} free) = named_then name k (symbols.Close ∷ []) free
+externs_read expected l xs (grammar.Next {name = name} {k = k} {rest = rest} {xs = more} free d) =
     named_then name k (symbols.Close ∷ symbols.Comma ∷ rest) free
     ∙ ap (λ o. with_name name k (same_list (same_list o))) (externs_read None rest more d)
 
 -- definitions
 segment_made : (name word : List ℕ) (k : Kind) (o : Option Reloc) (r : Reloc) (b : Bool) → kind_of word ≡ Some k
-    → o ≡ Some r → is_allowed k r b ≡ true → segment_of name (kind_of word) o b ≡ Some (body.Segment name k r b)
+    → o ≡ Some r → is_allowed k r b ≡ true → segment_body name (kind_of word) o b ≡ Some (body.Segment name k r b)
 segment_made name word k o r b kinds types allowed =
-    ap (λ x. segment_of name x o b) kinds ∙ ap (λ x. segment_of name (Some k) x b) types
+    ap (λ x. segment_body name x o b) kinds ∙ ap (λ x. segment_body name (Some k) x b) types
     ∙ ap (λ t. cond t (Some (body.Segment name k r b)) None) allowed
 
 no_type : reloc_of (codes "OVERLAYABLE") ≡ None
@@ -286,8 +287,8 @@ segment_read name word k r b type last kinds grammar.Unit grammar.Nothing allowe
 segment_read name word k r b type last kinds grammar.Unit grammar.Overlay allowed =
     segment_made name word k (Some reloc.Unit) r b kinds refl allowed
 segment_read name word k r b type last kinds (grammar.Typed {word = w} is) grammar.Nothing allowed =
-    ap (λ t. cond t (segment_of name (kind_of word) (Some reloc.Unit) true)
-    (segment_of name (kind_of word) (reloc_of w) false)) (no_overlay w r (is_overlayable w) is refl)
+    ap (λ t. cond t (segment_body name (kind_of word) (Some reloc.Unit) true)
+    (segment_body name (kind_of word) (reloc_of w) false)) (no_overlay w r (is_overlayable w) is refl)
     ∙ segment_made name word k (reloc_of w) r b kinds is allowed
 segment_read name word k r b type last kinds (grammar.Typed {word = w} is) grammar.Overlay allowed =
     segment_made name word k (reloc_of w) r b kinds is allowed
@@ -334,7 +335,7 @@ said_reads labelled l b (grammar.Directed {word = word} {d = d} {symbols = rest}
     (no_mnemonic word d found)
     ∙ ap (option_and_then (λ d. directive_form d rest)) found ∙ directive_reads d rest b is
 said_reads labelled l b (grammar.Defined {name = name} {word = word} {d = d} {symbols = rest} free found is) =
-    ap (λ t. cond t None (option_and_then (λ d. definition_form d name rest) (definition_of word))) free
+    ap (λ t. cond t None (option_and_then (λ d. definition_form d name rest) (definition_word word))) free
     ∙ ap (option_and_then (λ d. definition_form d name rest)) found ∙ definition_reads d name rest b is
 
 bare_reads : (l : List Symbol) (b : BodyTree) → IsSaid false l b

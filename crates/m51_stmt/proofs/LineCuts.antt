@@ -22,11 +22,11 @@ abbrev pub laid : List Word → List ℕ
 laid [] = []
 laid (w ∷ ws) = w.text ++ space ∷ laid ws
 
--- the token of a word at a place
+-- the token of a word at an index
 abbrev pub token_at : ℕ → Word → Token
 token_at at w = record { what = w.what; from = at; to = at + length w.text }
 
--- the tokens that the words are, from a place on
+-- the tokens that the words are, from an index on
 abbrev pub placed : ℕ → List Word → List Token
 placed at [] = []
 placed at (w ∷ ws) = token_at at w ∷ placed (at + length w.text + 1) ws
@@ -73,7 +73,7 @@ AreWords line [] (w ∷ ws) = ⊥
 AreWords line (t ∷ ts) [] = ⊥
 AreWords line (t ∷ ts) (w ∷ ws) = (t.what ≡ w.what) × (slice_range line t.from t.to ≡ w.text) × AreWords line ts ws
 
--- the bytes at the place of a word are the word
+-- the bytes at the index of a word are the word
 pub word_within : (before text rest : List ℕ)
     → slice_range (before ++ (text ++ rest)) (length before) (length before + length text) ≡ text
 word_within before text rest =
@@ -81,7 +81,7 @@ word_within before text rest =
     ∙ ap (λ n. take n (text ++ rest)) (omega arith)
     ∙ take-append_seam text rest
 
--- the places of words are those where the line has them
+-- the indices of words are those where the line has them
 pub placed_are : (before : List ℕ) (ws : List Word) (at : ℕ) → at ≡ length before
     → AreWords (before ++ laid ws) (placed at ws) ws
 placed_are before [] at is = tt

@@ -22,7 +22,7 @@ use Rattle.m51_stmt.specs.Statement as body
 use Rattle.m51_stmt.specs.Statement.{BodyTree, OperandTree, ItemTree}
 use Rattle.m51_stmt.specs.Kinds.{kind_of, reloc_of}
 use Rattle.m51_expr.specs.Looks.{has_form}
-use Rattle.m51_stmt.specs.Definitions.{is_allowed, definition_of}
+use Rattle.m51_stmt.specs.Definitions.{is_allowed, definition_word}
 use Rattle.m51_stmt.specs.Directives.{directive_of}
 use Rattle.m51_stmt.specs.Grammar as grammar
 use Rattle.m51_stmt.specs.Grammar.{IsSaid}
@@ -65,7 +65,7 @@ abbrev pub IsAt : Option Tree → Type 0
 IsAt None = Unit {0}
 IsAt (Some e) = IsTree e
 
--- a body that can be read at a place: a definition only at the first place, and no control
+-- a body that can be read at an index: a definition only at the first index, and no control
 abbrev pub IsBody : ℕ → BodyTree → Type 0
 IsBody at body.Empty = Unit {0}
 IsBody at body.Ignored = ⊥
@@ -289,7 +289,7 @@ directive_said labelled w d rest b found word is =
 
 -- a definition without a label before it
 define_said : (labelled : Bool) (name w : List ℕ) (d : DefinitionWord) (rest : List Word) (b : BodyTree)
-    → labelled ≡ false → IsFree name → definition_of w ≡ Some d → symbol (name_word w) ≡ symbols.Word w
+    → labelled ≡ false → IsFree name → definition_word w ≡ Some d → symbol (name_word w) ≡ symbols.Word w
     → grammar.IsDefinition name d (map symbol rest) b
     → IsSaid labelled (map symbol (name_word name ∷ name_word w ∷ rest)) b
 define_said labelled name w d rest b bare free found word is =
@@ -334,14 +334,14 @@ unfolding operator_of prefix_word relation_word arithmetic_word is_language_word
 select_said k None is = grammar.Select
 select_said k (Some e) is = grammar.SelectAt (expr_said e is)
 
-kind_defines : (k : Kind) → IsKind k → definition_of (kind_word k) ≡ Some (definition.Address k)
-unfolding definition_of kind_of
+kind_defines : (k : Kind) → IsKind k → definition_word (kind_word k) ≡ Some (definition.Address k)
+unfolding definition_word kind_of
 kind_defines kind.Number is = absurd (cc is)
 kind_defines k is = refl
 
 pub body_said : (labelled : Bool) (at : ℕ) → (at ≡ 0 → labelled ≡ false) → (b : BodyTree) → IsBody at b
     → IsSaid labelled (map symbol (body_words b)) b
-unfolding directive_of definition_of operator_of prefix_word relation_word arithmetic_word is_language_word
+unfolding directive_of definition_word operator_of prefix_word relation_word arithmetic_word is_language_word
 body_said labelled at first body.Empty is = grammar.Nothing
 body_said labelled at first body.Ignored is = absurd is
 body_said labelled at first (body.Include name) is = absurd is

@@ -37,7 +37,7 @@ IsControl (body.Include name) = (0 < length name) × (list_all is_inside name �
 IsControl (body.Mod51 on) = Unit {0}
 IsControl b = ⊥
 
--- a statement that can be read: a control without a label, or a body at its place after the label
+-- a statement that can be read: a control without a label, or a body at its index after the label
 abbrev pub IsLine : Option (List ℕ) → BodyTree → Type 0
 IsLine None b = IsControl b ⊎ IsBody 0 b
 IsLine (Some name) b = IsFree name × IsBody 2 b
@@ -170,11 +170,11 @@ closed_here name some all =
 
 include_printed : (name : List ℕ) → 0 < length name → list_all is_inside name ≡ true
     → any_line (stmt_text (bare (body.Include name))) ≡ Ok (bare (body.Include name))
-unfolding any_line body_text control.by_word
+unfolding any_line body_text control.body_by_word
 include_printed name some all = ap (λ o. and_then (include_of o) (λ b. Ok (bare b))) (closed_here name some all)
 
 control_printed : (b : BodyTree) → IsControl b → any_line (stmt_text (bare b)) ≡ Ok (bare b)
-unfolding any_line body_text control.by_word is_ignored_word
+unfolding any_line body_text control.body_by_word is_ignored_word
 control_printed body.Ignored is = refl
 control_printed (body.Include name) is = include_printed name is.0 is.1
 control_printed (body.Mod51 true) is = refl

@@ -16,7 +16,7 @@ use Rattle.m51_expr.specs.Symbol.{operator_of, prefix_word, relation_word, arith
 use Rattle.m51_expr.specs.Tree as tree
 use Rattle.m51_expr.specs.Tree.{Tree}
 use Rattle.m51_expr.specs.Ranks.{prefix_rank, infix_rank, prefix_of, infix_of, is_open, is_close, leaf_of}
-use Rattle.m51_expr.specs.Reading.{Line, line_of}
+use Rattle.m51_expr.specs.Reading.{Line, line_of_symbols}
 use Rattle.m51_expr.specs.Grammar.{Writes, Leaf, Parens, Before, Between, Tighter}
 use Rattle.m51_expr.proofs.Complete.{ends_within}
 use Rattle.m51_stmt.specs.Grammar.{IsExpr}
@@ -163,7 +163,7 @@ looser : {line : Line} {at : ℕ} {e : Tree} {to : ℕ} (tight rank : ℕ) → r
     → Writes line tight at e to → Writes line rank at e to
 looser tight rank le high w = loosen (tight - rank) tight rank (omega (arith, le)) high w
 
--- from a place to its end the line consists of these words
+-- from an index to its end the line consists of these words
 abbrev Stands : Line → ℕ → List Word → Type 0
 Stands line at [] = line at ≡ None
 Stands line at (w ∷ ws) = (line at ≡ Some (symbol w)) × Stands line (at + 1) ws
@@ -214,14 +214,14 @@ written line at (tree.Two op left right) rest is h =
       then = m.then.1;
     }
 
--- the words of a list of symbols are at its places
+-- the words of a list of symbols are at its indices
 get : (l : List Symbol) (at : ℕ) → slice_get l at ≡ slice_get (drop at l) 0
 get [] zero = refl
 get [] (suc at) = refl
 get (s ∷ l) zero = refl
 get (s ∷ l) (suc at) = get l at
 
-stand : (l : List Symbol) (ws : List Word) (at : ℕ) → drop at l ≡ map symbol ws → Stands (line_of l) at ws
+stand : (l : List Symbol) (ws : List Word) (at : ℕ) → drop at l ≡ map symbol ws → Stands (line_of_symbols l) at ws
 stand l [] at h = get l at ∙ ap (λ r. slice_get r 0) h
 stand l (w ∷ ws) at h =
     (get l at ∙ ap (λ r. slice_get r 0) h, stand l ws (at + 1) (sym (drop-drop 1 at l) ∙ ap (drop 1) h))
@@ -235,9 +235,9 @@ past_end (s ∷ l) (suc at) h = omega (arith, past_end l at h)
 pub expr_said : (e : Tree) → IsTree e → IsExpr (map symbol (expr_words e [])) e
 expr_said e is =
     let l = map symbol (expr_words e []) in
-    let w = written (line_of l) 0 e [] is (stand l (expr_words e []) 0 refl) in
+    let w = written (line_of_symbols l) 0 e [] is (stand l (expr_words e []) 0 refl) in
     let all : w.next ≡ length l = omega (arith, ends_within l w.writes, past_end l w.next w.then) in
-    record { writes = subst (Writes (line_of l) 0 0 e) all (looser 8 0 (omega arith) (omega arith) w.writes) }
+    record { writes = subst (Writes (line_of_symbols l) 0 0 e) all (looser 8 0 (omega arith) (omega arith) w.writes) }
 
 -- five consecutive texts, however they are joined
 pub five_joined : (a b c d e : List ℕ) → a ++ (b ++ (c ++ (d ++ e))) ≡ (((a ++ b) ++ c) ++ d) ++ e

@@ -26,10 +26,11 @@ use Rattle.m51_stmt.specs.Statement.{BodyTree, OperandTree, ItemTree, StmtTree, 
 use Rattle.m51_stmt.specs.Words.{register_number}
 use Rattle.m51_stmt.specs.Kinds.{kind_of, reloc_of}
 use Rattle.m51_stmt.specs.Operands.{register, pointer, sum}
-use Rattle.m51_stmt.specs.Definitions.{definition_of}
+use Rattle.m51_stmt.specs.Definitions.{definition_word}
 use Rattle.m51_stmt.specs.Directives.{select_of, directive_of}
 use Rattle.m51_stmt.specs.Control as control
-use Rattle.m51_stmt.specs.Control.{opening, closing, is_inside, ends, behind_sign, if_ended, closed_at, parenthesized}
+use Rattle.m51_stmt.specs.Control.{left_parenthesis, right_parenthesis, is_inside, ends, behind_sign, if_ended}
+use Rattle.m51_stmt.specs.Control.{closed_at, parenthesized}
 use Rattle.m51_stmt.specs.Control.{include, include_of, ignored_if, is_ignored_word, by_name}
 use Rattle.m51_stmt.specs.Lines.{symbols_of, any_line}
 use Rattle.m51_stmt.specs.Grammar as grammar
@@ -115,8 +116,8 @@ abbrev IsDefinition : DefinitionWord → Type 0
 IsDefinition (definition.Address k) = IsKind k
 IsDefinition d = Unit {0}
 
-definition_good : (word : List ℕ) → IfSome (definition_of word) IsDefinition
-unfolding definition_of
+definition_good : (word : List ℕ) → IfSome (definition_word word) IsDefinition
+unfolding definition_word
 definition_good word =
     some_cond (bytes_eq word (codes "SEGMENT")) (some_is tt) (
     some_cond (bytes_eq word (codes "EQU")) (some_is tt) (
@@ -198,13 +199,13 @@ item_good : (l : List Symbol) (i : ItemTree) → grammar.IsItem l i → Each IsG
 item_good l i grammar.Text h = refl
 item_good l i (grammar.Value {e = e} other is) h = expr_good l e is h
 
-externs_good : (place : Option Kind) (l : List Symbol) (xs : List (List ℕ × Kind)) → grammar.AreExterns place l xs
+externs_good : (expected : Option Kind) (l : List Symbol) (xs : List (List ℕ × Kind)) → grammar.AreExterns expected l xs
     → Each IsGood l → OneOrMore IsExtern xs
-externs_good place l xs (grammar.Group {k = k} {rest = rest} is d) h = externs_good (Some k) rest xs d h.1.1
-externs_good place l xs (grammar.More {k = k} {rest = rest} {xs = more} free d) h =
+externs_good expected l xs (grammar.Group {k = k} {rest = rest} is d) h = externs_good (Some k) rest xs d h.1.1
+externs_good expected l xs (grammar.More {k = k} {rest = rest} {xs = more} free d) h =
     (record { leaf = h.0; free = free }, some_each IsExtern more (externs_good (Some k) rest more d h.1.1))
-externs_good place l xs (grammar.Last free) h = (record { leaf = h.0; free = free }, tt)
-externs_good place l xs (grammar.Next {rest = rest} {xs = more} free d) h =
+externs_good expected l xs (grammar.Last free) h = (record { leaf = h.0; free = free }, tt)
+externs_good expected l xs (grammar.Next {rest = rest} {xs = more} free d) h =
     (record { leaf = h.0; free = free }, some_each IsExtern more (externs_good None rest more d h.1.1.1))
 
 -- definitions
@@ -212,9 +213,9 @@ type_good : (l : List Symbol) (r : Reloc) → grammar.HasType l r → IsReloc r
 type_good l r grammar.Unit = unit_good
 type_good l r (grammar.Typed {word = word} is) = (reloc_good word).holds r is
 
-definition_body : (place : ℕ) (d : DefinitionWord) (name : List ℕ) (l : List Symbol) (b : BodyTree) → place ≡ 0
-    → IsDefinition d → IsFree name → grammar.IsDefinition name d l b → Each IsGood l → IsBody place b
-definition_body place d name l b first good free
+definition_body : (index : ℕ) (d : DefinitionWord) (name : List ℕ) (l : List Symbol) (b : BodyTree) → index ≡ 0
+    → IsDefinition d → IsFree name → grammar.IsDefinition name d l b → Each IsGood l → IsBody index b
+definition_body index d name l b first good free
     (grammar.Segment {word = word} {k = k} {r = r} {type = type} kinds types overlaid allowed) h = (
       first,
       record {
@@ -224,42 +225,42 @@ definition_body place d name l b first good free
         allowed = allowed;
       },
     )
-definition_body place d name l b first good free (grammar.Equ {e = e} is) h = (first, free, expr_good l e is h)
-definition_body place d name l b first good free (grammar.Set {e = e} is) h = (first, free, expr_good l e is h)
-definition_body place d name l b first good free (grammar.Address {e = e} is) h =
+definition_body index d name l b first good free (grammar.Equ {e = e} is) h = (first, free, expr_good l e is h)
+definition_body index d name l b first good free (grammar.Set {e = e} is) h = (first, free, expr_good l e is h)
+definition_body index d name l b first good free (grammar.Address {e = e} is) h =
     (first, free, good, expr_good l e is h)
 
 -- directives
-directive_body : (place : ℕ) (d : Directive) (l : List Symbol) (b : BodyTree) → IsDirective d
-    → grammar.IsDirective d l b → Each IsGood l → IsBody place b
-directive_body place d l b good (grammar.Using {e = e} is) h = expr_good l e is h
-directive_body place d l b good (grammar.Ds {e = e} is) h = expr_good l e is h
-directive_body place d l b good (grammar.Dbit {e = e} is) h = expr_good l e is h
-directive_body place d l b good (grammar.Org {e = e} is) h = expr_good l e is h
-directive_body place d l b good (grammar.Db {items = xs} is) h =
+directive_body : (index : ℕ) (d : Directive) (l : List Symbol) (b : BodyTree) → IsDirective d
+    → grammar.IsDirective d l b → Each IsGood l → IsBody index b
+directive_body index d l b good (grammar.Using {e = e} is) h = expr_good l e is h
+directive_body index d l b good (grammar.Ds {e = e} is) h = expr_good l e is h
+directive_body index d l b good (grammar.Dbit {e = e} is) h = expr_good l e is h
+directive_body index d l b good (grammar.Org {e = e} is) h = expr_good l e is h
+directive_body index d l b good (grammar.Db {items = xs} is) h =
     list_good grammar.IsItem (IsItem true) item_good l xs is h
-directive_body place d l b good (grammar.Dw {items = xs} is) h =
+directive_body index d l b good (grammar.Dw {items = xs} is) h =
     list_good grammar.IsValue (IsItem false) value_good l xs is h
-directive_body place d l b good grammar.Select h = (good, tt)
-directive_body place d l b good (grammar.SelectAt {symbols = rest} {e = e} is) h = (good, expr_good rest e is h.1)
-directive_body place d l b good (grammar.Rseg {name = name} is) h = name_good l name is h
-directive_body place d l b good (grammar.ModuleName {name = name} is) h = name_good l name is h
-directive_body place d l b good (grammar.Public {names = xs} is) h =
+directive_body index d l b good grammar.Select h = (good, tt)
+directive_body index d l b good (grammar.SelectAt {symbols = rest} {e = e} is) h = (good, expr_good rest e is h.1)
+directive_body index d l b good (grammar.Rseg {name = name} is) h = name_good l name is h
+directive_body index d l b good (grammar.ModuleName {name = name} is) h = name_good l name is h
+directive_body index d l b good (grammar.Public {names = xs} is) h =
     list_good grammar.IsName IsLeafName name_good l xs is h
-directive_body place d l b good (grammar.Extrn {externs = xs} is) h = externs_good None l xs is h
-directive_body place d l b good grammar.End h = tt
+directive_body index d l b good (grammar.Extrn {externs = xs} is) h = externs_good None l xs is h
+directive_body index d l b good grammar.End h = tt
 
 -- the statement after the label; a definition is the first in its line
-said_good : (place : ℕ) (labelled : Bool) (l : List Symbol) (b : BodyTree) → (labelled ≡ false → place ≡ 0)
-    → grammar.IsSaid labelled l b → Each IsGood l → IsBody place b
-said_good place labelled l b first grammar.Nothing h = tt
-said_good place labelled l b first (grammar.Instruction {symbols = rest} {os = os} is given form) h =
+said_good : (index : ℕ) (labelled : Bool) (l : List Symbol) (b : BodyTree) → (labelled ≡ false → index ≡ 0)
+    → grammar.IsSaid labelled l b → Each IsGood l → IsBody index b
+said_good index labelled l b first grammar.Nothing h = tt
+said_good index labelled l b first (grammar.Instruction {symbols = rest} {os = os} is given form) h =
     record { written = h.0.written; word = h.0.symbol; form = form; each = operands_good rest os given h.1 }
-said_good place labelled l b first (grammar.Directed {word = word} {d = d} {symbols = rest} found is) h =
-    directive_body place d rest b ((directive_good word).holds d found) is h.1
-said_good place labelled l b first (grammar.Defined {name = name} {word = word} {d = d} {symbols = rest} free found is)
+said_good index labelled l b first (grammar.Directed {word = word} {d = d} {symbols = rest} found is) h =
+    directive_body index d rest b ((directive_good word).holds d found) is h.1
+said_good index labelled l b first (grammar.Defined {name = name} {word = word} {d = d} {symbols = rest} free found is)
     h =
-    definition_body place d name rest b (first refl) ((definition_good word).holds d found)
+    definition_body index d name rest b (first refl) ((definition_good word).holds d found)
     (record { leaf = h.0; free = free }) is h.1.1
 
 statement_good : (l : List Symbol) (s : StmtTree) → grammar.IsStatement l s → Each IsGood l → IsStatement s
@@ -275,7 +276,8 @@ if_ended_good : (inner rest : List ℕ) → IsIncluded inner → IfSome (if_ende
 if_ended_good inner rest is = some_cond (ends rest) (some_is is) none_is
 
 closed_by : (inner : List ℕ) (len : ℕ) (b : Bool) → (len == 0) ≡ b → len ≡ prefix_len is_inside inner
-    → IfSome (cond b None (option_and_then (if_ended (take len inner)) (behind_sign closing (drop len inner))))
+    → IfSome (cond b None
+    (option_and_then (if_ended (take len inner)) (behind_sign right_parenthesis (drop len inner))))
     IsIncluded
 closed_by inner len true is same = none_is
 closed_by inner len false is same =
@@ -283,7 +285,7 @@ closed_by inner len false is same =
     ∙ front_passes is_inside inner in
     let long : length (take len inner) ≡ len = ap (λ n. length (take n inner)) same ∙ length-prefix_len is_inside inner
     ∙ sym same in
-    some_then (if_ended (take len inner)) IsIncluded (behind_sign closing (drop len inner))
+    some_then (if_ended (take len inner)) IsIncluded (behind_sign right_parenthesis (drop len inner))
     (λ rest is'. if_ended_good (take len inner) rest (omega (arith, long, positive len is), inside))
 
 closed_good : (inner : List ℕ) → IfSome (closed_at inner (prefix_len is_inside inner)) IsIncluded
@@ -295,14 +297,14 @@ include_by (Some name) h = ok_is (h.holds name refl)
 
 include_good : (rest : List ℕ) → IfRead (include rest) IsControl
 include_good rest = include_by (parenthesized rest)
-    (some_then _ IsIncluded (behind_sign opening (control.behind_blanks rest)) (λ inner is. closed_good inner))
+    (some_then _ IsIncluded (behind_sign left_parenthesis (control.behind_blanks rest)) (λ inner is. closed_good inner))
 
 ignored_good : (o : Option (List ℕ)) → IfRead (ignored_if o) IsControl
 ignored_good None = err_is
 ignored_good (Some text) = ok_is tt
 
-control_word : (word rest : List ℕ) → IfRead (control.by_word word rest) IsControl
-unfolding control.by_word
+control_word : (word rest : List ℕ) → IfRead (control.body_by_word word rest) IsControl
+unfolding control.body_by_word
 control_word word rest =
     ok_cond (bytes_eq word (codes "INCLUDE")) (λ _. include_good rest) (λ _.
     ok_cond (bytes_eq word (codes "TITLE"))

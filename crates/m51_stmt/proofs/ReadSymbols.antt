@@ -14,7 +14,7 @@ use Rattle.m51_lex.specs.declared.token.Token.{Token}
 use Rattle.m51_lex.specs.declared.token.What.{What}
 use Rattle.m51_lex.specs.declared.token.What.TheVariants as what
 use Rattle.m51_lex.specs.Characters.{quote, tab, space, semicolon, is_name_byte, is_sign}
-use Rattle.m51_lex.specs.Number.{number_of, of_16_bits, value_in, base_of, last_of, digits_of}
+use Rattle.m51_lex.specs.Number.{number_of, of_16_bits, value_in, suffix_radix, last_of, digits_of}
 use Rattle.m51_lex.specs.Lexeme.{lexeme_of, name_lexeme, number_or_fault, text_or_fault, text_len}
 use Rattle.m51_lex.specs.Tokens.{Cut, put_front, after_lexeme, tokens_at}
 use Rattle.m51_expr.specs.declared.symbol.Symbol.{Symbol}
@@ -25,7 +25,7 @@ use Rattle.m51_expr.specs.Words.{is_language_word}
 use Rattle.m51_expr.specs.Tree as tree
 use Rattle.m51_expr.specs.Tree.{Tree}
 use Rattle.m51_expr.specs.Ranks.{leaf_of, text_value}
-use Rattle.m51_expr.specs.Reading.{line_of}
+use Rattle.m51_expr.specs.Reading.{line_of_symbols}
 use Rattle.m51_expr.specs.Grammar.{Writes, Leaf, Parens, Before, Between, Tighter}
 use Rattle.m51_stmt.specs.Laws.{IsByte}
 use Rattle.m51_stmt.proofs.WordCuts.{passed}
@@ -206,7 +206,7 @@ leaf_good (Some symbols.Here) h = some_is tt
 leaf_good (Some s) h = none_is
 
 pub tree_good : (l : List Symbol) {rank from : ℕ} {e : Tree} {to : ℕ} → Each IsGood l
-    → Writes (line_of l) rank from e to → IsTree e
+    → Writes (line_of_symbols l) rank from e to → IsTree e
 tree_good l {rank} {from} h (Leaf {e = e} is leaf end) =
     (leaf_good (slice_get l from) (each_get IsGood l from h)).holds e leaf
 tree_good l h (Parens is open' inner close end) = tree_good l h inner
@@ -231,7 +231,7 @@ fits_16 (Some n) = record { holds = λ m is. fits_by n m (nat_le n 65535) refl i
 
 number_fits : (run : List ℕ) → IfSome (number_of run) (λ n. n < 65536)
 unfolding number_of
-number_fits run = fits_16 (value_in (base_of (last_of run)) 0 (digits_of run))
+number_fits run = fits_16 (value_in (suffix_radix (last_of run)) 0 (digits_of run))
 
 module _ (at : ℕ) (go : ℕ → Cut) (more : (n : ℕ) → IfRead (go n) (Each IsToken)) where
   number_tokens : (len : ℕ) (o : Option ℕ) → IfSome o (λ n. n < 65536)

@@ -8,20 +8,20 @@ use Rattle.m51_cells.specs.Blanks.{is_blank}
 use Rattle.m51_cells.specs.Name.{name_of}
 use Rattle.m51_cells.specs.declared.fault.TheConstants.{BAD_FORM}
 use Rattle.m51_lex.specs.Characters.{semicolon}
-use Rattle.m51_expr.specs.Words.{is_among}
+use Rattle.m51_expr.specs.Words.{is_word_among}
 use Rattle.m51_stmt.specs.Statement.{BodyTree, Ignored, Include, Mod51}
 
 -- (
-abbrev pub opening : ℕ
-opening = 40
+abbrev pub left_parenthesis : ℕ
+left_parenthesis = 40
 
 -- )
-abbrev pub closing : ℕ
-closing = 41
+abbrev pub right_parenthesis : ℕ
+right_parenthesis = 41
 
 -- a byte that is allowed between the parentheses of a control: neither ) nor ;
 abbrev pub is_inside : ℕ → Bool
-is_inside b = not (b == closing) && not (b == semicolon)
+is_inside b = not (b == right_parenthesis) && not (b == semicolon)
 
 -- what follows the leading blanks
 abbrev pub behind_blanks : List ℕ → List ℕ
@@ -48,12 +48,14 @@ if_ended inner behind = if ends behind then Some inner else None
 -- the bytes of this number, if there are some, where ) follows them and ends the line
 abbrev pub closed_at : List ℕ → ℕ → Option (List ℕ)
 closed_at inner len =
-    if len == 0 then None else option_and_then (if_ended (take len inner)) (behind_sign closing (drop len inner))
+    if len == 0 then None
+    else option_and_then (if_ended (take len inner)) (behind_sign right_parenthesis (drop len inner))
 
 -- one or more bytes between parentheses, followed by only blanks and a comment
 abbrev pub parenthesized : List ℕ → Option (List ℕ)
 parenthesized rest =
-    option_and_then (λ inner. closed_at inner (prefix_len is_inside inner)) (behind_sign opening (behind_blanks rest))
+    option_and_then (λ inner. closed_at inner (prefix_len is_inside inner))
+    (behind_sign left_parenthesis (behind_blanks rest))
 
 -- a control without an operand
 abbrev pub alone : List ℕ → BodyTree → Result BodyTree ℕ
@@ -80,11 +82,11 @@ title rest = if ends rest then Ok Ignored else ignored_if (parenthesized rest)
 -- a control that changes nothing and has no operand
 unfoldable pub is_ignored_word : List ℕ → Bool
 is_ignored_word word =
-    is_among word (codes "LIST" ∷ codes "NOLIST" ∷ codes "DEBUG" ∷ codes "NODEBUG" ∷ codes "EJECT" ∷ [])
+    is_word_among word (codes "LIST" ∷ codes "NOLIST" ∷ codes "DEBUG" ∷ codes "NODEBUG" ∷ codes "EJECT" ∷ [])
 
 -- what the word and what follows it say
-unfoldable pub by_word : List ℕ → List ℕ → Result BodyTree ℕ
-by_word word rest =
+unfoldable pub body_by_word : List ℕ → List ℕ → Result BodyTree ℕ
+body_by_word word rest =
     if bytes_eq word (codes "INCLUDE") then include rest
     else if bytes_eq word (codes "TITLE") then title rest
     else if bytes_eq word (codes "MOD51") then alone rest (Mod51 true)
@@ -94,7 +96,7 @@ by_word word rest =
 
 -- what a control says by its word, if it has one
 abbrev pub by_name : Option (List ℕ) → List ℕ → Result BodyTree ℕ
-by_name (Some word) rest = by_word word rest
+by_name (Some word) rest = body_by_word word rest
 by_name None rest = Err BAD_FORM
 
 -- what a control line says, from the bytes after its $

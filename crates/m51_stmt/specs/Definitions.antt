@@ -18,8 +18,8 @@ use Rattle.m51_stmt.specs.Lack.{lacks}
 use Rattle.m51_stmt.specs.Lists.{expression}
 
 -- the definition that a word makes
-unfoldable pub definition_of : List ℕ → Option DefinitionWord
-definition_of word =
+unfoldable pub definition_word : List ℕ → Option DefinitionWord
+definition_word word =
     if bytes_eq word (codes "SEGMENT") then Some Segment
     else if bytes_eq word (codes "EQU") then Some Equ
     else if bytes_eq word (codes "SET") then Some Set
@@ -35,8 +35,8 @@ segment_with name overlayable k r =
     if is_allowed k r overlayable then Some (body.Segment name k r overlayable) else None
 
 -- the segment of this name by the words for its kind and its type, and whether OVERLAYABLE is written
-abbrev pub segment_of : List ℕ → Option Kind → Option Reloc → Bool → Option BodyTree
-segment_of name k r overlayable =
+abbrev pub segment_body : List ℕ → Option Kind → Option Reloc → Bool → Option BodyTree
+segment_body name k r overlayable =
     option_and_then (λ kind. option_and_then (segment_with name overlayable kind) r) k
 
 -- the word OVERLAYABLE
@@ -45,12 +45,12 @@ is_overlayable word = bytes_eq word (codes "OVERLAYABLE")
 
 -- kind [type] [OVERLAYABLE]; the type is UNIT if none is written
 abbrev pub segment : List ℕ → List Symbol → Option BodyTree
-segment name (symbol.Word kind ∷ []) = segment_of name (kind_of kind) (Some reloc.Unit) false
+segment name (symbol.Word kind ∷ []) = segment_body name (kind_of kind) (Some reloc.Unit) false
 segment name (symbol.Word kind ∷ symbol.Word last ∷ []) =
-    if is_overlayable last then segment_of name (kind_of kind) (Some reloc.Unit) true
-    else segment_of name (kind_of kind) (reloc_of last) false
+    if is_overlayable last then segment_body name (kind_of kind) (Some reloc.Unit) true
+    else segment_body name (kind_of kind) (reloc_of last) false
 segment name (symbol.Word kind ∷ symbol.Word type ∷ symbol.Word last ∷ []) =
-    if is_overlayable last then segment_of name (kind_of kind) (reloc_of type) true else None
+    if is_overlayable last then segment_body name (kind_of kind) (reloc_of type) true else None
 segment name other = None
 
 -- the definition of this name

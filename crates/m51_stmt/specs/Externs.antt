@@ -26,20 +26,20 @@ next awaited.End symbol.Comma = Some awaited.Kind
 next here s = None
 
 -- the name with its kind that a symbol adds
-abbrev pub named : Awaited → Symbol → List (List ℕ × Kind)
-named (awaited.Name kind) (symbol.Name name) = (name, kind) ∷ []
-named here s = []
+abbrev pub names_added : Awaited → Symbol → List (List ℕ × Kind)
+names_added (awaited.Name kind) (symbol.Name name) = (name, kind) ∷ []
+names_added here s = []
 
 -- the line may end only where no kind, name or sign is awaited
-abbrev pub ended : Awaited → Option (List (List ℕ × Kind))
-ended awaited.End = Some []
-ended here = None
+abbrev pub names_at_end : Awaited → Option (List (List ℕ × Kind))
+names_at_end awaited.End = Some []
+names_at_end here = None
 
 -- the names that the symbols add, where this is awaited
 abbrev pub externs_from : Awaited → List Symbol → Option (List (List ℕ × Kind))
-externs_from here [] = ended here
+externs_from here [] = names_at_end here
 externs_from here (s ∷ rest) =
-    option_and_then (λ later. option_map (λ more. named here s ++ more) (externs_from later rest)) (next here s)
+    option_and_then (λ later. option_map (λ more. names_added here s ++ more) (externs_from later rest)) (next here s)
 
 -- the groups of EXTRN
 abbrev pub externs : List Symbol → Option (List (List ℕ × Kind))

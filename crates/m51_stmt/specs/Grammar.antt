@@ -13,7 +13,7 @@ use Rattle.m51_expr.specs.declared.symbol.Symbol.{Symbol}
 use Rattle.m51_expr.specs.declared.symbol.Symbol.TheVariants as symbol
 use Rattle.m51_expr.specs.Words.{is_reserved}
 use Rattle.m51_expr.specs.Tree.{Tree}
-use Rattle.m51_expr.specs.Reading.{line_of}
+use Rattle.m51_expr.specs.Reading.{line_of_symbols}
 use Rattle.m51_expr.specs.Grammar.{Writes}
 use Rattle.m51_expr.specs.Looks.{has_form}
 use Rattle.m51_stmt.specs.declared.definitions.DefinitionWord.{DefinitionWord}
@@ -24,14 +24,14 @@ use Rattle.m51_stmt.specs.Statement as body
 use Rattle.m51_stmt.specs.Statement.{BodyTree, StmtTree, OperandTree, ItemTree, Imm, NotBit, Plain}
 use Rattle.m51_stmt.specs.Kinds.{kind_of, reloc_of, extern_kind_of}
 use Rattle.m51_stmt.specs.Operands.{register, pointer, sum}
-use Rattle.m51_stmt.specs.Definitions.{definition_of, is_allowed}
+use Rattle.m51_stmt.specs.Definitions.{definition_word, is_allowed}
 use Rattle.m51_stmt.specs.Directives.{directive_of}
 use Rattle.m51_stmt.specs.Control.{control}
 use Rattle.m51_stmt.specs.Lines.{with_label, symbols_of}
 
 -- expr: the symbols are an expression, all of them (by the grammar of expressions)
 pub record IsExpr (symbols : List Symbol) (e : Tree) : Type 0 where
-  pub writes : Writes (line_of symbols) 0 0 e (length symbols)
+  pub writes : Writes (line_of_symbols symbols) 0 0 e (length symbols)
 
 -- list of parts = part | part , list
 pub data IsList {A : Type 0} (IsPart : List Symbol → A → Type 0) : List Symbol → List A → Type 0 where
@@ -75,7 +75,7 @@ pub data IsItem : List Symbol → ItemTree → Type 0 where
   Value : {symbols : List Symbol} {e : Tree}
       → is_text_alone symbols ≡ false → IsExpr symbols e → IsItem symbols (body.Value e)
 
--- The symbols of EXTRN from a place on: before a group (None), or where a name of a kind is expected:
+-- The symbols of EXTRN from an index on: before a group (None), or where a name of a kind is expected:
 --   groups = KIND ( names
 --   names  = name , names | name ) | name ) , groups
 pub data AreExterns : Option Kind → List Symbol → List (List ℕ × Kind) → Type 0 where
@@ -145,7 +145,7 @@ pub data IsSaid : Bool → List Symbol → BodyTree → Type 0 where
   Directed : {labelled : Bool} {word : List ℕ} {d : Directive} {symbols : List Symbol} {b : BodyTree}
       → directive_of word ≡ Some d → IsDirective d symbols b → IsSaid labelled (symbol.Word word ∷ symbols) b
   Defined : {name word : List ℕ} {d : DefinitionWord} {symbols : List Symbol} {b : BodyTree}
-      → is_reserved name ≡ false → definition_of word ≡ Some d → IsDefinition name d symbols b
+      → is_reserved name ≡ false → definition_word word ≡ Some d → IsDefinition name d symbols b
       → IsSaid false (symbol.Name name ∷ symbol.Word word ∷ symbols) b
 
 -- statement = name : said | said

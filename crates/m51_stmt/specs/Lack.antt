@@ -6,7 +6,7 @@ use Rattle.m51_expr.specs.declared.symbol.Symbol.{Symbol}
 use Rattle.m51_expr.specs.declared.symbol.Symbol.TheVariants as symbol
 use Rattle.m51_expr.specs.declared.tree.Unary.TheVariants as unary
 use Rattle.m51_expr.specs.Ranks.{is_open, is_close, leaf_of}
-use Rattle.m51_expr.specs.Reading.{Reads, expression_in}
+use Rattle.m51_expr.specs.Reading.{ParsedTree, expression_in}
 use Rattle.m51_stmt.specs.declared.lack.Want.{Want}
 use Rattle.m51_stmt.specs.declared.lack.Want.TheVariants as want
 use Rattle.m51_stmt.specs.declared.lack.Prefix.{Prefix}
@@ -14,8 +14,8 @@ use Rattle.m51_stmt.specs.declared.lack.Prefix.TheVariants as prefix
 use Rattle.m51_stmt.specs.Words.{begins_expression, begins_operand, is_text, is_operator, first_is}
 
 -- a value as it is
-abbrev pub same : {A : Type 0} → A → A
-same a = a
+abbrev pub as_given : {A : Type 0} → A → A
+as_given a = a
 
 -- what is required begins with this symbol
 abbrev pub begins : Want → Symbol → Bool
@@ -27,15 +27,15 @@ begins want.Nothing s = true
 begins want.Names s = true
 
 -- the symbols begin with what is required
-abbrev pub is_met : Want → List Symbol → Bool
-is_met want.First [] = true
-is_met want.Nothing [] = true
-is_met want.Names [] = true
-is_met w [] = false
-is_met w (s ∷ rest) = begins w s
+abbrev pub is_want_met : Want → List Symbol → Bool
+is_want_met want.First [] = true
+is_want_met want.Nothing [] = true
+is_want_met want.Names [] = true
+is_want_met w [] = false
+is_want_met w (s ∷ rest) = begins w s
 
 -- how many symbols an expression has
-abbrev pub many : Reads → Option ℕ
+abbrev pub many : ParsedTree → Option ℕ
 many None = None
 many (Some r) = Some r.1
 
@@ -73,7 +73,7 @@ operand_in before [] = None
 operand_in before (s ∷ more) = after_prefix before (λ next. operand_in next more) (s ∷ more) (prefix_of s)
 
 -- an expression is read, and a closing parenthesis follows it
-abbrev pub closes : List Symbol → Reads → Bool
+abbrev pub closes : List Symbol → ParsedTree → Bool
 closes symbols (Some r) = is_close (slice_get symbols r.1)
 closes symbols None = false
 
@@ -110,7 +110,7 @@ passed_behind w symbol.Open rest = none_if (is_parenthesis rest)
 passed_behind w symbol.Hash rest = many (expression_in rest)
 passed_behind w (symbol.Infix op) rest = many (expression_in rest)
 passed_behind w (symbol.Text characters) rest = none_if (not (first_is is_operator rest))
-passed_behind w symbol.Comma rest = none_if (is_met w rest)
+passed_behind w symbol.Comma rest = none_if (is_want_met w rest)
 passed_behind w symbol.At rest = Some (after_at rest)
 passed_behind w s rest = Some 0
 
@@ -132,4 +132,4 @@ lacks_after n w (s ∷ rest) =
 
 -- the symbols do not begin with what is required first, or something required further on is missing
 abbrev pub lacks : Want → Want → List Symbol → Bool
-lacks first w symbols = if is_met first symbols then lacks_after 0 w symbols else true
+lacks first w symbols = if is_want_met first symbols then lacks_after 0 w symbols else true

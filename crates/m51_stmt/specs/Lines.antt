@@ -22,7 +22,7 @@ use Rattle.m51_stmt.specs.Answer.{and_then, or_fault}
 use Rattle.m51_stmt.specs.Words.{word_of, is_word, is_reserved_word, first_is}
 use Rattle.m51_stmt.specs.Lack.{lacks}
 use Rattle.m51_stmt.specs.Operands.{instruction}
-use Rattle.m51_stmt.specs.Definitions.{definition_of, definition_form, definition_lacks}
+use Rattle.m51_stmt.specs.Definitions.{definition_word, definition_form, definition_lacks}
 use Rattle.m51_stmt.specs.Directives.{directive_of, directive_form, directive_fault, lacking}
 use Rattle.m51_stmt.specs.Control.{control}
 
@@ -36,7 +36,7 @@ spoken word rest =
 abbrev pub defined : Bool → List ℕ → List Symbol → Option BodyTree
 defined labelled name (symbol.Word word ∷ rest) =
     if labelled || is_reserved name then None
-    else option_and_then (λ d. definition_form d name rest) (definition_of word)
+    else option_and_then (λ d. definition_form d name rest) (definition_word word)
 defined labelled name other = None
 
 -- the statement after the label: nothing, a definition, an instruction or a directive
@@ -51,20 +51,20 @@ abbrev pub with_label : Option (List ℕ) → BodyTree → StmtTree
 with_label label body = record { label = label; body = body }
 
 -- what a name begins: a label, where a colon follows it, or a definition
-abbrev pub named : List ℕ → List Symbol → Option StmtTree
-named name (symbol.Colon ∷ rest) =
+abbrev pub named_line : List ℕ → List Symbol → Option StmtTree
+named_line name (symbol.Colon ∷ rest) =
     if is_reserved name then None else option_map (with_label (Some name)) (said true rest)
-named name rest = option_map (with_label None) (defined false name rest)
+named_line name rest = option_map (with_label None) (defined false name rest)
 
 -- the statement that the symbols of a line write, if they have no syntax error
 abbrev pub statement : List Symbol → Option StmtTree
-statement (symbol.Name name ∷ rest) = named name rest
+statement (symbol.Name name ∷ rest) = named_line name rest
 statement symbols = option_map (with_label None) (said false symbols)
 
 -- the word of definitions that comes first
 abbrev pub definition_in : List Symbol → Option DefinitionWord
 definition_in [] = None
-definition_in (s ∷ rest) = option_and_then definition_of (word_of s)
+definition_in (s ∷ rest) = option_and_then definition_word (word_of s)
 
 -- the word EXTRN
 abbrev pub is_extrn : Symbol → Bool

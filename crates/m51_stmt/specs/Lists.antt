@@ -4,7 +4,7 @@ use Rattle.std.specs.Prelude.{Some, None, option_map, option_and_then}
 use Rattle.m51_expr.specs.declared.symbol.Symbol.{Symbol}
 use Rattle.m51_expr.specs.declared.symbol.Symbol.TheVariants as symbol
 use Rattle.m51_expr.specs.Tree.{Tree}
-use Rattle.m51_expr.specs.Reading.{Reads, expression_in}
+use Rattle.m51_expr.specs.Reading.{ParsedTree, expression_in}
 use Rattle.m51_expr.specs.declared.operand.Item.{Item}
 use Rattle.m51_stmt.specs.Statement.{ItemTree, Value, Text, item_tree}
 use Rattle.m51_stmt.specs.Words.{is_comma}
@@ -37,8 +37,8 @@ later_parts [] = []
 later_parts (s ∷ rest) = all_parts rest
 
 -- a list after what is read of it before
-abbrev pub after : {A : Type 0} → List A → Option (List A) → Option (List A)
-after done more = option_map (λ others. done ++ others) more
+abbrev pub list_after : {A : Type 0} → List A → Option (List A) → Option (List A)
+list_after done more = option_map (λ others. done ++ others) more
 
 -- only a name
 abbrev pub name_alone : List Symbol → Option (List ℕ)
@@ -46,7 +46,7 @@ name_alone (symbol.Name name ∷ []) = Some name
 name_alone other = None
 
 -- the tree that is read, if it has `all` symbols
-abbrev pub all_read : ℕ → Reads → Option Tree
+abbrev pub all_read : ℕ → ParsedTree → Option Tree
 all_read all None = None
 all_read all (Some (e, many)) = if many == all then Some e else None
 

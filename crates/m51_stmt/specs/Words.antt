@@ -6,7 +6,7 @@ use Rattle.m51_expr.specs.declared.tree.Binary.{Binary}
 use Rattle.m51_expr.specs.declared.tree.Binary.TheVariants as binary
 use Rattle.m51_expr.specs.declared.symbol.Symbol.{Symbol}
 use Rattle.m51_expr.specs.declared.symbol.Symbol.TheVariants as symbol
-use Rattle.m51_expr.specs.Words.{is_among, is_reserved}
+use Rattle.m51_expr.specs.Words.{is_word_among, is_reserved}
 use Rattle.m51_expr.specs.Ranks.{text_value}
 
 -- the name, or the word of the language, that a symbol is
@@ -70,7 +70,7 @@ register_number word =
 -- a register that is an operand by itself
 unfoldable pub is_register : List ℕ → Bool
 is_register word =
-    is_among word (codes "A" ∷ codes "AB" ∷ codes "C" ∷ codes "DPTR" ∷ codes "R0" ∷ codes "R1" ∷ codes "R2" ∷
+    is_word_among word (codes "A" ∷ codes "AB" ∷ codes "C" ∷ codes "DPTR" ∷ codes "R0" ∷ codes "R1" ∷ codes "R2" ∷
     codes "R3" ∷ codes "R4" ∷ codes "R5" ∷ codes "R6" ∷ codes "R7" ∷ [])
 
 -- an expression may begin with it

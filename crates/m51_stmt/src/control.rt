@@ -5,7 +5,7 @@ ghost use Rattle.m51_cells.specs.Outcome.{Gives};
 ghost use Rattle.m51_stmt.specs.Statement.{body_tree};
 ghost use Rattle.m51_stmt.specs.Answer.{fault_of};
 ghost use Rattle.m51_stmt.specs.Control.{is_inside, behind_blanks, ends, behind_sign, parenthesized, alone};
-ghost use Rattle.m51_stmt.specs.Control.{include, title, is_ignored_word, by_word, control};
+ghost use Rattle.m51_stmt.specs.Control.{include, title, is_ignored_word, body_by_word, control};
 
 use crate::fault::{OUT_OF_FORM, StmtError};
 use crate::statement::Body;
@@ -112,9 +112,9 @@ fn is_ignored_word(word: &[u8]) -> bool
     is_among(word, &IGNORED)
 }
 
-#[tactic(auto, unfolding(crate::specs::Control::by_word))]
-fn by_word(alloc: Global, word: &[u8], rest: &[u8]) -> Result<Body, StmtError>
-    ensures { Gives body_tree fault_of result (by_word word.now rest.now) }
+#[tactic(auto, unfolding(crate::specs::Control::body_by_word))]
+fn body_by_word(alloc: Global, word: &[u8], rest: &[u8]) -> Result<Body, StmtError>
+    ensures { Gives body_tree fault_of result (body_by_word word.now rest.now) }
 {
     if word == b"INCLUDE".as_slice() {
         include(alloc, rest)
@@ -137,7 +137,7 @@ pub(crate) fn control(alloc: Global, rest: &[u8]) -> Result<Body, StmtError>
 {
     let len = alphanumeric_len(rest);
     match Name::of(&rest[..len]) {
-        Some(word) => by_word(alloc, word.bytes(), &rest[len..]),
+        Some(word) => body_by_word(alloc, word.bytes(), &rest[len..]),
         None => Err(OUT_OF_FORM),
     }
 }

@@ -1,7 +1,7 @@
 //! Reads definitions: SEGMENT, EQU, SET and the words of addresses.
 ghost use Rattle.std.specs.Prelude.{◌≡◌, IfOk, option_map};
 ghost use Rattle.m51_stmt.specs.Statement.{body_tree};
-ghost use Rattle.m51_stmt.specs.Definitions.{definition_of, is_allowed, segment_of, is_overlayable, segment};
+ghost use Rattle.m51_stmt.specs.Definitions.{definition_word, is_allowed, segment_body, is_overlayable, segment};
 ghost use Rattle.m51_stmt.specs.Definitions.{definition_form};
 ghost use Rattle.m51_stmt.specs.Definitions.{definition_lacks};
 
@@ -23,9 +23,9 @@ pub(crate) enum DefinitionWord {
 }
 
 /// The definition that a word makes.
-#[tactic(auto, unfolding(crate::specs::Definitions::definition_of))]
-pub(crate) fn definition_of(word: &[u8]) -> Option<DefinitionWord>
-    ensures { result ≡ definition_of word.now }
+#[tactic(auto, unfolding(crate::specs::Definitions::definition_word))]
+pub(crate) fn definition_word(word: &[u8]) -> Option<DefinitionWord>
+    ensures { result ≡ definition_word word.now }
 {
     if word == b"SEGMENT".as_slice() {
         Some(DefinitionWord::Segment)
@@ -46,13 +46,13 @@ fn is_allowed(kind: Kind, reloc: Reloc, overlayable: bool) -> bool
 }
 
 // The segment of this name by its kind and its type, and whether OVERLAYABLE is written.
-fn segment_of(
+fn segment_body(
     name: &Name,
     kind: Option<Kind>,
     reloc: Option<Reloc>,
     overlayable: bool,
 ) -> Option<Body>
-    ensures { option_map body_tree result ≡ segment_of name.now kind reloc overlayable }
+    ensures { option_map body_tree result ≡ segment_body name.now kind reloc overlayable }
 {
     let kind = kind?;
     let reloc = reloc?;
@@ -74,17 +74,17 @@ fn segment(name: &Name, symbols: &[Symbol]) -> Option<Body>
     ensures { option_map body_tree result ≡ segment name.now symbols.now }
 {
     match symbols {
-        [Symbol::Word(kind)] => segment_of(name, kind_of(kind.bytes()), Some(Reloc::Unit), false),
+        [Symbol::Word(kind)] => segment_body(name, kind_of(kind.bytes()), Some(Reloc::Unit), false),
         [Symbol::Word(kind), Symbol::Word(last)] => {
             let kind = kind_of(kind.bytes());
             if is_overlayable(last) {
-                segment_of(name, kind, Some(Reloc::Unit), true)
+                segment_body(name, kind, Some(Reloc::Unit), true)
             } else {
-                segment_of(name, kind, reloc_of(last.bytes()), false)
+                segment_body(name, kind, reloc_of(last.bytes()), false)
             }
         }
         [Symbol::Word(kind), Symbol::Word(reloc), Symbol::Word(last)] if is_overlayable(last) => {
-            segment_of(name, kind_of(kind.bytes()), reloc_of(reloc.bytes()), true)
+            segment_body(name, kind_of(kind.bytes()), reloc_of(reloc.bytes()), true)
         }
         _ => None,
     }

@@ -8,7 +8,7 @@ ghost use Rattle.m51_stmt.specs.Directives.{directive_lacks, lacking, reserves, 
 
 use crate::externs::{Awaited, Region, defines_reserved, externs_from};
 use crate::lack::{Want, lacks};
-use crate::lists::{expression, items, name_alone, names};
+use crate::lists::{expression, items, name_alone, names, part_count};
 use crate::statement::Body;
 use m51_cells::{BAD_FORM, Kind, NO_EXPRESSION, NoMemory};
 use m51_expr::Symbol;
@@ -119,7 +119,8 @@ fn end_form(symbols: &[Symbol]) -> Option<Body>
 fn data_bytes(alloc: Global, symbols: &[Symbol]) -> Result<Option<Body>, NoMemory>
     ensures { IfOk result (λ found. option_map body_tree found ≡ option_map Db (list_of item symbols.now)) }
 {
-    match items(alloc, true, symbols, Vec::new(alloc))? {
+    let done = Vec::with_capacity(alloc, part_count(symbols))?;
+    match items(alloc, true, symbols, done)? {
         Some(items) => Ok(Some(Body::Db(items))),
         None => Ok(None),
     }
@@ -139,7 +140,10 @@ pub(crate) fn directive_form(
         Directive::Dbit => Ok(expression(alloc, symbols)?.map(Body::Dbit)),
         Directive::Org => Ok(expression(alloc, symbols)?.map(Body::Org)),
         Directive::Db => data_bytes(alloc, symbols),
-        Directive::Dw => Ok(items(alloc, false, symbols, Vec::new(alloc))?.map(Body::Dw)),
+        Directive::Dw => {
+            let done = Vec::with_capacity(alloc, part_count(symbols))?;
+            Ok(items(alloc, false, symbols, done)?.map(Body::Dw))
+        }
         Directive::Select(kind) => select(alloc, kind, symbols),
         Directive::Rseg => Ok(name_alone(symbols).map(Body::Rseg)),
         Directive::Name => Ok(name_alone(symbols).map(Body::ModuleName)),

@@ -1,7 +1,8 @@
 //! Reads EXTRN.
 ghost use Rattle.std.specs.Prelude.{◌≡◌, ◌<◌, ◌+◌, ◌++◌, ◌^◌, IfOk, OnOk, length, option_map};
-ghost use Rattle.m51_stmt.specs.Lists.{after};
-ghost use Rattle.m51_stmt.specs.Externs.{after_name, next, named, ended, externs_from, region_after, defines_reserved};
+ghost use Rattle.m51_stmt.specs.Lists.{list_after};
+ghost use Rattle.m51_stmt.specs.Externs.{after_name, next, names_added, names_at_end, externs_from, region_after};
+ghost use Rattle.m51_stmt.specs.Externs.{defines_reserved};
 
 use crate::kinds::extern_kind_of;
 use crate::statement::Externs;
@@ -63,7 +64,7 @@ fn next(awaited: Awaited, symbol: &Symbol) -> Option<Awaited>
 
 // Adds the name that a symbol is, with its kind, if a name is awaited.
 fn add(externs: &mut Vec<(Name, Kind)>, awaited: Awaited, symbol: &Symbol) -> Result<(), NoMemory>
-    ensures { OnOk result (externs.new.items ≡ externs.old.items ++ named awaited symbol.now) }
+    ensures { OnOk result (externs.new.items ≡ externs.old.items ++ names_added awaited symbol.now) }
 {
     match (awaited, symbol) {
         (Awaited::Name(kind), Symbol::Name(name)) => {
@@ -80,7 +81,7 @@ pub(crate) fn externs_from(
     symbols: &[Symbol],
     mut done: Vec<(Name, Kind)>,
 ) -> Result<Option<Externs>, NoMemory>
-    ensures { IfOk result (λ found. found ≡ after done.items (externs_from awaited symbols.now)) }
+    ensures { IfOk result (λ found. found ≡ list_after done.items (externs_from awaited symbols.now)) }
 {
     match symbols {
         [] => match awaited {

@@ -4,7 +4,7 @@ ghost use Rattle.m51_stmt.specs.Lines.{definition_in, is_extrn, beside_extrn, de
 ghost use Rattle.m51_stmt.specs.Lines.{begun_fault, fault, is_colon, statement_fault};
 ghost use Rattle.m51_stmt.specs.Words.{first_is};
 
-use crate::definitions::{DefinitionWord, definition_lacks, definition_of};
+use crate::definitions::{DefinitionWord, definition_lacks, definition_word};
 use crate::directives::{directive_fault, directive_of, lacking};
 use crate::lack::{Want, lacks};
 use crate::words::{is_reserved_word, is_word, word_of};
@@ -20,7 +20,7 @@ fn definition_in(symbols: &[Symbol]) -> Option<DefinitionWord>
     match symbols {
         [] => None,
         [first, ..] => match word_of(first) {
-            Some(word) => definition_of(word.bytes()),
+            Some(word) => definition_word(word.bytes()),
             None => None,
         },
     }

@@ -3,7 +3,7 @@ ghost use Rattle.std.specs.Prelude.{◌≡◌, ◌≤◌, ◌<◌, ◌+◌, ◌-
 ghost use Rattle.std.specs.Prelude.{option_map, slice_get};
 ghost use Rattle.m51_expr.specs.Ranks.{is_close, leaf_of};
 ghost use Rattle.m51_expr.specs.Reading.{expression_in};
-ghost use Rattle.m51_stmt.specs.Lack.{begins, is_met, many, after_at, none_if};
+ghost use Rattle.m51_stmt.specs.Lack.{begins, is_want_met, many, after_at, none_if};
 ghost use Rattle.m51_stmt.specs.Lack.{is_start, passed_behind, passed, lacks_after, lacks};
 ghost use Rattle.m51_stmt.specs.Lack.{is_closed, prefix_of, operand_in, closes, operand_begins, is_parenthesis};
 
@@ -39,8 +39,8 @@ fn begins(want: Want, symbol: &Symbol) -> bool
 }
 
 // Whether the symbols begin with what is required.
-fn is_met(want: Want, symbols: &[Symbol]) -> bool
-    ensures { result ≡ is_met want symbols.now }
+fn is_want_met(want: Want, symbols: &[Symbol]) -> bool
+    ensures { result ≡ is_want_met want symbols.now }
 {
     match symbols {
         [first, ..] => begins(want, first),
@@ -113,7 +113,7 @@ fn passed_behind(
         Symbol::Open => Ok(none_if(is_parenthesis(alloc, rest)?)),
         Symbol::Hash | Symbol::Infix(_) => expression_len(alloc, rest),
         Symbol::Text(_) => Ok(none_if(!first_is_operator(rest))),
-        Symbol::Comma => Ok(none_if(is_met(want, rest))),
+        Symbol::Comma => Ok(none_if(is_want_met(want, rest))),
         Symbol::At => Ok(Some(after_at(rest))),
         _ => Ok(Some(0)),
     }
@@ -161,7 +161,7 @@ pub(crate) fn lacks(
 ) -> Result<bool, NoMemory>
     ensures { IfOk result (λ lacking. lacking ≡ lacks first want symbols.now) }
 {
-    if is_met(first, symbols) {
+    if is_want_met(first, symbols) {
         lacks_after(alloc, 0, want, symbols)
     } else {
         Ok(true)

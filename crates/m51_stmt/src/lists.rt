@@ -2,8 +2,8 @@
 ghost use Rattle.std.specs.Prelude.{◌≡◌, ◌≤◌, IfOk, length, map, option_map, take, drop};
 ghost use Rattle.m51_expr.specs.Tree.{tree_of};
 ghost use Rattle.m51_stmt.specs.Statement.{item_tree};
-ghost use Rattle.m51_stmt.specs.Lists.{parts, later_parts, after, list_of, name_alone, expression, value, item};
-ghost use Rattle.m51_stmt.specs.Lists.{item_of, item_trees};
+ghost use Rattle.m51_stmt.specs.Lists.{all_parts, parts, later_parts, list_after, list_of, name_alone};
+ghost use Rattle.m51_stmt.specs.Lists.{expression, value, item, item_of, item_trees};
 
 use crate::words::is_comma;
 use m51_cells::{Bytes, ListOf, Name, Names, NoMemory};
@@ -26,6 +26,30 @@ pub(crate) fn part_len(symbols: &[Symbol]) -> usize
             }
         }
     }
+}
+
+// How many commas there are.
+fn comma_count(symbols: &[Symbol]) -> usize
+    ensures count { result ≡ length (parts symbols.now).1 }
+    ensures within { result ≤ length symbols.now }
+{
+    match symbols {
+        [] => 0,
+        [first, more @ ..] => {
+            if is_comma(first) {
+                1 + comma_count(more)
+            } else {
+                comma_count(more)
+            }
+        }
+    }
+}
+
+/// How many parts there are: one more than commas.
+pub(crate) fn part_count(symbols: &[Symbol]) -> usize
+    ensures { result ≡ length (all_parts symbols.now) }
+{
+    1 + comma_count(symbols)
 }
 
 /// The name that the symbols are, if they are one.
@@ -82,7 +106,7 @@ fn item_of(alloc: Global, texts: bool, symbols: &[Symbol]) -> Result<Option<Item
 
 /// The names with commas between them, after some that are read.
 pub(crate) fn names(symbols: &[Symbol], mut done: Vec<Name>) -> Result<Option<Names>, NoMemory>
-    ensures { IfOk result (λ found. found ≡ after done.items (list_of name_alone symbols.now)) }
+    ensures { IfOk result (λ found. found ≡ list_after done.items (list_of name_alone symbols.now)) }
 {
     let len = part_len(symbols);
     let Some(name) = name_alone(&symbols[..len]) else {
@@ -103,7 +127,7 @@ pub(crate) fn items(
     mut done: Vec<Item>,
 ) -> Result<Option<Items>, NoMemory>
     ensures { IfOk result (λ found. option_map item_trees found
-        ≡ after (map item_tree done.items) (list_of (item_of texts) symbols.now)) }
+        ≡ list_after (map item_tree done.items) (list_of (item_of texts) symbols.now)) }
 {
     let len = part_len(symbols);
     let Some(item) = item_of(alloc, texts, &symbols[..len])? else {

@@ -1,15 +1,16 @@
 //! Reads the operands of instructions.
-ghost use Rattle.std.specs.Prelude.{◌≡◌, IfOk, map, option_map};
+ghost use Rattle.std.specs.Prelude.{◌≡◌, [], IfOk, option_map};
 ghost use Rattle.m51_stmt.specs.Statement.{Imm, Plain, NotBit, operand_tree, body_tree};
-ghost use Rattle.m51_stmt.specs.Lists.{after, list_of, expression};
+ghost use Rattle.m51_stmt.specs.Lists.{list_after, list_of, expression};
 ghost use Rattle.m51_stmt.specs.Operands.{register, pointer, sum, indirect, alone, operand, trees, operands};
 ghost use Rattle.m51_stmt.specs.Operands.{instruction};
+ghost use Rattle.m51_stmt.specs.Answer.{if_found};
 
-use crate::lists::{expression, part_len};
+use crate::lists::{expression, part_count, part_len};
 use crate::statement::Body;
 use crate::words::register_number;
 use m51_cells::{ListOf, Name, NoMemory};
-use m51_expr::{Binary, Operand, Operands, Symbol, has_form};
+use m51_expr::{Binary, Operand, Symbol, has_form};
 use std::alloc::Global;
 
 // The operand that a register is by itself.
@@ -98,48 +99,54 @@ fn operand(alloc: Global, symbols: &[Symbol]) -> Result<Option<Operand>, NoMemor
     }
 }
 
-// The operands with commas between them, after some that are read.
+// Reads the operands with commas between them into `done`, after those that are in it, and says whether each is one.
 fn more_operands(
     alloc: Global,
     symbols: &[Symbol],
-    mut done: Vec<Operand>,
-) -> Result<Option<Operands>, NoMemory>
-    ensures { IfOk result (λ found. option_map trees found
-        ≡ after (map operand_tree done.items) (list_of operand symbols.now)) }
+    done: &mut Vec<Operand>,
+) -> Result<bool, NoMemory>
+    ensures { IfOk result (λ found. if_found found (trees done.new.items)
+        ≡ list_after (trees done.old.items) (list_of operand symbols.now)) }
 {
     let len = part_len(symbols);
     let Some(operand) = operand(alloc, &symbols[..len])? else {
-        return Ok(None);
+        return Ok(false);
     };
     done.push(operand)?;
     match &symbols[len..] {
         [_, rest @ ..] => more_operands(alloc, rest, done),
-        [] => Ok(Some(ListOf::of(done))),
+        [] => Ok(true),
     }
 }
 
-// The operands of an instruction, which may have none.
-fn operands(alloc: Global, symbols: &[Symbol]) -> Result<Option<Operands>, NoMemory>
-    ensures { IfOk result (λ found. option_map trees found ≡ operands symbols.now) }
+// Reads the operands of an instruction, which may have none, into the empty `done`, and says whether each is one.
+fn operands(alloc: Global, symbols: &[Symbol], done: &mut Vec<Operand>) -> Result<bool, NoMemory>
+    requires { done.old.items ≡ [] }
+    ensures { IfOk result (λ found. if_found found (trees done.new.items) ≡ operands symbols.now) }
 {
     match symbols {
-        [] => Ok(Some(ListOf::new(alloc))),
-        _ => more_operands(alloc, symbols, Vec::new(alloc)),
+        [] => Ok(true),
+        _ => {
+            done.reserve_exact(part_count(symbols))?;
+            more_operands(alloc, symbols, done)
+        }
     }
 }
 
-/// The instruction of this mnemonic with what follows it, if it has such a form.
+/// Writes the instruction of this mnemonic with what follows it into `body`, if it has such a form.
 pub(crate) fn instruction(
     alloc: Global,
     mnemonic: &Name,
     symbols: &[Symbol],
-) -> Result<Option<Body>, NoMemory>
-    ensures { IfOk result (λ found. option_map body_tree found ≡ instruction mnemonic.now symbols.now) }
+    body: &mut Body,
+) -> Result<bool, NoMemory>
+    ensures { IfOk result (λ found. if_found found (body_tree body.new) ≡ instruction mnemonic.now symbols.now) }
 {
-    match operands(alloc, symbols)? {
-        Some(operands) if has_form(mnemonic.bytes(), operands.as_slice()) => {
-            Ok(Some(Body::Code(*mnemonic, operands)))
-        }
-        _ => Ok(None),
+    let mut done = Vec::new(alloc);
+    if operands(alloc, symbols, &mut done)? && has_form(mnemonic.bytes(), &done) {
+        *body = Body::Code(*mnemonic, ListOf::of(done));
+        Ok(true)
+    } else {
+        Ok(false)
     }
 }

@@ -1,8 +1,8 @@
 //! Reads a line as a statement.
-ghost use Rattle.std.specs.Prelude.{◌≡◌, ◌≤◌, All, IfOk, drop, length, map, option_map, slice_index};
+ghost use Rattle.std.specs.Prelude.{◌≡◌, ◌≤◌, All, IfOk, OnOk, drop, length, map, option_map, slice_index};
 ghost use Rattle.std.specs.Prelude.{Some, None, option_and_then, true, if◌then◌else◌};
 ghost use Rattle.m51_expr.specs.Words.{is_reserved};
-ghost use Rattle.m51_stmt.specs.Definitions.{definition_form, definition_of};
+ghost use Rattle.m51_stmt.specs.Definitions.{definition_form, definition_word};
 ghost use Rattle.m51_stmt.specs.Directives.{directive_form, directive_of};
 ghost use Rattle.m51_cells.specs.Outcome.{Gives};
 ghost use Rattle.m51_cells.specs.declared.limits.TheConstants.{MOST_LINE_BYTES};
@@ -10,13 +10,13 @@ ghost use Rattle.m51_lex.specs.Tokens.{IsWithin, tokens_at};
 ghost use Rattle.std.specs.Prelude.{Ok};
 ghost use Rattle.m51_stmt.specs.Statement.{StmtTree, body_tree, stmt_tree};
 ghost use Rattle.m51_stmt.specs.Grammar.{IsLine};
-ghost use Rattle.m51_stmt.specs.Answer.{fault_of};
-ghost use Rattle.m51_stmt.specs.Lines.{spoken, defined, said, named, statement, read, control_line, token_line};
+ghost use Rattle.m51_stmt.specs.Answer.{fault_of, if_found};
+ghost use Rattle.m51_stmt.specs.Lines.{spoken, defined, said, named_line, statement, read, control_line, token_line};
 ghost use Rattle.m51_stmt.specs.Lines.{any_line};
 ghost use Rattle.m51_stmt.specs.Lines.{symbols_of, with_label, statement_of};
 
 use crate::control::control;
-use crate::definitions::{definition_form, definition_of};
+use crate::definitions::{definition_form, definition_word};
 use crate::directives::{directive_form, directive_of};
 use crate::fault::{OUT_OF_FORM, StmtError};
 use crate::faults::statement_fault;
@@ -25,113 +25,142 @@ use crate::statement::{Body, Stmt};
 use m51_cells::{MOST_LINE_BYTES, Name, NoMemory};
 use m51_expr::{Symbol, is_reserved, symbols};
 use m51_isa::is_mnemonic;
-use m51_lex::{LONG_LINE, LexError, Token, tokens};
+use m51_lex::{LONG_LINE, LexError, Token, tokens_into};
 use std::alloc::Global;
 
-// The instruction or the directive that a word begins.
-fn spoken(alloc: Global, word: &Name, rest: &[Symbol]) -> Result<Option<Body>, NoMemory>
-    ensures { IfOk result (λ found. option_map body_tree found ≡ spoken word.now rest.now) }
+// Keeps what is found, and says whether there is any.
+fn keep(found: Option<Body>, body: &mut Body) -> bool
+    ensures { if_found result (body_tree body.new) ≡ option_map body_tree found }
+{
+    match found {
+        Some(found) => {
+            *body = found;
+            true
+        }
+        None => false,
+    }
+}
+
+// Writes the instruction or the directive that a word begins into `body`, if there is one.
+fn spoken(alloc: Global, word: &Name, rest: &[Symbol], body: &mut Body) -> Result<bool, NoMemory>
+    ensures { IfOk result (λ found. if_found found (body_tree body.new) ≡ spoken word.now rest.now) }
 {
     if is_mnemonic(word.bytes()) {
-        instruction(alloc, word, rest)
+        instruction(alloc, word, rest, body)
     } else {
         match directive_of(word.bytes()) {
-            Some(directive) => directive_form(alloc, directive, rest),
-            None => Ok(None),
+            Some(directive) => Ok(keep(directive_form(alloc, directive, rest)?, body)),
+            None => Ok(false),
         }
     }
 }
 
-// The definition that a name begins, which is not reserved and has no label before it.
+// Writes the definition that a name begins, which is not reserved and has no label before it, if there is one.
 fn defined(
     alloc: Global,
     labelled: bool,
     name: &Name,
     rest: &[Symbol],
-) -> Result<Option<Body>, NoMemory>
-    ensures { IfOk result (λ found. option_map body_tree found ≡ defined labelled name.now rest.now) }
+    body: &mut Body,
+) -> Result<bool, NoMemory>
+    ensures { IfOk result (λ found. if_found found (body_tree body.new) ≡ defined labelled name.now rest.now) }
 {
     match rest {
         [Symbol::Word(word), rest @ ..] => {
             if labelled || is_reserved(name.bytes()) {
-                return Ok(None);
+                return Ok(false);
             }
-            match definition_of(word.bytes()) {
-                Some(definition) => definition_form(alloc, definition, name, rest),
-                None => Ok(None),
+            match definition_word(word.bytes()) {
+                Some(definition) => {
+                    Ok(keep(definition_form(alloc, definition, name, rest)?, body))
+                }
+                None => Ok(false),
             }
         }
-        _ => Ok(None),
+        _ => Ok(false),
     }
 }
 
-// What comes after the label: nothing, a definition, an instruction or a directive.
-fn said(alloc: Global, labelled: bool, symbols: &[Symbol]) -> Result<Option<Body>, NoMemory>
-    ensures { IfOk result (λ found. option_map body_tree found ≡ said labelled symbols.now) }
+// Writes what comes after the label into `body`: nothing, a definition, an instruction or a directive.
+fn said(
+    alloc: Global,
+    labelled: bool,
+    symbols: &[Symbol],
+    body: &mut Body,
+) -> Result<bool, NoMemory>
+    ensures { IfOk result (λ found. if_found found (body_tree body.new) ≡ said labelled symbols.now) }
 {
     match symbols {
-        [] => Ok(Some(Body::Empty)),
+        [] => {
+            *body = Body::Empty;
+            Ok(true)
+        }
         [first, rest @ ..] => match first {
-            Symbol::Name(name) => defined(alloc, labelled, name, rest),
-            Symbol::Word(word) => spoken(alloc, word, rest),
-            _ => Ok(None),
+            Symbol::Name(name) => defined(alloc, labelled, name, rest, body),
+            Symbol::Word(word) => spoken(alloc, word, rest, body),
+            _ => Ok(false),
         },
     }
 }
 
-// A statement without a label.
-fn bare(body: Body) -> Stmt
-    ensures { stmt_tree result ≡ with_label None (body_tree body) }
-{
-    Stmt { label: None, body }
-}
-
-// What a name begins: a label, where a colon follows it, or a definition.
-fn named(alloc: Global, name: &Name, rest: &[Symbol]) -> Result<Option<Stmt>, NoMemory>
-    ensures { IfOk result (λ found. option_map stmt_tree found ≡ named name.now rest.now) }
+// Writes what a name begins: a label, where a colon follows it, or a definition.
+fn named_line(
+    alloc: Global,
+    name: &Name,
+    rest: &[Symbol],
+    stmt: &mut Stmt,
+) -> Result<bool, NoMemory>
+    ensures { IfOk result (λ found. if_found found (stmt_tree stmt.new) ≡ named_line name.now rest.now) }
 {
     match rest {
         [Symbol::Colon, rest @ ..] => {
             if is_reserved(name.bytes()) {
-                return Ok(None);
+                return Ok(false);
             }
-            let label = Some(*name);
-            Ok(said(alloc, true, rest)?.map(|body| Stmt { label, body }))
+            stmt.label = Some(*name);
+            said(alloc, true, rest, &mut stmt.body)
         }
-        _ => Ok(defined(alloc, false, name, rest)?.map(bare)),
+        _ => {
+            stmt.label = None;
+            defined(alloc, false, name, rest, &mut stmt.body)
+        }
     }
 }
 
-// The statement that the symbols of a line write, if they have no syntax error.
-fn statement(alloc: Global, symbols: &[Symbol]) -> Result<Option<Stmt>, NoMemory>
-    ensures { IfOk result (λ found. option_map stmt_tree found ≡ statement symbols.now) }
+// Writes the statement of the symbols of a line into `stmt`, if they have no syntax error.
+fn statement(alloc: Global, symbols: &[Symbol], stmt: &mut Stmt) -> Result<bool, NoMemory>
+    ensures { IfOk result (λ found. if_found found (stmt_tree stmt.new) ≡ statement symbols.now) }
 {
     match symbols {
-        [Symbol::Name(name), rest @ ..] => named(alloc, name, rest),
-        _ => Ok(said(alloc, false, symbols)?.map(bare)),
+        [Symbol::Name(name), rest @ ..] => named_line(alloc, name, rest, stmt),
+        _ => {
+            stmt.label = None;
+            said(alloc, false, symbols, &mut stmt.body)
+        }
     }
 }
 
-// What the symbols of a line say.
-fn read(alloc: Global, symbols: &[Symbol]) -> Result<Stmt, StmtError>
-    ensures { Gives stmt_tree fault_of result (read symbols.now) }
+// Writes what the symbols of a line say into `stmt`.
+fn read(alloc: Global, symbols: &[Symbol], stmt: &mut Stmt) -> Result<(), StmtError>
+    ensures { Gives (λ _. stmt_tree stmt.new) fault_of result (read symbols.now) }
 {
-    match statement(alloc, symbols)? {
-        Some(statement) => Ok(statement),
-        None => Err(StmtError::Fault {
+    if statement(alloc, symbols, stmt)? {
+        Ok(())
+    } else {
+        Err(StmtError::Fault {
             number: statement_fault(alloc, symbols)?,
-        }),
+        })
     }
 }
 
-// The tokens of a line that is not too long.
-fn token_list(alloc: Global, line: &str) -> Result<Vec<Token>, StmtError>
+// Writes the tokens of a line that is not too long into `found`.
+fn token_list(line: &str, found: &mut Vec<Token>) -> Result<(), StmtError>
     requires { length line.now ≤ MOST_LINE_BYTES }
-    ensures gives { Gives (λ v. v.items) fault_of result (tokens_at 0 0 line.now) }
-    ensures within { IfOk result (λ v. All (IsWithin (length line.now)) v.items) }
+    ensures gives { Gives (λ _. found.new.items) fault_of result (tokens_at 0 0 line.now) }
+    ensures within { OnOk result (All (IsWithin (length line.now)) found.new.items) }
 {
-    match tokens(alloc, line) {
-        Ok(found) => Ok(found),
+    match tokens_into(line, found) {
+        Ok(()) => Ok(()),
         Err(LexError::Fault { number }) => Err(StmtError::Fault { number }),
         Err(LexError::Memory) => Err(StmtError::Memory),
     }
@@ -156,52 +185,87 @@ fn behind_first(line: &[u8]) -> &[u8]
     }
 }
 
-// What a control line says.
-fn control_line(alloc: Global, rest: &[u8]) -> Result<Stmt, StmtError>
-    ensures { Gives stmt_tree fault_of result (control_line rest.now) }
+// Writes what a control line says into `stmt`.
+fn control_line(alloc: Global, rest: &[u8], stmt: &mut Stmt) -> Result<(), StmtError>
+    ensures { Gives (λ _. stmt_tree stmt.new) fault_of result (control_line rest.now) }
 {
     match control(alloc, rest) {
-        Ok(body) => Ok(bare(body)),
+        Ok(body) => {
+            stmt.label = None;
+            stmt.body = body;
+            Ok(())
+        }
         Err(error) => Err(error),
     }
 }
 
-// What a line of tokens says.
-fn token_line(alloc: Global, line: &str) -> Result<Stmt, StmtError>
+// Writes what a line of tokens says into `stmt`, and its tokens into `found`.
+fn token_line(
+    alloc: Global,
+    line: &str,
+    found: &mut Vec<Token>,
+    stmt: &mut Stmt,
+) -> Result<(), StmtError>
     requires { length line.now ≤ MOST_LINE_BYTES }
-    ensures { Gives stmt_tree fault_of result (token_line line.now) }
+    ensures { Gives (λ _. stmt_tree stmt.new) fault_of result (token_line line.now) }
 {
-    match token_list(alloc, line) {
-        Ok(found) => read(alloc, &symbols(alloc, line, &found)?),
+    match token_list(line, found) {
+        Ok(()) => read(alloc, &symbols(alloc, line, found)?, stmt),
         Err(error) => Err(error),
     }
 }
 
-// What a line says that is not too long, by its first character.
+// Writes what a line says that is not too long, by its first character.
 #[tactic(auto, unfolding(crate::specs::Lines::any_line))]
-fn any_line(alloc: Global, line: &str) -> Result<Stmt, StmtError>
+fn any_line(
+    alloc: Global,
+    line: &str,
+    found: &mut Vec<Token>,
+    stmt: &mut Stmt,
+) -> Result<(), StmtError>
     requires { length line.now ≤ MOST_LINE_BYTES }
-    ensures { Gives stmt_tree fault_of result (any_line line.now) }
+    ensures { Gives (λ _. stmt_tree stmt.new) fault_of result (any_line line.now) }
 {
     let bytes = line.as_bytes();
     let first = first_of(bytes);
     if first == b'$' {
-        control_line(alloc, behind_first(bytes))
+        control_line(alloc, behind_first(bytes), stmt)
     } else if first == b'%' {
         Err(OUT_OF_FORM)
     } else {
-        token_line(alloc, line)
+        token_line(alloc, line, found, stmt)
     }
+}
+
+/// Writes the statement of a line into `stmt`: that which `read_line` returns. After an error `stmt` says nothing of
+/// the line. The tokens of the line are put into `found`, in place of what is in it, to spare an allocation.
+///
+/// Errors: those of `read_line`.
+///
+/// Source: own choice ("Statements in place").
+pub fn read_line_into(
+    alloc: Global,
+    line: &str,
+    found: &mut Vec<Token>,
+    stmt: &mut Stmt,
+) -> Result<(), StmtError>
+    ensures { Gives (λ _. stmt_tree stmt.new) fault_of result (statement_of line.now) }
+{
+    if line.len() > MOST_LINE_BYTES {
+        return Err(StmtError::Fault { number: LONG_LINE });
+    }
+    any_line(alloc, line, found, stmt)
 }
 
 // What a line says, or E5 where it is too long.
 fn short_or_long(alloc: Global, line: &str) -> Result<Stmt, StmtError>
     ensures { Gives stmt_tree fault_of result (statement_of line.now) }
 {
-    if line.len() > MOST_LINE_BYTES {
-        return Err(StmtError::Fault { number: LONG_LINE });
+    let mut stmt = Stmt::nothing();
+    match read_line_into(alloc, line, &mut Vec::new(alloc), &mut stmt) {
+        Ok(()) => Ok(stmt),
+        Err(error) => Err(error),
     }
-    any_line(alloc, line)
 }
 
 /// The statement that a line writes, given without its line end.

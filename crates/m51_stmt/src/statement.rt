@@ -64,3 +64,20 @@ pub struct Stmt {
     pub label: Option<Name>,
     pub body: Body,
 }
+
+impl Stmt {
+    ghost use Rattle.std.specs.Prelude.{◌≡◌, None};
+    ghost use Rattle.m51_stmt.specs.Statement.{Empty, stmt_tree};
+
+    /// The line that says nothing, into which `read_line_into` may write.
+    ///
+    /// Source: own choice ("Statements in place").
+    pub fn nothing() -> Stmt
+        ensures { stmt_tree result ≡ record { label = None; body = Empty } }
+    {
+        Stmt {
+            label: None,
+            body: Body::Empty,
+        }
+    }
+}

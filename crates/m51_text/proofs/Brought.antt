@@ -5,7 +5,7 @@ use Rattle.m51_module.specs.declared.source.SourceFile.{SourceFile}
 use Rattle.m51_text.specs.declared.inclusion.Inclusion.{Inclusion}
 use Rattle.m51_text.specs.declared.inclusion.Inclusion.TheVariants.{Nothing, Refused, Given}
 use Rattle.m51_text.specs.Said.{said, asked}
-use Rattle.m51_text.specs.Text.{inclusion_by, inclusion_of, include_lines, brought, bytes_of, file_lines}
+use Rattle.m51_text.specs.Text.{inclusion_by, inclusion_of, include_lines, brought, bytes_of_file, file_lines}
 use Rattle.m51_text.specs.Reading.{inserted}
 
 none_inserted : (includes : List SourceFile) (name : Option (List ℕ))
@@ -19,7 +19,7 @@ less_one levels = omega arith
 some_inserted : (includes : List SourceFile) (levels : ℕ) (inclusion : Inclusion)
     → include_lines includes (brought includes levels) levels inclusion ≡ inserted includes (suc levels) inclusion
 some_inserted includes levels (Given index) =
-    ap (λ n. file_lines includes n (index + 1) (bytes_of (slice_get includes index))) (sym (less_one levels))
+    ap (λ n. file_lines includes n (index + 1) (bytes_of_file (slice_get includes index))) (sym (less_one levels))
 some_inserted includes levels Nothing = refl
 some_inserted includes levels Refused = refl
 

@@ -10,7 +10,7 @@ use Rattle.m51_cells.specs.declared.fault.TheConstants.{MISPLACED_END}
 use Rattle.m51_text.specs.Said.{said}
 use Rattle.m51_text.specs.Text.{TextLine, inclusion_of}
 use Rattle.m51_text.specs.Faults as text
-use Rattle.m51_text.specs.Faults.{ends_source, fault_with, fault_of, before, faults_from, is_last_of_source}
+use Rattle.m51_text.specs.Faults.{ends_source, fault_with, fault_on_line, before, faults_from, is_last_of_source}
 use Rattle.m51_text.specs.Answer.{LineTree, with_statement, statements_of}
 use Rattle.m51_text.specs.Entries.{EntryTree, fault_at, fault_said, fault_of_entry, tree_said, tree_of_entry}
 use Rattle.m51_text.specs.Entries.{is_of_source, with_missing_end, marked}
@@ -36,7 +36,7 @@ by_said includes above line false (Err number) = refl
 -- the fault of a line, where END is missing at it or not
 line_fault : (includes : List SourceFile) (above : List TextLine) (line : TextLine) (missing : Bool)
     → fault_of_entry (with_missing_end missing (entry_of includes (length above) (list_any ends_source above) line))
-    ≡ option_map (fault_at line.file line.line) (fault_of includes above line missing)
+    ≡ option_map (fault_at line.file line.line) (fault_on_line includes above line missing)
 line_fault includes above line missing = by_said includes above line missing (said line.bytes)
 
 before_list : (line : TextLine) (fault : Option ℕ) (faults : List Fault)
@@ -48,11 +48,11 @@ one_more : (includes : List SourceFile) (above : List TextLine) (line : TextLine
     (kept faults : List Fault) → kept ≡ faults
     → cons_option (fault_of_entry
     (with_missing_end missing (entry_of includes (length above) (list_any ends_source above) line))) kept
-    ≡ before line (fault_of includes above line missing) faults
+    ≡ before line (fault_on_line includes above line missing) faults
 one_more includes above line missing kept faults same =
     ap (λ f. cons_option f kept) (line_fault includes above line missing)
-    ∙ ap (cons_option (option_map (fault_at line.file line.line) (fault_of includes above line missing))) same
-    ∙ before_list line (fault_of includes above line missing) faults
+    ∙ ap (cons_option (option_map (fault_at line.file line.line) (fault_on_line includes above line missing))) same
+    ∙ before_list line (fault_on_line includes above line missing) faults
 
 -- the faults of lines where END is not missing
 pub plain_faults : (includes : List SourceFile) (above lines : List TextLine)

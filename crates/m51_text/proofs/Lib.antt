@@ -1,6 +1,7 @@
 pub mod Ascii
 pub mod Brought
 pub mod Marks
+pub mod Kept
 pub mod Afters
 pub mod Judged
 pub mod Telling

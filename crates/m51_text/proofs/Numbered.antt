@@ -11,7 +11,7 @@ use Rattle.m51_stmt.specs.Statement.{StmtTree}
 use Rattle.m51_text.specs.declared.inclusion.Inclusion.{Inclusion}
 use Rattle.m51_text.specs.declared.inclusion.Inclusion.TheVariants.{Nothing, Refused, Given}
 use Rattle.m51_text.specs.Said.{said}
-use Rattle.m51_text.specs.Text.{TextLine, lines_with, bytes_of, include_lines, inclusion_of, brought, file_lines}
+use Rattle.m51_text.specs.Text.{TextLine, lines_with, bytes_of_file, include_lines, inclusion_of, brought, file_lines}
 use Rattle.m51_text.specs.Text.{text_lines}
 use Rattle.m51_text.specs.Faults.{faults_of}
 use Rattle.m51_text.specs.Answer.{LineTree, Lines, with_statement, statements_of, faults_or_lines, text_of}
@@ -52,13 +52,13 @@ module _ (source : SourceFile) (includes : List SourceFile) where
   of_include : (more : List ℕ → List TextLine) → ((line : List ℕ) → AllByRecursion Numbered (more line))
       → (levels index : ℕ) (file : Option SourceFile)
       → slice_get includes index ≡ file
-      → AllByRecursion Numbered (lines_with more levels (index + 1) 1 (lines (bytes_of file)))
+      → AllByRecursion Numbered (lines_with more levels (index + 1) 1 (lines (bytes_of_file file)))
   of_include more all levels index None is = tt
   of_include more all levels index (Some file) is =
       let within : index < length includes = slice_get_within includes index file is in
       let same : length (lines (bytes_in source includes (index + 1))) ≡ length (lines file.bytes) =
       ap (λ n. length (lines (bytes_in source includes n))) (add-one index)
-      ∙ ap (λ o. length (lines (bytes_of o))) is in
+      ∙ ap (λ o. length (lines (bytes_of_file o))) is in
       with_numbers more all levels (index + 1) 1 (lines file.bytes) (omega (arith, within)) (omega arith)
       (omega (arith, same))
 

@@ -11,9 +11,9 @@ use Rattle.m51_module.specs.declared.source.SourceFile.{SourceFile}
 use Rattle.m51_text.specs.Text.{TextLine, file_lines, text_lines}
 use Rattle.m51_text.specs.Faults as text
 use Rattle.m51_text.specs.Faults.{ends_source, faults_from}
-use Rattle.m51_text.specs.Answer.{faults_or_lines, statements_of, answer_of, text_of}
+use Rattle.m51_text.specs.Answer.{faults_or_lines, statements_of, text_answer, text_of}
 use Rattle.m51_text.specs.Entries.{EntryTree, tree_of_entry, marked}
-use Rattle.m51_text.specs.Reading.{State, nothing_yet, entry_of, next, after, settled, told}
+use Rattle.m51_text.specs.Reading.{State, nothing_yet, entry_of, next, state_of_lines, settled, told}
 use Rattle.m51_text.proofs.Afters.{unless, after_full, after_last}
 use Rattle.m51_text.proofs.Judged.{entries_from, plain_faults, marked_faults, same_statements, marked_statements}
 
@@ -42,16 +42,16 @@ length_more includes s line = length-append s.entries (entry_of includes (length
 
 -- only the first 65,536 lines are read
 pub cut : (includes : List SourceFile) (n : ℕ) (s : State) (xs : List TextLine) → length s.entries + n ≡ 65536
-    → after includes s xs ≡ after includes s (take n xs)
-unfolding after
+    → state_of_lines includes s xs ≡ state_of_lines includes s (take n xs)
+unfolding state_of_lines
 cut includes zero s xs h = after_full includes s xs (full (length s.entries) (omega (arith, h)))
     ∙ sym (after_last includes s)
 cut includes (suc n) s [] h = refl
 cut includes (suc n) s (x ∷ xs) h =
     let step : next includes s x ≡ more includes s x = next_is includes s x (omega (arith, h)) in
-    ap (λ t. after includes t xs) step
+    ap (λ t. state_of_lines includes t xs) step
     ∙ cut includes n (more includes s x) xs (omega (arith, h, length_more includes s x))
-    ∙ ap (λ t. after includes t (take n xs)) (sym step)
+    ∙ ap (λ t. state_of_lines includes t (take n xs)) (sym step)
 
 -- a state by its parts
 abbrev state : List EntryTree → Bool → State
@@ -72,9 +72,9 @@ same_more includes above line s len ended =
 -- what is read of lines below others
 pub reads : (includes : List SourceFile) (above lines : List TextLine) (s : State) → length s.entries ≡ length above
     → s.ended ≡ list_any ends_source above → length above + length lines ≤ 65536
-    → after includes s lines ≡ state (s.entries ++ entries_from includes above lines)
+    → state_of_lines includes s lines ≡ state (s.entries ++ entries_from includes above lines)
     (list_any ends_source (above ++ lines))
-unfolding after
+unfolding state_of_lines
 reads includes above [] s len ended room =
     ap (λ e. state e s.ended) (sym (append-nil s.entries))
     ∙ ap (state (s.entries ++ [])) (ended ∙ ap (list_any ends_source) (sym (append-nil above)))
@@ -90,7 +90,7 @@ reads includes above (line ∷ below) s len ended room =
     let ended_next : (more includes s line).ended ≡ list_any ends_source next_above =
     ap (λ b. b || ends_source line) ended ∙ sym (one_ended above line) in
     let room_next : length next_above + length below ≤ 65536 = omega (arith, room, len_above, len_below) in
-    ap (λ t. after includes t below) (next_is includes s line few)
+    ap (λ t. state_of_lines includes t below) (next_is includes s line few)
     ∙ reads includes next_above below (more includes s line) len_next ended_next room_next
     ∙ ap (λ l. state l (list_any ends_source (next_above ++ below)))
     (append_assoc s.entries (e ∷ []) rest
@@ -120,18 +120,18 @@ judged includes line below false =
     ap (λ f. faults_or_lines f (filter_map tree_of_entry entries)) (plain_faults includes [] (line ∷ below))
     ∙ ap (faults_or_lines (faults_from includes false [] (line ∷ below))) (same_statements includes [] (line ∷ below))
 
-nothing_told : (includes : List SourceFile) (lacking : Bool) → told (marked_if lacking []) ≡ answer_of includes []
+nothing_told : (includes : List SourceFile) (lacking : Bool) → told (marked_if lacking []) ≡ text_answer includes []
 nothing_told includes true = refl
 nothing_told includes false = refl
 
 all_told : (includes : List SourceFile) (lines : List TextLine)
-    → told (marked_if (text.lacks_end lines) (entries_from includes [] lines)) ≡ answer_of includes lines
+    → told (marked_if (text.lacks_end lines) (entries_from includes [] lines)) ≡ text_answer includes lines
 all_told includes [] = nothing_told includes (text.lacks_end [])
 all_told includes (line ∷ below) = judged includes line below (text.lacks_end (line ∷ below))
 
 -- what a text of at most 65,536 lines gives
 text_told : (includes : List SourceFile) (lines : List TextLine) → length lines ≤ 65536
-    → told (settled (after includes nothing_yet lines)) ≡ answer_of includes lines
+    → told (settled (state_of_lines includes nothing_yet lines)) ≡ text_answer includes lines
 text_told includes lines room =
     ap (λ s. told (settled s)) (reads includes [] lines nothing_yet refl refl (omega (arith, room)))
     ∙ ap (λ n. told (marked_if (nat_lt n 65536 && not (list_any ends_source lines)) (entries_from includes [] lines)))
@@ -143,7 +143,8 @@ most n m lines same = omega (arith, length-take n lines, same)
 
 -- the answer for all that was read is that for the source and its includes
 pub whole : (source : SourceFile) (includes : List SourceFile)
-    → told (settled (after includes nothing_yet (file_lines includes 8 0 source.bytes))) ≡ text_of source includes
+    → told (settled (state_of_lines includes nothing_yet (file_lines includes 8 0 source.bytes)))
+    ≡ text_of source includes
 unfolding text_lines
 whole source includes =
     let lines = file_lines includes 8 0 source.bytes in
@@ -153,11 +154,11 @@ whole source includes =
 -- the same of what was kept
 pub told_whole : (source : SourceFile) (includes : List SourceFile) (s t : State) (bytes : List ℕ)
     (entries : List EntryTree)
-    → s ≡ nothing_yet → bytes ≡ source.bytes → t ≡ after includes s (file_lines includes 8 0 bytes)
+    → s ≡ nothing_yet → bytes ≡ source.bytes → t ≡ state_of_lines includes s (file_lines includes 8 0 bytes)
     → entries ≡ settled t → told entries ≡ text_of source includes
 told_whole source includes s t bytes entries start same read kept =
     ap told kept
     ∙ ap (λ x. told (settled x)) read
-    ∙ ap (λ x. told (settled (after includes x (file_lines includes 8 0 bytes)))) start
-    ∙ ap (λ b. told (settled (after includes nothing_yet (file_lines includes 8 0 b)))) same
+    ∙ ap (λ x. told (settled (state_of_lines includes x (file_lines includes 8 0 bytes)))) start
+    ∙ ap (λ b. told (settled (state_of_lines includes nothing_yet (file_lines includes 8 0 b)))) same
     ∙ whole source includes

@@ -46,9 +46,9 @@ faults_or_lines [] lines = Lines lines
 faults_or_lines (fault ∷ faults) lines = Faults (fault ∷ faults)
 
 -- what a text gives: its faults, or where it has none its lines with their statements
-abbrev pub answer_of : List SourceFile → List TextLine → TextTree
-answer_of includes lines = faults_or_lines (faults_of includes lines) (statements_of lines)
+abbrev pub text_answer : List SourceFile → List TextLine → TextTree
+text_answer includes lines = faults_or_lines (faults_of includes lines) (statements_of lines)
 
 -- what a source with these includes gives
 abbrev pub text_of : SourceFile → List SourceFile → TextTree
-text_of source includes = answer_of includes (text_lines source includes)
+text_of source includes = text_answer includes (text_lines source includes)

@@ -1,13 +1,13 @@
 -- Lines that were read.
 use Rattle.std.specs.Prelude.{ℕ, ◌==◌, ◌&&◌, not, Bool, if◌then◌else◌, List, [], ◌∷◌, Option, Some, None, option_map}
-use Rattle.std.specs.Prelude.{Result, Ok, Err}
+use Rattle.std.specs.Prelude.{◌+◌, ◌++◌, map, vec_len, Result, Ok, Err}
 use Rattle.std.specs.List.{list_any}
-use Rattle.m51_stmt.specs.declared.statement.Stmt.{Stmt}
-use Rattle.m51_stmt.specs.Statement.{StmtTree}
+use Rattle.m51_stmt.specs.Statement.{StmtTree, stmt_tree}
 use Rattle.m51_module.specs.declared.source.Fault.{Fault}
 use Rattle.m51_cells.specs.declared.fault.TheConstants.{MISPLACED_END}
 use Rattle.m51_text.specs.declared.text.Line.{Line}
 use Rattle.m51_text.specs.declared.entry.LineEntry.{LineEntry}
+use Rattle.m51_text.specs.declared.read_lines.ReadLines.{ReadLines}
 use Rattle.m51_text.specs.Said.{said_tree}
 use Rattle.m51_text.specs.Answer.{LineTree}
 
@@ -39,14 +39,26 @@ fault_of_entry e = fault_said e.file e.line e.by_place e.said
 unfoldable pub fault_kept : LineEntry → Option Fault
 fault_kept e = fault_of_entry (entry_tree e)
 
--- the line that says this, if it is a statement
-abbrev pub line_said : ℕ → ℕ → Result Stmt ℕ → Option Line
-line_said file line (Ok statement) = Some (record { file = file; line = line; stmt = statement })
-line_said file line (Err number) = None
+-- a line that has no fault
+abbrev pub faultless : Line → EntryTree
+faultless l = record { file = l.file; line = l.line; said = Ok (stmt_tree l.stmt); by_place = None }
 
--- a line with its statement
-abbrev pub line_of_entry : LineEntry → Option Line
-line_of_entry e = line_said e.file e.line e.said
+-- a line that has no fault, as one of those that may have one
+abbrev pub entry_of_line : Line → LineEntry
+entry_of_line l =
+    record { file = l.file; line = l.line; said = record { statement = l.stmt; fault = None }; by_place = None }
+
+-- all the lines that were read
+abbrev pub entries_of : ReadLines → List EntryTree
+entries_of r = map faultless r.lines.items ++ map entry_tree r.entries.items
+
+-- how many they are
+abbrev pub line_count : ReadLines → ℕ
+line_count r = vec_len r.lines + vec_len r.entries
+
+-- a line with its statement, where it has no fault
+abbrev pub line_of_entry : LineEntry → Line
+line_of_entry e = record { file = e.file; line = e.line; stmt = e.said.statement }
 
 -- the same as contracts see it
 abbrev pub tree_said : ℕ → ℕ → Result StmtTree ℕ → Option LineTree

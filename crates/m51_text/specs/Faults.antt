@@ -9,7 +9,7 @@ use Rattle.m51_cells.specs.declared.fault.TheConstants.{MISPLACED_END, BAD_INCLU
 use Rattle.m51_cells.specs.declared.limits.TheConstants.{MOST_SOURCE_LINES}
 use Rattle.m51_text.specs.declared.inclusion.Inclusion.{Inclusion}
 use Rattle.m51_text.specs.declared.inclusion.Inclusion.TheVariants.{Refused}
-use Rattle.m51_text.specs.Said.{said, is_end, is_text}
+use Rattle.m51_text.specs.Said.{said, is_end, has_content}
 use Rattle.m51_text.specs.Text.{TextLine, inclusion_of}
 
 -- the line is in the source itself
@@ -22,7 +22,7 @@ ends_source line = is_of_source line && is_end (said line.bytes)
 
 -- text after the END of the source, or an END in an include
 abbrev pub is_misplaced : Bool → Bool → StmtTree → Bool
-is_misplaced ended in_source statement = ended && is_text statement || is_end (Ok statement) && not in_source
+is_misplaced ended in_source statement = ended && has_content statement || is_end (Ok statement) && not in_source
 
 -- END is missing in a text: it was read to its end, and no line of the source is END
 abbrev pub lacks_end : List TextLine → Bool
@@ -55,8 +55,8 @@ fault_with includes above line without_end (Ok statement) =
 
 -- The fault of a line with these lines above it, and at which END is missing or not: of what it says, or else by its
 -- place.
-abbrev pub fault_of : List SourceFile → List TextLine → TextLine → Bool → Option ℕ
-fault_of includes above line without_end = fault_with includes above line without_end (said line.bytes)
+abbrev pub fault_on_line : List SourceFile → List TextLine → TextLine → Bool → Option ℕ
+fault_on_line includes above line without_end = fault_with includes above line without_end (said line.bytes)
 
 -- the fault of a line, if it has one, before those of the lines below
 abbrev pub before : TextLine → Option ℕ → List Fault → List Fault
@@ -67,7 +67,7 @@ before line None faults = faults
 abbrev pub faults_from : List SourceFile → Bool → List TextLine → List TextLine → List Fault
 faults_from includes lacking above [] = []
 faults_from includes lacking above (line ∷ below) =
-    before line (fault_of includes above line (lacking && is_last_of_source line below))
+    before line (fault_on_line includes above line (lacking && is_last_of_source line below))
     (faults_from includes lacking (above ++ line ∷ []) below)
 
 -- The faults of a text in the order of its lines. A text without lines lacks END at line 1 of the source.

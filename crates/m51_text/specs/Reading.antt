@@ -1,7 +1,7 @@
 -- Definitions for the proofs of the code. What is kept while a text is read: what each line says, and its fault by the
 -- lines above it.
 use Rattle.std.specs.Prelude.{ℕ, ◌+◌, ◌-◌, ◌==◌, ◌&&◌, ◌||◌, not, Bool, false, nat_le, nat_lt, if◌then◌else◌, List, []}
-use Rattle.std.specs.Prelude.{◌∷◌, ◌++◌, length, map, slice_get, Option, None, Result, Ok, Err}
+use Rattle.std.specs.Prelude.{◌∷◌, ◌++◌, length, slice_get, Option, None, Result, Ok, Err}
 use Rattle.std.specs.List.{filter_map}
 use Rattle.m51_module.specs.declared.source.SourceFile.{SourceFile}
 use Rattle.m51_stmt.specs.Statement.{StmtTree}
@@ -12,9 +12,9 @@ use Rattle.m51_text.specs.declared.inclusion.Inclusion.TheVariants.{Given}
 use Rattle.m51_text.specs.declared.reading.TextPlace.{TextPlace}
 use Rattle.m51_text.specs.declared.reading.TextReading.{TextReading}
 use Rattle.m51_text.specs.Said.{said}
-use Rattle.m51_text.specs.Text.{TextLine, inclusion_of, bytes_of, file_lines}
+use Rattle.m51_text.specs.Text.{TextLine, inclusion_of, bytes_of_file, file_lines}
 use Rattle.m51_text.specs.Faults.{ends_source, is_misplaced, fault_by_place}
-use Rattle.m51_text.specs.Entries.{EntryTree, entry_tree, fault_at, fault_of_entry, tree_of_entry, marked}
+use Rattle.m51_text.specs.Entries.{EntryTree, entries_of, fault_at, fault_of_entry, tree_of_entry, marked}
 use Rattle.m51_text.specs.Answer.{TextTree, Faults, faults_or_lines}
 
 -- the lines that were read, and whether the END of the source is among them
@@ -24,7 +24,7 @@ pub record State : Type 0 where
 
 -- the same of what the code keeps
 abbrev pub state_of : TextReading → State
-state_of r = record { entries = map entry_tree r.entries.items; ended = r.ended }
+state_of r = record { entries = entries_of r.read; ended = r.ended }
 
 -- a line at this place
 abbrev pub text_line : TextPlace → List ℕ → TextLine
@@ -57,14 +57,14 @@ next includes s line =
     }
 
 -- after these lines
-unfoldable pub after : List SourceFile → State → List TextLine → State
-after includes s [] = s
-after includes s (line ∷ lines) = after includes (next includes s line) lines
+unfoldable pub state_of_lines : List SourceFile → State → List TextLine → State
+state_of_lines includes s [] = s
+state_of_lines includes s (line ∷ lines) = state_of_lines includes (next includes s line) lines
 
 -- the lines of the include that a line brings in, if `levels` levels of includes are allowed below the line
 abbrev pub inserted : List SourceFile → ℕ → Inclusion → List TextLine
 inserted includes levels (Given index) =
-    file_lines includes (levels - 1) (index + 1) (bytes_of (slice_get includes index))
+    file_lines includes (levels - 1) (index + 1) (bytes_of_file (slice_get includes index))
 inserted includes levels inclusion = []
 
 -- before the first line

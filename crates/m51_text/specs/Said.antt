@@ -7,6 +7,7 @@ use Rattle.m51_lex.specs.Characters.{tab}
 use Rattle.m51_stmt.specs.declared.statement.Stmt.{Stmt}
 use Rattle.m51_stmt.specs.Statement.{BodyTree, Empty, End, Include, StmtTree, stmt_tree}
 use Rattle.m51_stmt.specs.Lines.{statement_of}
+use Rattle.m51_text.specs.declared.saying.LineSaid.{LineSaid}
 
 -- a byte that is allowed in a line: a tab, or 20H to 7EH
 abbrev pub is_character : ℕ → Bool
@@ -17,10 +18,14 @@ is_character byte = byte == tab || nat_le 0x20 byte && nat_le byte 0x7E
 unfoldable pub said : List ℕ → Result StmtTree ℕ
 said line = if list_all is_character line then statement_of line else Err BAD_BYTE
 
--- what contracts see of a statement or its fault
-abbrev pub said_tree : Result Stmt ℕ → Result StmtTree ℕ
-said_tree (Ok statement) = Ok (stmt_tree statement)
-said_tree (Err number) = Err number
+-- a statement, or the fault in its place
+abbrev pub said_with : Stmt → Option ℕ → Result StmtTree ℕ
+said_with statement None = Ok (stmt_tree statement)
+said_with statement (Some number) = Err number
+
+-- what contracts see of what a line says
+abbrev pub said_tree : LineSaid → Result StmtTree ℕ
+said_tree s = said_with s.statement s.fault
 
 -- the word END
 abbrev pub is_end_body : BodyTree → Bool
@@ -38,8 +43,8 @@ is_empty_body Empty = true
 is_empty_body body = false
 
 -- a label, a statement or a control: more than blanks and a comment
-abbrev pub is_text : StmtTree → Bool
-is_text statement = is_some statement.label || not (is_empty_body statement.body)
+abbrev pub has_content : StmtTree → Bool
+has_content statement = is_some statement.label || not (is_empty_body statement.body)
 
 -- the name between the parentheses of $INCLUDE
 abbrev pub include_name : BodyTree → Option (List ℕ)

@@ -53,14 +53,14 @@ lines_with brought levels file number (line ∷ lines) =
     ∷ (brought line ++ lines_with brought levels file (number + 1) lines)
 
 -- the bytes of a file, where there is one
-abbrev pub bytes_of : Option SourceFile → List ℕ
-bytes_of (Some file) = file.bytes
-bytes_of None = []
+abbrev pub bytes_of_file : Option SourceFile → List ℕ
+bytes_of_file (Some file) = file.bytes
+bytes_of_file None = []
 
 -- the lines of the include that is brought in, with `levels` levels of includes allowed below them
 abbrev pub include_lines : List SourceFile → (List ℕ → List TextLine) → ℕ → Inclusion → List TextLine
 include_lines includes brought levels (Given index) =
-    lines_with brought levels (index + 1) 1 (lines (bytes_of (slice_get includes index)))
+    lines_with brought levels (index + 1) 1 (lines (bytes_of_file (slice_get includes index)))
 include_lines includes brought levels Refused = []
 include_lines includes brought levels Nothing = []
 

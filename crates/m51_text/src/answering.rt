@@ -1,8 +1,8 @@
 //! From a source and its includes to the text or its faults.
-ghost use Rattle.std.specs.Prelude.{◌≡◌, ◌≤◌, [], ◌∷◌, IfOk, length, map};
+ghost use Rattle.std.specs.Prelude.{◌≡◌, ◌≤◌, [], ◌∷◌, ◌++◌, IfOk, length, map};
 ghost use Rattle.std.specs.List.{filter_map};
 ghost use Rattle.m51_cells.specs.declared.fault.TheConstants.{MISPLACED_END};
-ghost use Rattle.m51_text.specs.Entries.{entry_tree, fault_at, fault_kept, fault_of_entry, line_of_entry};
+ghost use Rattle.m51_text.specs.Entries.{entries_of, fault_at, fault_kept, fault_of_entry, line_of_entry, marked};
 ghost use Rattle.m51_text.specs.Entries.{tree_of_entry};
 ghost use Rattle.m51_text.specs.Answer.{faults_or_lines, text_of, text_tree};
 ghost use Rattle.m51_text.specs.Reading.{state_of, settled, told};
@@ -10,6 +10,7 @@ ghost use Rattle.m51_text.specs.Reading.{state_of, settled, told};
 use crate::entry::LineEntry;
 use crate::inserting::read_file;
 use crate::missing_end::mark_missing_end;
+use crate::read_lines::{ReadLines, all_entries};
 use crate::reading::TextReading;
 use crate::text::{Line, Lines, Text};
 use m51_cells::{MISPLACED_END, MOST_INCLUDE_LEVELS, NoMemory};
@@ -29,14 +30,24 @@ fn faults_of(alloc: Global, entries: &[LineEntry]) -> Result<Vec<Fault>, AllocEr
         .collect(alloc)
 }
 
-// The lines with their statements.
+// The lines with their statements, where none has a fault.
 fn lines_of(alloc: Global, entries: Vec<LineEntry>) -> Result<Vec<Line>, AllocError>
-    ensures { IfOk result (λ lines. lines.items ≡ filter_map line_of_entry entries.items) }
+    ensures { IfOk result (λ lines. lines.items ≡ map line_of_entry entries.items) }
 {
     entries
         .into_iter()
-        .filter_map(|entry| entry.into_line())
+        .map(|entry| entry.into_line())
         .collect(alloc)
+}
+
+// All lines with their statements, where none has a fault.
+fn all_lines(alloc: Global, read: ReadLines) -> Result<Vec<Line>, AllocError>
+    ensures { IfOk result (λ lines. lines.items ≡ read.lines.items ++ map line_of_entry read.entries.items) }
+{
+    let ReadLines { mut lines, entries } = read;
+    let mut more = lines_of(alloc, entries)?;
+    lines.append(&mut more)?;
+    Ok(lines)
 }
 
 // The faults of a source of no lines: it lacks END.
@@ -53,39 +64,52 @@ fn faults_of_nothing(alloc: Global) -> Result<Vec<Fault>, NoMemory>
 }
 
 // The faults of lines, or where there are none the lines.
-fn faults_or_lines(alloc: Global, entries: Vec<LineEntry>) -> Result<Text, NoMemory>
+fn faults_or_lines(alloc: Global, read: ReadLines) -> Result<Text, NoMemory>
     ensures { IfOk result (λ text. text_tree text
-        ≡ faults_or_lines (filter_map fault_of_entry (map entry_tree entries.items))
-        (filter_map tree_of_entry (map entry_tree entries.items))) }
+        ≡ faults_or_lines (filter_map fault_of_entry (entries_of read)) (filter_map tree_of_entry (entries_of read))) }
 {
-    let faults = faults_of(alloc, &entries)?;
+    let faults = faults_of(alloc, &read.entries)?;
     if faults.is_empty() {
-        let lines = lines_of(alloc, entries)?;
+        let lines = all_lines(alloc, read)?;
         return Ok(Text::Lines(Lines::of(lines)));
     }
     Ok(Text::Faults(Faults::of(faults)))
 }
 
+// The lines that were read, with the missing END marked.
+fn marked(alloc: Global, read: ReadLines) -> Result<ReadLines, NoMemory>
+    ensures { IfOk result (λ kept. entries_of kept ≡ marked (entries_of read)) }
+{
+    let mut entries = all_entries(alloc, read)?;
+    mark_missing_end(&mut entries);
+    Ok(ReadLines {
+        lines: Vec::new(alloc),
+        entries,
+    })
+}
+
 // The lines that were read, with the missing END.
-fn settled(reading: TextReading) -> Vec<LineEntry>
-    ensures { map entry_tree result.items ≡ settled (state_of reading) }
+fn settled(alloc: Global, reading: TextReading) -> Result<ReadLines, NoMemory>
+    ensures { IfOk result (λ kept. entries_of kept ≡ settled (state_of reading)) }
 {
     let lacks_end = reading.lacks_end();
-    let TextReading { mut entries, .. } = reading;
+    let TextReading { read, .. } = reading;
     if lacks_end {
-        mark_missing_end(&mut entries);
+        marked(alloc, read)
+    } else {
+        Ok(read)
     }
-    entries
 }
 
 // What the lines that were read give.
-fn told(alloc: Global, entries: Vec<LineEntry>) -> Result<Text, NoMemory>
-    ensures { IfOk result (λ text. text_tree text ≡ told (map entry_tree entries.items)) }
+#[tactic(auto, using(crate::proofs::Telling::nothing_told, crate::proofs::Telling::some_told))]
+fn told(alloc: Global, read: ReadLines) -> Result<Text, NoMemory>
+    ensures { IfOk result (λ text. text_tree text ≡ told (entries_of read)) }
 {
-    if entries.is_empty() {
+    if read.len() == 0 {
         return Ok(Text::Faults(Faults::of(faults_of_nothing(alloc)?)));
     }
-    faults_or_lines(alloc, entries)
+    faults_or_lines(alloc, read)
 }
 
 /// The text of a source and its includes: its lines, or where a line has a fault the faults in the order of the lines.
@@ -122,5 +146,6 @@ pub fn read_text(
         source.bytes.as_slice(),
         &mut reading,
     )?;
-    told(alloc, settled(reading))
+    let kept = settled(alloc, reading)?;
+    told(alloc, kept)
 }

@@ -1,7 +1,7 @@
 //! Lines that were read.
-ghost use Rattle.std.specs.Prelude.{◌≡◌};
+ghost use Rattle.std.specs.Prelude.{◌≡◌, IsTrue};
 
-use crate::saying::Said;
+use crate::saying::LineSaid;
 use crate::text::Line;
 use m51_module::Fault;
 
@@ -10,13 +10,13 @@ use m51_module::Fault;
 pub(crate) struct LineEntry {
     pub file: u16,
     pub line: u32,
-    pub said: Said,
+    pub said: LineSaid,
     /// The fault that the line has by its place, where it says a statement.
     pub by_place: Option<u8>,
 }
 
 impl LineEntry {
-    ghost use Rattle.m51_text.specs.Entries.{fault_kept, line_of_entry};
+    ghost use Rattle.m51_text.specs.Entries.{entry_tree, fault_kept, faultless, line_of_entry};
 
     fn fault_with(&self, number: u8) -> Fault
         ensures { result ≡ record { file = self.now.file; line = self.now.line; number = number } }
@@ -33,17 +33,21 @@ impl LineEntry {
     pub(crate) fn fault(&self) -> Option<Fault>
         ensures { result ≡ fault_kept self.now }
     {
-        match &self.said {
-            Err(number) => Some(self.fault_with(*number)),
-            Ok(_) => match self.by_place {
-                Some(number) => Some(self.fault_with(number)),
-                None => None,
-            },
+        match (self.said.fault, self.by_place) {
+            (Some(number), _) | (None, Some(number)) => Some(self.fault_with(number)),
+            (None, None) => None,
         }
     }
 
-    /// The line with its statement, if it says one.
-    pub(crate) fn into_line(self) -> Option<Line>
+    /// Whether it has no fault, neither by itself nor by its place.
+    pub(crate) fn is_faultless(&self) -> bool
+        ensures { IsTrue result → entry_tree self.now ≡ faultless (line_of_entry self.now) }
+    {
+        self.said.fault.is_none() && self.by_place.is_none()
+    }
+
+    /// The line with its statement, where it has no fault.
+    pub(crate) fn into_line(self) -> Line
         ensures { result ≡ line_of_entry self }
     {
         let LineEntry {
@@ -52,9 +56,11 @@ impl LineEntry {
             said,
             ..
         } = self;
-        match said {
-            Ok(stmt) => Some(Line { file, line, stmt }),
-            Err(_) => None,
+        let LineSaid { statement, .. } = said;
+        Line {
+            file,
+            line,
+            stmt: statement,
         }
     }
 }

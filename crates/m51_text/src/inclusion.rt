@@ -2,9 +2,9 @@
 ghost use Rattle.std.specs.Prelude.{◌≡◌, ◌<◌, ℕ, IfSome, length, option_map, position, slice_get};
 ghost use Rattle.m51_stmt.specs.Statement.{body_tree};
 ghost use Rattle.m51_text.specs.Said.{include_name, asked, said_tree};
-ghost use Rattle.m51_text.specs.Text.{has_name, given, inclusion_of, bytes_of, IsAllowed};
+ghost use Rattle.m51_text.specs.Text.{has_name, given, inclusion_of, bytes_of_file, IsAllowed};
 
-use crate::saying::Said;
+use crate::saying::LineSaid;
 use m51_module::SourceFile;
 use m51_stmt::Body;
 
@@ -30,12 +30,12 @@ fn include_name(body: &Body) -> Option<&[u8]>
 }
 
 // The name of the include that a line asks for.
-fn asked(said: &Said) -> Option<&[u8]>
+fn asked(said: &LineSaid) -> Option<&[u8]>
     ensures { option_map (λ name. name.now) result ≡ asked (said_tree said.now) }
 {
-    match said {
-        Ok(statement) => include_name(&statement.body),
-        Err(_) => None,
+    match said.fault {
+        None => include_name(&said.statement.body),
+        Some(_) => None,
     }
 }
 
@@ -61,7 +61,7 @@ fn given(includes: &[SourceFile], name: &[u8]) -> Inclusion
 }
 
 /// Which include a line names, if `levels` levels of includes are allowed below it.
-pub(crate) fn inclusion_of(includes: &[SourceFile], levels: u8, said: &Said) -> Inclusion
+pub(crate) fn inclusion_of(includes: &[SourceFile], levels: u8, said: &LineSaid) -> Inclusion
     ensures inclusion { result ≡ inclusion_of includes.now levels (said_tree said.now) }
     ensures allowed { IsAllowed (length includes.now) levels result }
 {
@@ -80,7 +80,7 @@ pub(crate) fn inclusion_of(includes: &[SourceFile], levels: u8, said: &Said) -> 
 /// The bytes of an include.
 pub(crate) fn bytes_at(includes: &[SourceFile], index: usize) -> &[u8]
     requires { index < length includes.now }
-    ensures { result.now ≡ bytes_of (slice_get includes.now index) }
+    ensures { result.now ≡ bytes_of_file (slice_get includes.now index) }
 {
     includes[index].bytes.as_slice()
 }

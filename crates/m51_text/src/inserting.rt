@@ -1,7 +1,8 @@
 //! Reads the lines of a file, and those of their includes.
-ghost use Rattle.std.specs.Prelude.{◌≡◌, ◌≤◌, OnOk, length, vec_len};
+ghost use Rattle.std.specs.Prelude.{◌≡◌, ◌≤◌, OnOk, length};
+ghost use Rattle.m51_text.specs.Entries.{line_count};
 ghost use Rattle.m51_text.specs.Text.{IsAllowed, file_lines};
-ghost use Rattle.m51_text.specs.Reading.{state_of, after, inserted};
+ghost use Rattle.m51_text.specs.Reading.{state_of, state_of_lines, inserted};
 
 use crate::inclusion::{Inclusion, bytes_at};
 use crate::reading::{TextPlace, TextReading};
@@ -24,8 +25,8 @@ pub(crate) fn read_file(
 ) -> Result<(), NoMemory>
     requires { length includes.now ≤ 65535 }
     ensures state { OnOk result (state_of reading.new
-        ≡ after includes.now (state_of reading.old) (file_lines includes.now levels file bytes.now)) }
-    ensures grows { OnOk result (vec_len reading.old.entries ≤ vec_len reading.new.entries) }
+        ≡ state_of_lines includes.now (state_of reading.old) (file_lines includes.now levels file bytes.now)) }
+    ensures grows { OnOk result (line_count reading.old.read ≤ line_count reading.new.read) }
 {
     let mut rest = bytes;
     let mut line = 1;
@@ -55,8 +56,8 @@ fn insert(
     requires few { length includes.now ≤ 65535 }
     requires allowed { IsAllowed (length includes.now) levels inclusion }
     ensures state { OnOk result (state_of reading.new
-        ≡ after includes.now (state_of reading.old) (inserted includes.now levels inclusion)) }
-    ensures grows { OnOk result (vec_len reading.old.entries ≤ vec_len reading.new.entries) }
+        ≡ state_of_lines includes.now (state_of reading.old) (inserted includes.now levels inclusion)) }
+    ensures grows { OnOk result (line_count reading.old.read ≤ line_count reading.new.read) }
 {
     match inclusion {
         Inclusion::Given(index) => {

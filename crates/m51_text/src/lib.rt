@@ -8,6 +8,7 @@ mod inserting;
 mod laws;
 mod missing_end;
 mod placing;
+mod read_lines;
 mod reading;
 mod saying;
 mod text;

@@ -1,11 +1,11 @@
 //! Faults that lines have by their place.
 ghost use Rattle.std.specs.Prelude.{◌≡◌, ◌==◌};
 ghost use Rattle.m51_stmt.specs.Statement.{body_tree, stmt_tree};
-ghost use Rattle.m51_text.specs.Said.{is_end_body, is_empty_body, is_end, is_text, said_tree};
+ghost use Rattle.m51_text.specs.Said.{is_end_body, is_empty_body, is_end, has_content, said_tree};
 ghost use Rattle.m51_text.specs.Faults.{is_misplaced, is_refused, fault_by_place};
 
 use crate::inclusion::Inclusion;
-use crate::saying::Said;
+use crate::saying::LineSaid;
 use m51_cells::{BAD_INCLUDE, MISPLACED_END, MOST_SOURCE_LINES, TOO_MANY};
 use m51_stmt::{Body, Stmt};
 
@@ -33,18 +33,18 @@ fn is_empty_body(body: &Body) -> bool
 }
 
 /// Whether a line says END.
-pub(crate) fn is_end(said: &Said) -> bool
+pub(crate) fn is_end(said: &LineSaid) -> bool
     ensures { result ≡ is_end (said_tree said.now) }
 {
-    match said {
-        Ok(statement) => is_end_body(&statement.body),
-        Err(_) => false,
+    match said.fault {
+        None => is_end_body(&said.statement.body),
+        Some(_) => false,
     }
 }
 
 // Whether there is more than blanks and a comment.
-fn is_text(statement: &Stmt) -> bool
-    ensures { result ≡ is_text (stmt_tree statement.now) }
+fn has_content(statement: &Stmt) -> bool
+    ensures { result ≡ has_content (stmt_tree statement.now) }
 {
     statement.label.is_some() || !is_empty_body(&statement.body)
 }
@@ -53,7 +53,7 @@ fn is_text(statement: &Stmt) -> bool
 fn is_misplaced(ended: bool, file: u16, statement: &Stmt) -> bool
     ensures { result ≡ is_misplaced ended (file == 0) (stmt_tree statement.now) }
 {
-    if ended && is_text(statement) {
+    if ended && has_content(statement) {
         return true;
     }
     file != 0 && is_end_body(&statement.body)

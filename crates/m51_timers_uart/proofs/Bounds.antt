@@ -14,9 +14,9 @@ use Rattle.m51_timers_uart.specs.declared.periph.Periph.{Periph}
 use Rattle.m51_timers_uart.specs.declared.receiving.Frame.{Frame}
 use Rattle.m51_flat.specs.Flags.{ct2, sm0, sm1, tr2}
 use Rattle.m51_timers_uart.specs.Levels.{falls}
-use Rattle.m51_timers_uart.specs.LineLaws.{IsBounded, LineIsBounded}
+use Rattle.m51_timers_uart.specs.LineLaws.{IsSerialBounded, LineIsBounded}
 use Rattle.m51_timers_uart.specs.Timer2.{Overflowed, counted_times, gives_rate, once_more, times2}
-use Rattle.m51_timers_uart.specs.Sending.{Ticked, begun, bit_time, bit_times, clocked, ended, growth, moved}
+use Rattle.m51_timers_uart.specs.Sending.{Ticked, begun, bit_time, bit_times, clocked, sent_at_end, growth, moved}
 use Rattle.m51_timers_uart.specs.Sending.{sending_ticked, serial_mode}
 use Rattle.m51_timers_uart.specs.Tick.{ticked}
 
@@ -81,29 +81,30 @@ taken_off count grown takes h g l = omega (arith, h, g, l)
 not_reached : (count grown takes : ℕ) → takes ≤ 64 → nat_le takes (count + grown) ≡ false → count + grown < 64
 not_reached count grown takes m e = grind (arith, common_steps, m, e)
 
-clock_bounds : (grown takes : ℕ) (p : Periph) → IsBounded p → grown ≤ 12 → 16 ≤ takes → takes ≤ 64
-    → IsBounded (clocked grown takes p)
+clock_bounds : (grown takes : ℕ) (p : Periph) → IsSerialBounded p → grown ≤ 12 → 16 ≤ takes → takes ≤ 64
+    → IsSerialBounded (clocked grown takes p)
 unfolding clocked
 clock_bounds grown takes p b g l m =
-    cond_both (nat_le takes (p.count + grown)) _ _ IsBounded
+    cond_both (nat_le takes (p.count + grown)) _ _ IsSerialBounded
     (λ e. record { left = one_less p.left b.left; mode = b.mode; count = taken_off p.count grown takes b.count g l })
     (λ e. record { left = b.left; mode = b.mode; count = not_reached p.count grown takes m e })
 
-move_bounds : (cpu : Cpu) (one : Bool) (two : ℕ) (p : Periph) → two ≤ 6 → IsBounded p → IsBounded (moved cpu one two p)
+move_bounds : (cpu : Cpu) (one : Bool) (two : ℕ) (p : Periph) → two ≤ 6 → IsSerialBounded p
+    → IsSerialBounded (moved cpu one two p)
 unfolding moved
 move_bounds cpu one two p h b =
-    cond_both (p.mode == 0) _ _ IsBounded
+    cond_both (p.mode == 0) _ _ IsSerialBounded
     (λ e. record { left = one_less p.left b.left; mode = b.mode; count = b.count })
     (λ e. clock_bounds _ _ p b (growth_most cpu p.mode one two h) (time_least cpu p.mode) (time_most cpu p.mode))
 
 -- what is kept besides the registers after a tick
 record IsPassed (t : Ticked) : Type 0 where
-  passed : IsBounded t.periph
+  passed : IsSerialBounded t.periph
 
-end_bounds : (cpu : Cpu) (q : Periph) → IsBounded q → IsPassed (ended cpu q)
+end_bounds : (cpu : Cpu) (q : Periph) → IsSerialBounded q → IsPassed (sent_at_end cpu q)
 end_bounds cpu q b = cond_both (q.left == 0) _ _ IsPassed (λ e. record { passed = b }) (λ e. record { passed = b })
 
-line_bounds : (one : Bool) (two : ℕ) (cpu : Cpu) (p : Periph) → two ≤ 6 → IsBounded p
+line_bounds : (one : Bool) (two : ℕ) (cpu : Cpu) (p : Periph) → two ≤ 6 → IsSerialBounded p
     → IsPassed (sending_ticked one two cpu p)
 unfolding sending_ticked
 line_bounds one two cpu p h b =
@@ -117,15 +118,15 @@ mode_most cpu = let a = bit_most (flag cpu scon sm0) in let b = bit_most (flag c
 bits_most : (mode : ℕ) → bit_times mode ≤ 10
 bits_most mode = either_most 10 _ 8 _ (lit≤ tt) (either_most 10 _ 9 10 (lit≤ tt) (lit≤ tt))
 
-begin_bounds : (cpu : Cpu) (byte : ℕ) (p : Periph) → IsBounded (begun cpu byte p)
+begin_bounds : (cpu : Cpu) (byte : ℕ) (p : Periph) → IsSerialBounded (begun cpu byte p)
 unfolding begun
 begin_bounds cpu byte p = record { left = bits_most (serial_mode cpu); mode = mode_most cpu; count = lit< tt }
 
 six : (levels : Levels) (cpu : Cpu) → (counted_times (times2 levels cpu) cpu).overflows ≤ 6
 six levels cpu = le_trans (counts_most (times2 levels cpu) cpu) (times_most levels cpu)
 
-tick_bounds : (cpu : Cpu) (ext : Pins) (fs : List Frame) (p : Periph) → IsBounded p
-    → IsBounded (ticked cpu ext fs p).periph
+tick_bounds : (cpu : Cpu) (ext : Pins) (fs : List Frame) (p : Periph) → IsSerialBounded p
+    → IsSerialBounded (ticked cpu ext fs p).periph
 unfolding ticked
 tick_bounds cpu ext fs p b =
     let t = line_bounds _ _ _ p (six _ _) b in

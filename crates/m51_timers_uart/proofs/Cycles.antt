@@ -9,7 +9,7 @@ use Rattle.m51_timers_uart.specs.declared.counting.TimerBytes.{TimerBytes}
 use Rattle.m51_timers_uart.specs.declared.counting.TimerMode.{TimerMode}
 use Rattle.m51_timers_uart.specs.declared.periph.Periph.{Periph}
 use Rattle.m51_timers_uart.specs.CountLaws.{after_counts}
-use Rattle.m51_timers_uart.specs.Counting.{counted_in, number_of}
+use Rattle.m51_timers_uart.specs.Counting.{counted_in, counter_value}
 use Rattle.m51_timers_uart.specs.LineLaws.{Cycle, cycled, written_to}
 use Rattle.m51_timers_uart.specs.RowLaws.{AreInRow, LeavesTimer1, RunsFree, TimerOneCountsCycles, cpu_after}
 use Rattle.m51_timers_uart.specs.Timers.{bytes_at, is_split, mode0}
@@ -78,10 +78,10 @@ timer_1_counts_cycles mode cpu p before last h free bytes row split0 =
     subst (λ m. IsLast mode t m last.cpu (cpu_after before last p)) (let e : n + 0 ≡ n = omega arith in e) end in
     let up = timers_count_up mode t bytes in
     record {
-      number = λ lt. ap (number_of mode) is.bytes
+      number = λ lt. ap (counter_value mode) is.bytes
           ∙ up.number (suc n) (omega (arith, lt))
-          ∙ (let e : number_of mode t + suc n ≡ number_of mode t + (n + 1) = omega arith in e);
+          ∙ (let e : counter_value mode t + suc n ≡ counter_value mode t + (n + 1) = omega arith in e);
       stays = λ lt. is.told ∙ none_over _ _ (up.before n (omega (arith, lt)));
-      reload = λ e. ap (number_of mode) is.bytes ∙ up.reload n (omega (arith, e));
+      reload = λ e. ap (counter_value mode) is.bytes ∙ up.reload n (omega (arith, e));
       overflow = λ e. is.told ∙ one_over _ _ (up.overflow n (omega (arith, e)));
     }

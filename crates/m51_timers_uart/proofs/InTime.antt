@@ -14,7 +14,7 @@ use Rattle.m51_timers_uart.specs.declared.counting.TimerBytes.{TimerBytes}
 use Rattle.m51_timers_uart.specs.declared.counting.TimerMode.TheVariants.{Reloaded}
 use Rattle.m51_timers_uart.specs.declared.periph.Periph.{Periph}
 use Rattle.m51_timers_uart.specs.declared.receiving.Frame.{Frame}
-use Rattle.m51_timers_uart.specs.CountLaws.{AreBytes}
+use Rattle.m51_timers_uart.specs.CountLaws.{AreTimerBytes}
 use Rattle.m51_timers_uart.specs.LineLaws.{AreQuiet, Cycle, after_cycles, cycled, written_to}
 use Rattle.m51_timers_uart.specs.RateLaws.{IsRatedBy, LineTick, overflows_of_bit, tick_line}
 use Rattle.m51_timers_uart.specs.RowLaws.{AreInRow, HasRate, IsSentAt, LeavesRate, ModeOneIsSentAtItsCycle, RunsFree}
@@ -51,13 +51,13 @@ record IsDue (twice : Bool) (byte due : ℕ) (cpu : Cpu) (p : Periph) : Type 0 w
   more : ℕ
   free : RunsFree Reloaded cpu
   rated : HasRate twice cpu
-  bytes : AreBytes (bytes_at th1 tl1 cpu)
+  bytes : AreTimerBytes (bytes_at th1 tl1 cpu)
   sum : passed + suc more ≡ 9 * overflows_of_bit twice
   due_is : due ≡ cycles_left more (bytes_at th1 tl1 cpu)
   way : OnItsWay (overflows_of_bit twice) byte passed p
 
-same_bytes : (t u : TimerBytes) → u ≡ t → AreBytes t → AreBytes u
-same_bytes t u e b = subst AreBytes (sym e) b
+same_bytes : (t u : TimerBytes) → u ≡ t → AreTimerBytes t → AreTimerBytes u
+same_bytes t u e b = subst AreTimerBytes (sym e) b
 
 -- it is so still when the next tick comes
 meets : (twice : Bool) (byte due : ℕ) (left cpu : Cpu) (p : Periph) → LeavesRate left cpu → IsDue twice byte due left p
@@ -99,7 +99,7 @@ flag_kept cpu ext fs p n same =
 
 goes_to : (twice : Bool) (byte due left more passed : ℕ) (bytes : TimerBytes) (cpu : Cpu) (ext : Pins) (fs : List Frame)
     (p : Periph)
-    → length cpu.regs ≡ 128 → RunsFree Reloaded cpu → HasRate twice cpu → AreBytes bytes
+    → length cpu.regs ≡ 128 → RunsFree Reloaded cpu → HasRate twice cpu → AreTimerBytes bytes
     → bytes_at th1 tl1 (ticked cpu ext fs p).cpu ≡ bytes → passed + suc more ≡ 9 * overflows_of_bit twice
     → left ≡ cycles_left more bytes → due ≡ suc left
     → Goes (overflows_of_bit twice) byte passed (line_of cpu ext p).cpu (tick_line (line_of cpu ext p) p)

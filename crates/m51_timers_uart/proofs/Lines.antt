@@ -9,7 +9,7 @@ use Rattle.m51_flat.specs.Sfr.{flag, scon}
 use Rattle.m51_flat.specs.Flags.{tb8}
 use Rattle.m51_timers_uart.specs.declared.periph.Periph.{Periph}
 use Rattle.m51_timers_uart.specs.declared.periph.Sent.{Sent}
-use Rattle.m51_timers_uart.specs.Sending.{begun, bit_time, bit_times, clocked, ended, growth, has_ninth, moved}
+use Rattle.m51_timers_uart.specs.Sending.{begun, bit_time, bit_times, clocked, sent_at_end, growth, has_ninth, moved}
 use Rattle.m51_timers_uart.specs.Sending.{sending_ticked, serial_mode}
 use Rattle.m51_timers_uart.specs.LineLaws.{AreQuiet, OneByteIsSent, Cycle, HasNinth, NinthBitsAreApart, OneBitPasses}
 use Rattle.m51_timers_uart.specs.LineLaws.{PassesOneBit, after_cycles, cycled, written_to}
@@ -57,7 +57,7 @@ last : (n m : ℕ) → n ≢ 0 → n ≤ m + 1 → m ≡ 0 → n ≡ 1
 last n m ne h e = omega (arith, ne, h, e)
 
 -- a byte on its way that passed its last bit time is sent
-end_passes : (cpu : Cpu) (p q : Periph) → p.left ≢ 0 → Moves p q → PassesOneBit p (ended cpu q)
+end_passes : (cpu : Cpu) (p q : Periph) → p.left ≢ 0 → Moves p q → PassesOneBit p (sent_at_end cpu q)
 end_passes cpu p q ne m =
     cond_both (q.left == 0) _ _ (PassesOneBit p)
     (λ e. record {
@@ -152,7 +152,7 @@ not_none : (left : ℕ) → left ≡ 1 → left ≢ 0
 not_none left e z = omega (arith, e, z)
 
 pub ninth_bits_are_apart : NinthBitsAreApart
-ninth_bits_are_apart first last cs p began ended =
+ninth_bits_are_apart first last cs p began sent_at_end =
     let start = (cycled first p).periph in
     let one = one_bit_passes first.cpu first.ext first.frames (written_to first.cpu first.written p) in
     let none : start.left ≡ 0 =
@@ -160,7 +160,7 @@ ninth_bits_are_apart first last cs p began ended =
     let q = written_to last.cpu last.written (after_cycles cs start) in
     let two = one_bit_passes last.cpu last.ext last.frames q in
     let facts = sent_ninth (cycled last (after_cycles cs start)).sent q (cycled last (after_cycles cs start)).periph
-    ended two.sent in
+    sent_at_end two.sent in
     let run = cycles_ten 0 (length cs) cs start (sym (zero-add (length cs))) (λ i ne. absurd (ne none)) in
     let g = write_ten (length cs) last.cpu last.written (after_cycles cs start) run in
     nine q.left (length cs) facts.1 (g facts.0 (not_none q.left facts.1))

@@ -10,7 +10,8 @@ use Rattle.m51_flat.specs.Flags.{smod, tclk, ti}
 use Rattle.m51_flat.specs.Sfr.{flag, pcon, scon, t2con, with_flag}
 use Rattle.m51_timers_uart.specs.declared.periph.Periph.{Periph}
 use Rattle.m51_timers_uart.specs.declared.periph.Sent.{Sent}
-use Rattle.m51_timers_uart.specs.Sending.{Ticked, begun, bit_time, bit_times, clocked, ended, growth, has_ninth, moved}
+use Rattle.m51_timers_uart.specs.Sending.{Ticked, begun, bit_time, bit_times, clocked, sent_at_end, growth, has_ninth}
+use Rattle.m51_timers_uart.specs.Sending.{moved}
 use Rattle.m51_timers_uart.specs.Sending.{sending_ticked, serial_mode}
 use Rattle.m51_timers_uart.proofs.Bounds.{bit_most}
 use Rattle.m51_timers_uart.specs.RateLaws.{AreRatedBy, IsRatedBy, LineTick, ModeOneIsSentInTime, line_after}
@@ -92,15 +93,16 @@ clocks false byte passed one p w =
 
 -- the tick of a byte that has a bit time left
 still : (cpu : Cpu) (one : Bool) (two : ℕ) (p : Periph) → p.left ≢ 0
-    → sending_ticked one two cpu p ≡ ended cpu (moved cpu one two p)
+    → sending_ticked one two cpu p ≡ sent_at_end cpu (moved cpu one two p)
 unfolding sending_ticked
 still cpu one two p ne =
-    cond_both (p.left == 0) _ _ (λ (t : Ticked). t ≡ ended cpu (moved cpu one two p))
+    cond_both (p.left == 0) _ _ (λ (t : Ticked). t ≡ sent_at_end cpu (moved cpu one two p))
     (λ e. absurd (ne (eqb-true p.left 0 e))) (λ e. refl)
 
 ticks : (twice : Bool) (t : LineTick) (p : Periph) → IsRatedBy twice t → p.mode ≡ 1 → p.left ≢ 0
-    → tick_line t p ≡ ended t.cpu (clocked (bit_of t.timer1) (overflows_of_bit twice) p)
-ticks twice t p rated mode ne = still t.cpu t.timer1 t.timer2 p ne ∙ ap (ended t.cpu) (in_mode_1 twice t p rated mode)
+    → tick_line t p ≡ sent_at_end t.cpu (clocked (bit_of t.timer1) (overflows_of_bit twice) p)
+ticks twice t p rated mode ne = still t.cpu t.timer1 t.timer2 p ne
+    ∙ ap (sent_at_end t.cpu) (in_mode_1 twice t p rated mode)
 
 -- as long as overflows are missing a bit time is left
 some_left_16 : (left count passed : ℕ) → left * 16 + passed ≡ 9 * 16 + count → passed < 9 * 16 → left ≢ 0
@@ -135,7 +137,7 @@ pub record Goes (takes byte passed : ℕ) (cpu : Cpu) (t : Ticked) : Type 0 wher
   pub same : t.cpu ≡ cpu
 
 goes_on : (takes byte passed : ℕ) (cpu : Cpu) (q : Periph) → Clocks takes byte passed q → q.left ≢ 0
-    → Goes takes byte passed cpu (ended cpu q)
+    → Goes takes byte passed cpu (sent_at_end cpu q)
 goes_on takes byte passed cpu q c ne =
     cond_both (q.left == 0) _ _ (Goes takes byte passed cpu) (λ e. absurd (ne (eqb-true q.left 0 e)))
     (λ e. record {
@@ -172,7 +174,8 @@ same_sent : (b c : ℕ) (m n : Option Bool) → b ≡ c → m ≡ n
     → ◌≡◌ {A = Option Sent} (Some (record { byte = b; ninth = m })) (Some (record { byte = c; ninth = n }))
 same_sent b c m n e f = λ i. Some (record { byte = e i; ninth = f i })
 
-ends : (byte : ℕ) (cpu : Cpu) (q : Periph) → q.left ≡ 0 → q.byte ≡ byte → q.ninth ≡ None → Ends byte cpu (ended cpu q)
+ends : (byte : ℕ) (cpu : Cpu) (q : Periph) → q.left ≡ 0 → q.byte ≡ byte → q.ninth ≡ None
+    → Ends byte cpu (sent_at_end cpu q)
 ends byte cpu q e is ninth =
     cond_both (q.left == 0) _ _ (Ends byte cpu)
     (λ h. record { sent = same_sent q.byte byte q.ninth None is ninth; flagged = refl })

@@ -9,11 +9,12 @@ use Rattle.m51_timers_uart.specs.declared.levels.Levels.{Levels}
 use Rattle.m51_timers_uart.specs.declared.periph.Periph.{Periph}
 use Rattle.m51_timers_uart.specs.Counting.{count_on, counted_in}
 use Rattle.m51_timers_uart.specs.Levels.{falls, is_high}
-use Rattle.m51_timers_uart.specs.Sending.{Ticked, ended, moved, sending_ticked}
+use Rattle.m51_timers_uart.specs.Sending.{Ticked, sent_at_end, moved, sending_ticked}
 use Rattle.m51_timers_uart.specs.Tick.{clocks_rest, clocks_ticked}
 use Rattle.m51_timers_uart.specs.Timer2.{Overflowed, counted_times, exchanged2, t2ex_heeded, timer2_rests}
 use Rattle.m51_timers_uart.specs.Timer2.{timer2_ticked, times2}
-use Rattle.m51_timers_uart.specs.Timers.{Timed, bytes_at, counted0, counted1, counts0, counts1, flagged, is_met}
+use Rattle.m51_timers_uart.specs.Timers.{Timed, bytes_at, counted0, counted1, counts0, counts1, flagged}
+use Rattle.m51_timers_uart.specs.Timers.{counts_in_cycle}
 use Rattle.m51_timers_uart.specs.Timers.{is_open, is_split, mode0, mode1, th0_ticked, timer0_ticked, timer1_ticked}
 use Rattle.m51_timers_uart.specs.Timers.{timers_rest, timers_ticked}
 
@@ -35,17 +36,17 @@ never false b = refl
 counts0_not : (levels : Levels) (cpu : Cpu) → flag cpu tcon tr0 ≡ false → counts0 levels cpu ≡ false
 unfolding counts0
 counts0_not levels cpu h =
-    ap (λ b. is_open b (flag cpu tmod 3) (is_high levels Int0) && is_met (flag cpu tmod 2) (falls levels T0)) h
+    ap (λ b. is_open b (flag cpu tmod 3) (is_high levels Int0) && counts_in_cycle (flag cpu tmod 2) (falls levels T0)) h
 
 counts1_not : (levels : Levels) (cpu : Cpu) → flag cpu tcon tr1 ≡ false → is_split (mode0 cpu) ≡ false
     → counts1 levels cpu ≡ false
 unfolding counts1
 counts1_not levels cpu h k =
     ap (λ s. not (is_split (mode1 cpu)) && (s || is_open (flag cpu tcon tr1) (flag cpu tmod 7) (is_high levels Int1))
-    && is_met (flag cpu tmod 6) (falls levels T1)) k
+    && counts_in_cycle (flag cpu tmod 6) (falls levels T1)) k
     ∙ ap (λ b. not (is_split (mode1 cpu)) && is_open b (flag cpu tmod 7) (is_high levels Int1)
-    && is_met (flag cpu tmod 6) (falls levels T1)) h
-    ∙ never (not (is_split (mode1 cpu))) (is_met (flag cpu tmod 6) (falls levels T1))
+    && counts_in_cycle (flag cpu tmod 6) (falls levels T1)) h
+    ∙ never (not (is_split (mode1 cpu))) (counts_in_cycle (flag cpu tmod 6) (falls levels T1))
 
 timer0_stays : (levels : Levels) (cpu : Cpu) → counts0 levels cpu ≡ false → timer0_ticked levels cpu ≡ cpu
 unfolding timer0_ticked
@@ -95,7 +96,7 @@ sending_stays : (one : Bool) (two : ℕ) (cpu : Cpu) (p : Periph) → (p.left ==
     → ◌≡◌ {A = Ticked} (sending_ticked one two cpu p) (record { cpu = cpu; periph = p; sent = None })
 unfolding sending_ticked
 sending_stays one two cpu p h =
-    ap (λ b. if b then (record { cpu = cpu; periph = p; sent = None }) else ended cpu (moved cpu one two p)) h
+    ap (λ b. if b then (record { cpu = cpu; periph = p; sent = None }) else sent_at_end cpu (moved cpu one two p)) h
 
 record AllRest (a b c : Bool) : Type 0 where
   timers : a ≡ true

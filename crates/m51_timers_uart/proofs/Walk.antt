@@ -18,7 +18,7 @@ use Rattle.m51_timers_uart.specs.declared.receiving.Frame.{Frame}
 use Rattle.m51_timers_uart.specs.Counting.{counted_in}
 use Rattle.m51_timers_uart.specs.External.{requested}
 use Rattle.m51_timers_uart.specs.Receiving.{frame_met, received, with_ninth}
-use Rattle.m51_timers_uart.specs.Sending.{Ticked, ended, moved, sending_ticked}
+use Rattle.m51_timers_uart.specs.Sending.{Ticked, sent_at_end, moved, sending_ticked}
 use Rattle.m51_timers_uart.specs.Tick.{inputs_ticked, levels_met, ticked}
 use Rattle.m51_timers_uart.specs.Timer2.{Overflowed, counted2, counted_times, exchanged2, once_more, t2ex_heeded}
 use Rattle.m51_timers_uart.specs.Timer2.{timer2_ticked}
@@ -120,7 +120,8 @@ module _ (R : Cpu → Cpu → Type 0) (chain : IsChain R) where
   pub timer2_keeps : ByTimer2 R → (levels : Levels) (cpu : Cpu) → R cpu (timer2_ticked levels cpu).cpu
   timer2_keeps w levels cpu = chain.on cpu _ _ (counts_keep w _ cpu) (t2ex_keeps w levels _)
 
-  ended_keeps : ((cpu : Cpu) → R cpu (with_flag cpu scon ti true)) → (cpu : Cpu) (p : Periph) → R cpu (ended cpu p).cpu
+  ended_keeps : ((cpu : Cpu) → R cpu (with_flag cpu scon ti true)) → (cpu : Cpu) (p : Periph)
+      → R cpu (sent_at_end cpu p).cpu
   ended_keeps w cpu p =
       cond_both (p.left == 0)
       (record { cpu = with_flag cpu scon ti true; periph = p; sent = Some (record { byte = p.byte; ninth = p.ninth }) })
@@ -131,7 +132,7 @@ module _ (R : Cpu → Cpu → Type 0) (chain : IsChain R) where
       → (one : Bool) (two : ℕ) (cpu : Cpu) (p : Periph) → R cpu (sending_ticked one two cpu p).cpu
   unfolding sending_ticked
   sending_keeps w one two cpu p =
-      cond_both (p.left == 0) (record { cpu = cpu; periph = p; sent = None }) (ended cpu (moved cpu one two p))
+      cond_both (p.left == 0) (record { cpu = cpu; periph = p; sent = None }) (sent_at_end cpu (moved cpu one two p))
       (λ (t : Ticked). R cpu t.cpu) (λ e. chain.itself cpu) (λ e. ended_keeps w cpu (moved cpu one two p))
 
   ninth_keeps : ByInputs R → (b : Bool) (cpu : Cpu) → R cpu (with_ninth b cpu)

@@ -7,8 +7,8 @@ use Rattle.m51_timers_uart.specs.declared.counting.TimerBytes.{TimerBytes}
 use Rattle.m51_timers_uart.specs.declared.counting.TimerMode.{TimerMode}
 use Rattle.m51_timers_uart.specs.declared.counting.TimerMode.TheVariants.{Reloaded}
 use Rattle.m51_timers_uart.specs.declared.periph.Periph.{Periph}
-use Rattle.m51_timers_uart.specs.CountLaws.{AreBytes}
-use Rattle.m51_timers_uart.specs.Counting.{number_of, reload_of, size_of}
+use Rattle.m51_timers_uart.specs.CountLaws.{AreTimerBytes}
+use Rattle.m51_timers_uart.specs.Counting.{counter_value, reload_of, count_modulus}
 use Rattle.m51_timers_uart.specs.LineLaws.{AreQuiet, Cycle, after_cycles, cycled}
 use Rattle.m51_timers_uart.specs.RateLaws.{overflows_of_bit}
 use Rattle.m51_timers_uart.specs.Sending.{begun, bit_times, serial_mode}
@@ -51,16 +51,18 @@ cpu_after before last p = (cycled last (after_cycles before p)).cpu
 -- each cycle is a count: the number grows by one, and in the cycle in which it reaches the size TF1 is set, and the
 -- number is the reload value; before that TF1 stays
 pub record CountsCycles (mode : TimerMode) (t : TimerBytes) (n : ℕ) (last new : Cpu) : Type 0 where
-  pub number : number_of mode t + n < size_of mode → number_of mode (bytes_at th1 tl1 new) ≡ number_of mode t + n
-  pub stays : number_of mode t + n < size_of mode → flag new tcon tf1 ≡ flag last tcon tf1
-  pub reload : number_of mode t + n ≡ size_of mode → number_of mode (bytes_at th1 tl1 new) ≡ reload_of mode t
-  pub overflow : number_of mode t + n ≡ size_of mode → flag new tcon tf1 ≡ true
+  pub number : counter_value mode t + n < count_modulus mode → counter_value mode (bytes_at th1 tl1 new)
+      ≡ counter_value mode t + n
+  pub stays : counter_value mode t + n < count_modulus mode → flag new tcon tf1 ≡ flag last tcon tf1
+  pub reload : counter_value mode t + n ≡ count_modulus mode → counter_value mode (bytes_at th1 tl1 new)
+      ≡ reload_of mode t
+  pub overflow : counter_value mode t + n ≡ count_modulus mode → flag new tcon tf1 ≡ true
 
 -- timer 1 in modes 0 to 2, while it runs free; TF1 is its own where timer 0 is not in mode 3
 abbrev pub TimerOneCountsCycles : Type 0
 TimerOneCountsCycles =
     (mode : TimerMode) (cpu : Cpu) (p : Periph) (before : List Cycle) (last : Cycle)
-    → is_split mode ≡ false → RunsFree mode cpu → AreBytes (bytes_at th1 tl1 cpu)
+    → is_split mode ≡ false → RunsFree mode cpu → AreTimerBytes (bytes_at th1 tl1 cpu)
     → AreInRow LeavesTimer1 cpu p (before ++ last ∷ []) → is_split (mode0 last.cpu) ≡ false
     → CountsCycles mode (bytes_at th1 tl1 cpu) (length before + 1) last.cpu (cpu_after before last p)
 
@@ -79,7 +81,7 @@ pub record IsSentAt (due byte n : ℕ) (last : Cycle) (p : Periph) : Type 0 wher
 abbrev pub ModeOneIsSentAtItsCycle : Type 0
 ModeOneIsSentAtItsCycle =
     (cpu : Cpu) (byte : ℕ) (p : Periph) (twice : Bool) (before : List Cycle) (last : Cycle)
-    → serial_mode cpu ≡ 1 → HasRate twice cpu → RunsFree Reloaded cpu → AreBytes (bytes_at th1 tl1 cpu)
+    → serial_mode cpu ≡ 1 → HasRate twice cpu → RunsFree Reloaded cpu → AreTimerBytes (bytes_at th1 tl1 cpu)
     → AreQuiet (before ++ last ∷ []) → AreInRow LeavesRate cpu (begun cpu byte p) (before ++ last ∷ [])
     → IsSentAt (cycles_to_send twice (bytes_at th1 tl1 cpu)) byte (length before + 1) last
     (after_cycles before (begun cpu byte p))

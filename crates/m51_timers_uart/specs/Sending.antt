@@ -63,8 +63,8 @@ pub record Ticked : Type 0 where
   pub sent : Option Sent
 
 -- when no bit time is left, TI is set and the byte is sent
-abbrev pub ended : Cpu → Periph → Ticked
-ended cpu p =
+abbrev pub sent_at_end : Cpu → Periph → Ticked
+sent_at_end cpu p =
     if p.left == 0
     then record {
       cpu = with_flag cpu scon ti true;
@@ -75,4 +75,4 @@ ended cpu p =
 
 unfoldable pub sending_ticked : Bool → ℕ → Cpu → Periph → Ticked
 sending_ticked timer1 timer2 cpu p =
-    if p.left == 0 then record { cpu = cpu; periph = p; sent = None } else ended cpu (moved cpu timer1 timer2 p)
+    if p.left == 0 then record { cpu = cpu; periph = p; sent = None } else sent_at_end cpu (moved cpu timer1 timer2 p)

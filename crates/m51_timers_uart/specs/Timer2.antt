@@ -8,7 +8,7 @@ use Rattle.m51_timers_uart.specs.declared.levels.Input.TheVariants.{T2, T2ex}
 use Rattle.m51_timers_uart.specs.declared.counting.TimerMode.TheVariants.{SixteenBits}
 use Rattle.m51_timers_uart.specs.declared.counting.Counted.{Counted}
 use Rattle.m51_flat.specs.Flags.{cprl2, ct2, exen2, exf2, rclk, tclk, tf2, tr2}
-use Rattle.m51_timers_uart.specs.Counting.{number_of, sixteen_counted}
+use Rattle.m51_timers_uart.specs.Counting.{counter_value, sixteen_counted}
 use Rattle.m51_timers_uart.specs.Levels.{falls}
 use Rattle.m51_timers_uart.specs.Timers.{bytes_at, with_bytes}
 
@@ -24,7 +24,7 @@ pub record Overflowed : Type 0 where
 -- what the number continues from after an overflow: RCAP2 where timer 2 gives the rate or CP/RL2 is 0, else 0
 unfoldable pub reload2 : Cpu → ℕ
 reload2 cpu =
-    if gives_rate cpu || not (flag cpu t2con cprl2) then number_of SixteenBits (bytes_at rcap2h rcap2l cpu) else 0
+    if gives_rate cpu || not (flag cpu t2con cprl2) then counter_value SixteenBits (bytes_at rcap2h rcap2l cpu) else 0
 
 -- an overflow sets TF2 but where timer 2 gives the rate
 abbrev pub counted2 : Counted → Cpu → ℕ → Overflowed

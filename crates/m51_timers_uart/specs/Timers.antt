@@ -29,20 +29,21 @@ abbrev pub is_open : Bool → Bool → Bool → Bool
 is_open tr gate int = tr && (not gate || int)
 
 -- with C/T 0 each cycle is counted, with C/T 1 each fall of T
-abbrev pub is_met : Bool → Bool → Bool
-is_met ct fall = not ct || fall
+abbrev pub counts_in_cycle : Bool → Bool → Bool
+counts_in_cycle ct fall = not ct || fall
 
 -- timer 0 counts in this cycle
 unfoldable pub counts0 : Levels → Cpu → Bool
 counts0 levels cpu =
-    is_open (flag cpu tcon tr0) (flag cpu tmod 3) (is_high levels Int0) && is_met (flag cpu tmod 2) (falls levels T0)
+    is_open (flag cpu tcon tr0) (flag cpu tmod 3) (is_high levels Int0) && counts_in_cycle (flag cpu tmod 2)
+    (falls levels T0)
 
 -- timer 1 counts in this cycle; while timer 0 is in mode 3, TR1, GATE and INT1 do not matter
 unfoldable pub counts1 : Levels → Cpu → Bool
 counts1 levels cpu =
     not (is_split (mode1 cpu))
     && (is_split (mode0 cpu) || is_open (flag cpu tcon tr1) (flag cpu tmod 7) (is_high levels Int1))
-    && is_met (flag cpu tmod 6) (falls levels T1)
+    && counts_in_cycle (flag cpu tmod 6) (falls levels T1)
 
 -- TR0 and TR1 are 0 and timer 0 is not in mode 3, so neither counts, whatever the pins do
 unfoldable pub timers_rest : Cpu → Bool

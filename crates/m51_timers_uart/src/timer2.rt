@@ -2,7 +2,7 @@
 ghost use Rattle.std.specs.Prelude.{◌≡◌, ◌≤◌, ◌+◌};
 ghost use Rattle.m51_alu.specs.Arithmetic.{bit_of};
 ghost use Rattle.m51_timers_uart.specs.declared.counting.TimerMode.TheVariants.{SixteenBits};
-ghost use Rattle.m51_timers_uart.specs.Counting.{number_of};
+ghost use Rattle.m51_timers_uart.specs.Counting.{counter_value};
 ghost use Rattle.m51_timers_uart.specs.Timer2.{captured, counted_times, exchanged2, gives_rate, once_more, reload2};
 ghost use Rattle.m51_timers_uart.specs.Timer2.{reloaded, t2ex_heeded, timer2_rests, timer2_ticked, times2};
 
@@ -26,7 +26,7 @@ fn rates(cpu: &Cpu) -> bool
 /// What the number continues from after an overflow.
 #[tactic(auto, unfolding(crate::specs::Timer2::reload2))]
 fn reload(cpu: &Cpu) -> TimerBytes
-    ensures { number_of SixteenBits result ≡ reload2 cpu.now }
+    ensures { counter_value SixteenBits result ≡ reload2 cpu.now }
 {
     let rates = rates(cpu);
     let captures = cpu.flag(T2CON, CPRL2);

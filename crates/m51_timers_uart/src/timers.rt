@@ -1,7 +1,8 @@
 //! Timers 0 and 1.
 ghost use Rattle.std.specs.Prelude.{◌≡◌, ◌<◌};
 ghost use Rattle.m51_timers_uart.specs.Counting.{mode_of};
-ghost use Rattle.m51_timers_uart.specs.Timers.{bytes_at, counts0, counts1, flagged, is_split, is_met, is_open, mode0};
+ghost use Rattle.m51_timers_uart.specs.Timers.{bytes_at, counts0, counts1, flagged, is_split, counts_in_cycle, is_open};
+ghost use Rattle.m51_timers_uart.specs.Timers.{mode0};
 ghost use Rattle.m51_timers_uart.specs.Timers.{mode1, th0_ticked, timer0_ticked, timer1_ticked, timers_rest};
 ghost use Rattle.m51_timers_uart.specs.Timers.{timers_ticked};
 ghost use Rattle.m51_timers_uart.specs.Timers.{with_bytes};
@@ -54,7 +55,7 @@ fn opens(tr: bool, gate: bool, int: bool) -> bool
 
 /// Each cycle is counted, and with C/T each fall of T.
 fn meets(ct: bool, fall: bool) -> bool
-    ensures { result ≡ is_met ct fall }
+    ensures { result ≡ counts_in_cycle ct fall }
 {
     !ct || fall
 }

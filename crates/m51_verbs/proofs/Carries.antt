@@ -15,14 +15,14 @@ use Rattle.m51_verbs.specs.declared.status.Status.TheVariants as status
 use Rattle.m51_shelf.specs.States.{KeepAt}
 use Rattle.m51_verbs.specs.Outcome.{Answer, status_after, status_by}
 use Rattle.m51_verbs.specs.Targets.{unkept_text}
-use Rattle.m51_verbs.specs.Carried.{status_told, IsWritten, IsEnded, IsUnkept, Unkept, UnkeptCut}
+use Rattle.m51_verbs.specs.Carried.{status_told, IsTextWritten, IsEnded, IsUnkept, Unkept, UnkeptCut}
 
 -- a text that was written, and then another
 pub written_after : (status : Status) (front text : List ℕ) (before between after : SinkState)
     (result : Result Status Failed)
     → Appends before.text between.text front → before.faults ≤ between.faults
-    → IsWritten status text between after result
-    → IsWritten status (front ++ text) before after result
+    → IsTextWritten status text between after result
+    → IsTextWritten status (front ++ text) before after result
 written_after status front text before between after (Ok told) first later written =
     (written.0, Appends-trans before.text between.text after.text front text first written.1)
 written_after status front text before between after (Err failed) first later written =
@@ -30,7 +30,7 @@ written_after status front text before between after (Err failed) first later wr
 
 -- an answer whose file could not be kept
 pub unkept_ended : (answer : Answer) (before after : KeepAt) (old new : SinkState) (result : Result Status Failed)
-    → IsUnkept answer before after → IsWritten status.WriteFault (unkept_text after.missed) old new result
+    → IsUnkept answer before after → IsTextWritten status.WriteFault (unkept_text after.missed) old new result
     → IsEnded answer before after old new (status_told result)
 unkept_ended answer before after old new (Ok told) unkept written = Unkept written.0 unkept written.1
 unkept_ended answer before after old new (Err failed) unkept written = UnkeptCut refl unkept written.0 written.1
@@ -39,7 +39,8 @@ unkept_ended answer before after old new (Err failed) unkept written = UnkeptCut
 pub run_written : {M : Type 0} (titles : List (List ℕ)) (machine : Machine M) (n : ℕ) (first now : State M)
     (old new : SinkState) (end : RunEnd)
     → Ended old.text new.text titles machine n first now end → (end ≡ ends.WriteFault → Rose old.faults new.faults)
-    → IsWritten (status_by (record_of machine n first).event) (record_text titles (record_of machine n first)) old new
+    → IsTextWritten (status_by (record_of machine n first).event)
+    (record_text titles (record_of machine n first)) old new
     (status_after end)
 run_written titles machine n first now old new ends.Finished ended fault = (rw (ended.event_is) refl, ended.text)
 run_written titles machine n first now old new (ends.Stopped event) ended fault = (rw (ended.event_is) refl, ended.text)

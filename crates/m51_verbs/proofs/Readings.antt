@@ -13,9 +13,9 @@ use Rattle.m51_shelf.specs.declared.reading.FileReadError.{FileReadError}
 use Rattle.m51_shelf.specs.declared.reading.FileReadError.TheVariants as errors
 use Rattle.m51_shelf.specs.Shelf.{Files}
 use Rattle.m51_shelf.specs.States.{ReadAt}
-use Rattle.m51_shelf.specs.Reading.{IsWhole, IsLong, IsRead}
+use Rattle.m51_shelf.specs.Reading.{IsWholeFile, IsLong, IsRead}
 use Rattle.m51_verbs.specs.Reading.{Reading, Whole, TooLong, Absent, with_file, read_one, read_of, AreRead, AreReadOr}
-use Rattle.m51_verbs.specs.Reading.{IsReached}
+use Rattle.m51_verbs.specs.Reading.{IsFileReached}
 
 -- contents before those of the files that are read next
 abbrev pub with_files : List (List ℕ) → Reading → Reading
@@ -106,7 +106,7 @@ all_one P x h (suc k) d low = absurd (omega (arith, low))
 -- one more file that was read whole
 pub one_more : (holds : Option Files) (front contents : List (List ℕ)) (name bytes : List ℕ) (after : ReadAt)
     → AreRead holds front contents
-    → IsWhole holds after bytes → after.named ≡ name → AreRead holds (front ++ name ∷ []) (contents ++ bytes ∷ [])
+    → IsWholeFile holds after bytes → after.named ≡ name → AreRead holds (front ++ name ∷ []) (contents ++ bytes ∷ [])
 one_more holds front contents name bytes after read whole named = record {
   count = length-append contents (bytes ∷ []) ∙ ap (λ n. n + 1) read.count ∙ sym (length-append front (name ∷ []));
   within = All-append (λ b. length b ≤ MOST_FILE_BYTES) contents (bytes ∷ []) read.within
@@ -116,7 +116,7 @@ one_more holds front contents name bytes after read whole named = record {
 }
 
 -- a file that is too long, after files that were read whole
-pub long_after : (files : Files) (names : List (List ℕ)) (after : ReadAt) → IsReached (Some files) names after.named
+pub long_after : (files : Files) (names : List (List ℕ)) (after : ReadAt) → IsFileReached (Some files) names after.named
     → IsLong (Some files) after
     → read_of files names ≡ TooLong
 long_after files names after reached long =
@@ -143,9 +143,9 @@ up_to names index name low is = take_more names index name low ∙ ap (λ n. tak
 pub reached : (holds : Option Files) (names contents : List (List ℕ)) (index : ℕ) (name named : List ℕ)
     → index < length names
     → AreRead holds (take index names) contents → name ≡ get_or names index name → named ≡ name
-    → IsReached holds names named
+    → IsFileReached holds names named
 reached holds names contents index name named low read is same =
-    subst (λ n. IsReached holds names n) (sym same)
+    subst (λ n. IsFileReached holds names n) (sym same)
     (record {
       front = take index names;
       rest = drop (suc index) names;
@@ -158,7 +158,7 @@ reached holds names contents index name named low read is same =
 pub read_more : (holds : Option Files) (names contents more : List (List ℕ)) (index : ℕ) (name bytes : List ℕ)
     (after : ReadAt) → index < length names
     → AreRead holds (take index names) contents → name ≡ get_or names index name → after.named ≡ name
-    → IsWhole holds after bytes
+    → IsWholeFile holds after bytes
     → more ≡ contents ++ bytes ∷ [] → AreRead holds (take (index + 1) names) more
 read_more holds names contents more index name bytes after low read is named whole items =
     rw (up_to names index name low is, items)

@@ -16,28 +16,28 @@ abbrev pub kept_of : Answer → List File
 kept_of answer = option_to_list answer.keeps
 
 -- The file of an answer is kept, and where it has none, keep was not called.
-pub record IsKept (answer : Answer) (before after : KeepAt) : Type 0 where
+pub record IsFileKept (answer : Answer) (before after : KeepAt) : Type 0 where
   pub files : Grows before.kept after.kept (kept_of answer)
   pub quiet : answer.keeps ≡ None → after ≡ before
 
 -- a text is written whole, or a write failed after a prefix of it
-abbrev pub IsWritten : Status → List ℕ → SinkState → SinkState → Result Status Failed → Type 0
-IsWritten status text before after (Ok told) = (told ≡ status) × Appends before.text after.text text
-IsWritten status text before after (Err failed) =
+abbrev pub IsTextWritten : Status → List ℕ → SinkState → SinkState → Result Status Failed → Type 0
+IsTextWritten status text before after (Ok told) = (told ≡ status) × Appends before.text after.text text
+IsTextWritten status text before after (Err failed) =
     Rose before.faults after.faults × AppendsFront before.text after.text text
 
 -- The answer's file is kept and its text is written whole.
-pub record IsWhole
+pub record IsCarriedOut
     (answer : Answer) (before after : KeepAt) (sink_before sink_after : SinkState) (told : Status)
     : Type 0 where
   pub status : told ≡ answer.status
-  pub kept : IsKept answer before after
+  pub kept : IsFileKept answer before after
   pub text : Appends sink_before.text sink_after.text answer.text
 
 -- Its file is kept, and a write failed after a prefix of its text.
 pub record IsCut (answer : Answer) (before after : KeepAt) (sink_before sink_after : SinkState) : Type 0 where
   pub rose : Rose sink_before.faults sink_after.faults
-  pub kept : IsKept answer before after
+  pub kept : IsFileKept answer before after
   pub text : AppendsFront sink_before.text sink_after.text answer.text
 
 -- Its file could not be kept.
@@ -58,7 +58,7 @@ pub record IsUntouched (before after : KeepAt) (sink_before sink_after : SinkSta
 pub data IsEnded
     (answer : Answer) (before after : KeepAt) (sink_before sink_after : SinkState) (told : Status)
     : Type 0 where
-  Whole : IsWhole answer before after sink_before sink_after told
+  Whole : IsCarriedOut answer before after sink_before sink_after told
       → IsEnded answer before after sink_before sink_after told
   Cut : told ≡ status.WriteFault → IsCut answer before after sink_before sink_after
       → IsEnded answer before after sink_before sink_after told

@@ -38,7 +38,7 @@ pub record AreRead (holds : Option Files) (names contents : List (List ℕ)) : T
   pub held : IfSome holds (λ files. read_of files names ≡ Whole contents)
 
 -- the file of this name is one of those that are read, and those before it were read whole
-pub record IsReached (holds : Option Files) (names : List (List ℕ)) (named : List ℕ) : Type 0 where
+pub record IsFileReached (holds : Option Files) (names : List (List ℕ)) (named : List ℕ) : Type 0 where
   pub front : List (List ℕ)
   pub rest : List (List ℕ)
   pub contents : List (List ℕ)
@@ -50,9 +50,9 @@ abbrev pub AreReadOr : Option Files → List (List ℕ) → List (List ℕ) → 
     → Type 0
 AreReadOr holds names contents before after (Ok all) = AreRead holds names contents
 AreReadOr holds names contents before after (Err error.TooLong) =
-    IsLong holds after × IsReached holds names after.named
+    IsLong holds after × IsFileReached holds names after.named
 AreReadOr holds names contents before after (Err error.Failed) =
-    HasFailed before after × IsReached holds names after.named
+    HasFailed before after × IsFileReached holds names after.named
     × (slice_get names (length contents) ≡ Some after.named)
 AreReadOr holds names contents before after (Err error.Memory) = Unit {0}
 

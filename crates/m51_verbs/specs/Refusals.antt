@@ -11,8 +11,8 @@ use Rattle.m51_verbs.specs.declared.work.Reason.TheVariants as reason
 use Rattle.m51_verbs.specs.Outcome.{Outcome, refused}
 
 -- texts one after the other
-abbrev pub joined : List (List ℕ) → List ℕ
-joined parts = fold (λ (text : List ℕ) (part : List ℕ). text ++ part) [] parts
+abbrev pub joined_texts : List (List ℕ) → List ℕ
+joined_texts parts = fold (λ (text : List ℕ) (part : List ℕ). text ++ part) [] parts
 
 -- what is wrong with an object, and where; never used for out of memory
 abbrev pub object_words : ObjError → List ℕ

@@ -1,6 +1,6 @@
 //! Carrying a plan out: keeping, writing, running. It allocates nothing.
 ghost use Rattle.std.specs.Prelude.{◌≡◌, ◌≤◌, ◌++◌, None, Some};
-ghost use Rattle.m51_verbs.specs.Carried.{HoldsBut, IsWritten, IsEnded, status_told};
+ghost use Rattle.m51_verbs.specs.Carried.{HoldsBut, IsTextWritten, IsEnded, status_told};
 ghost use Rattle.m51_verbs.specs.Outcome.{answer_of, file_of, status_after, status_at, text_at};
 ghost use Rattle.m51_shelf.specs.Shelf.{HoldsOthers};
 
@@ -12,7 +12,7 @@ use m51_sim::RunEnd;
 
 // Writes a text, and ends with the status.
 fn write<S: Sink>(out: &mut S, status: Status, text: &[u8]) -> Result<Status, Failed>
-    ensures written { IsWritten status text.now (S.state out.old) (S.state out.new) result }
+    ensures written { IsTextWritten status text.now (S.state out.old) (S.state out.new) result }
     ensures later { (S.state out.old).faults ≤ (S.state out.new).faults }
 {
     match write_whole(out, text) {
@@ -35,7 +35,7 @@ fn status_after(end: RunEnd) -> Result<Status, Failed>
 // Ends: runs, if there is something to run, and writes the record.
 #[tactic(auto, unfolding(crate::specs::Outcome::status_at, crate::specs::Outcome::text_at))]
 fn end<S: Sink>(ending: Finish, out: &mut S) -> Result<Status, Failed>
-    ensures written { IsWritten (status_at ending) (text_at ending) (S.state out.old) (S.state out.new) result }
+    ensures written { IsTextWritten (status_at ending) (text_at ending) (S.state out.old) (S.state out.new) result }
     ensures later { (S.state out.old).faults ≤ (S.state out.new).faults }
 {
     match ending {
@@ -48,7 +48,7 @@ fn end<S: Sink>(ending: Finish, out: &mut S) -> Result<Status, Failed>
 
 // Writes a text, and then ends.
 fn report<S: Sink>(text: &[u8], ending: Finish, out: &mut S) -> Result<Status, Failed>
-    ensures written { IsWritten (status_at ending) (text.now ++ text_at ending)
+    ensures written { IsTextWritten (status_at ending) (text.now ++ text_at ending)
         (S.state out.old) (S.state out.new) result }
     ensures later { (S.state out.old).faults ≤ (S.state out.new).faults }
 {

@@ -3,8 +3,8 @@ ghost use Rattle.std.specs.Prelude.{◌≡◌, ◌≤◌, IfOk, length, option_m
 ghost use Rattle.std.specs.Option.{option_copied};
 ghost use Rattle.m51_cells.specs.Outcome.{Gives};
 ghost use Rattle.m51_cells.specs.declared.limits.TheConstants.{MOST_FILE_BYTES};
-ghost use Rattle.m51_hex.specs.Reading.{refusal_of as hex_refusal};
-ghost use Rattle.m51_script.specs.Reading.{refusal_of};
+ghost use Rattle.m51_hex.specs.Reading.{image_refusal as hex_refusal};
+ghost use Rattle.m51_script.specs.Reading.{script_refusal};
 ghost use Rattle.m51_jobs.specs.declared.job.Job.TheVariants.{Flat};
 ghost use Rattle.m51_verbs.specs.Contents.{AreContentsOf};
 ghost use Rattle.m51_verbs.specs.Outcome.{Comes, outcome_of, stopped};
@@ -74,7 +74,7 @@ fn run(alloc: Global, job: &FlatJob, image: Image, script: Script) -> Result<Fin
 ///
 /// Source: own choice ("Scripts").
 pub fn script_in(alloc: Global, file: Option<&Bytes>) -> Result<Script, ScriptError>
-    ensures { Gives (λ script. script) refusal_of result (script_in (option_copied file.entry)) }
+    ensures { Gives (λ script. script) script_refusal result (script_in (option_copied file.entry)) }
 {
     match file {
         Some(bytes) => read_script(alloc, bytes.as_slice()),
@@ -84,7 +84,7 @@ pub fn script_in(alloc: Global, file: Option<&Bytes>) -> Result<Script, ScriptEr
 
 // The script is refused; out of memory is no refusal.
 fn refuse_read_script(alloc: Global, error: &ScriptError) -> Result<Stop, NoMemory>
-    ensures { IfOk result (λ stop. stopped stop ≡ option_map script_outcome (refusal_of error.now)) }
+    ensures { IfOk result (λ stop. stopped stop ≡ option_map script_outcome (script_refusal error.now)) }
 {
     match error {
         ScriptError::Memory => Ok(Stop::Memory),

@@ -1,12 +1,12 @@
 //! Refusals of objects, libraries and edits, with their texts.
 ghost use Rattle.std.specs.Prelude.{◌≡◌, ◌++◌, IfOk, Some, decimal, option_map};
 ghost use Rattle.m51_module.specs.Library.{refusal_of as library_refusal};
-ghost use Rattle.m51_frame.specs.Fields.{refusal_of as object_refusal};
+ghost use Rattle.m51_frame.specs.Fields.{record_refusal as object_refusal};
 ghost use Rattle.m51_verbs.specs.Outcome.{stopped};
 ghost use Rattle.m51_verbs.specs.Refusals.{edit_outcome, edit_refused, file_refused, full, library_outcome};
 ghost use Rattle.m51_verbs.specs.Refusals.{object_outcome, object_words};
 
-use crate::refusing::{bytes_of, joined, refuse};
+use crate::refusing::{bytes_of, joined_texts, refuse};
 use crate::work::{Reason, Stop};
 use m51_cells::{Bytes, Name, NoMemory, hex2};
 use m51_module::{LibError, ObjError};
@@ -52,7 +52,7 @@ fn checksum_words(alloc: Global, record_no: u32, found: u8, needed: u8) -> Resul
     let rule = numbered(alloc, "O2 RECORD ", record_no)?;
     let found = hex2(found);
     let needed = hex2(needed);
-    joined(
+    joined_texts(
         alloc,
         &[rule.as_slice(), b" FOUND ", &found, b" NEEDED ", &needed],
     )
@@ -100,7 +100,7 @@ pub(crate) fn refuse_object(alloc: Global, file: &str, error: &ObjError) -> Resu
 fn refuse_file_at(alloc: Global, file: &str, rule: &[u8], name: &Name) -> Result<Stop, NoMemory>
     ensures { IfOk result (λ stop. stopped stop ≡ Some (file_refused file.now (rule.now ++ name.now))) }
 {
-    let words = joined(alloc, &[rule, name.bytes()])?;
+    let words = joined_texts(alloc, &[rule, name.bytes()])?;
     refuse_file(alloc, file, words.as_slice())
 }
 
@@ -133,7 +133,7 @@ pub(crate) fn refuse_library(alloc: Global, file: &str, error: &LibError) -> Res
 fn refuse_edit_at(alloc: Global, rule: &[u8], name: &Name) -> Result<Stop, NoMemory>
     ensures { IfOk result (λ stop. stopped stop ≡ Some (edit_refused (rule.now ++ name.now))) }
 {
-    let words = joined(alloc, &[rule, name.bytes()])?;
+    let words = joined_texts(alloc, &[rule, name.bytes()])?;
     refuse_edit_for(alloc, words.as_slice())
 }
 

@@ -4,7 +4,7 @@ ghost use Rattle.m51_jobs.specs.Texts.{lent};
 ghost use Rattle.m51_verbs.specs.Outcome.{answer_of, long_answer, many_answer, refusal, refused, stopped};
 ghost use Rattle.m51_verbs.specs.Outcome.{unread_answer};
 ghost use Rattle.m51_verbs.specs.Outcome.{usage_answer};
-ghost use Rattle.m51_verbs.specs.Refusals.{joined};
+ghost use Rattle.m51_verbs.specs.Refusals.{joined_texts};
 
 use crate::plan::Plan;
 use crate::status::Status;
@@ -13,8 +13,8 @@ use m51_cells::{Bytes, NoMemory};
 use std::alloc::Global;
 
 // These texts, one after the other.
-pub(crate) fn joined(alloc: Global, parts: &[&[u8]]) -> Result<Bytes, NoMemory>
-    ensures { IfOk result (λ bytes. bytes ≡ joined (lent parts.now)) }
+pub(crate) fn joined_texts(alloc: Global, parts: &[&[u8]]) -> Result<Bytes, NoMemory>
+    ensures { IfOk result (λ bytes. bytes ≡ joined_texts (lent parts.now)) }
 {
     let mut bytes = Vec::new(alloc);
     for part in parts {
@@ -32,11 +32,11 @@ pub(crate) fn bytes_of(alloc: Global, text: &[u8]) -> Result<Bytes, NoMemory>
 
 // Work is refused, with these texts.
 pub(crate) fn refuse(alloc: Global, why: Reason, parts: &[&[u8]]) -> Result<Stop, NoMemory>
-    ensures { IfOk result (λ stop. stopped stop ≡ Some (refused why (joined (lent parts.now)))) }
+    ensures { IfOk result (λ stop. stopped stop ≡ Some (refused why (joined_texts (lent parts.now)))) }
 {
     Ok(Stop::Refused {
         why,
-        text: joined(alloc, parts)?,
+        text: joined_texts(alloc, parts)?,
     })
 }
 

@@ -14,8 +14,8 @@ use std::alloc::Global;
 fn refuse_line(alloc: Global, rule: &[u8], line: u32) -> Result<Stop, NoMemory>
     ensures { IfOk result (λ stop. stopped stop ≡ Some (script_refused rule.now line)) }
 {
-    let place = format!(in alloc; "SCRIPT LINE {line}: ")?;
-    refuse(alloc, Reason::Script, &[place.as_bytes(), rule, b"\n"])
+    let beginning = format!(in alloc; "SCRIPT LINE {line}: ")?;
+    refuse(alloc, Reason::Script, &[beginning.as_bytes(), rule, b"\n"])
 }
 
 /// A script is refused. Out of memory is the only error.

@@ -15,9 +15,13 @@ returns c =
 pub returns-in_err-link_of : goal.returns-in_err-link_of
 returns-in_err-link_of c =
     let command : app_of c.in_ok-command.command ≡ dis_app = search rules in
-    asked_err dis_app _ link_of Dis _ _ _ c.from_residual-in_err-link_of.result command c.in_ok-matches.ensures c.in_err-link_of.ensures c.from_residual-in_err-link_of.ensures.1
+    asked_err dis_app _ link_of Dis _ _ _ c.from_residual-in_err-link_of.result command c.in_ok-matches.ensures
+    c.in_err-link_of.ensures c.from_residual-in_err-link_of.ensures.1
 
 pub returns-in_err-matches : goal.returns-in_err-matches
 returns-in_err-matches c =
     let command : app_of c.in_ok-command.command ≡ dis_app = search rules in
-    unmatched_err {T = ArgMatches} (λ matches. rows_of (found_of matches)) dis_app _ link_of Dis _ _ c.from_residual-in_err-matches.result command c.in_err-matches.ensures c.from_residual-in_err-matches.ensures.1
+    unmatched_err {T = ArgMatches}
+    (λ matches. rows_of (found_of matches))
+    dis_app _ link_of Dis _ _ c.from_residual-in_err-matches.result command c.in_err-matches.ensures
+    c.from_residual-in_err-matches.ensures.1

@@ -5,4 +5,5 @@ use Rattle.m51_jobs.specs.Texts.{lent}
 use Rattle.m51_args.proofs.commands.bare_verb.Given as goal
 
 abbrev pub invariant-loop-name : goal.invariant-loop-name
-invariant-loop-name l = with_options (app_of l.command) (lent (drop l.name-index l.options)) ≡ bare_app l.verb (lent l.options)
+invariant-loop-name l = with_options (app_of l.command) (lent (drop l.name-index l.options))
+    ≡ bare_app l.verb (lent l.options)

@@ -14,4 +14,5 @@ returns c =
 pub returns-in_err-build_of : goal.returns-in_err-build_of
 returns-in_err-build_of c =
     let command : app_of c.in_ok-command.command ≡ build_app = search rules in
-    asked_err build_app _ build_of Build _ _ _ c.from_residual-in_err-build_of.result command c.in_ok-matches.ensures c.in_err-build_of.ensures c.from_residual-in_err-build_of.ensures.1
+    asked_err build_app _ build_of Build _ _ _ c.from_residual-in_err-build_of.result command c.in_ok-matches.ensures
+    c.in_err-build_of.ensures c.from_residual-in_err-build_of.ensures.1

@@ -1,7 +1,6 @@
-use Rattle.std.proofs.Common.{map, ap, ◌∙◌}
-use Rattle.m51_text.specs.Answer.{line_tree}
+use Rattle.m51_asm.proofs.Common.{map, ap, ◌∙◌, line_tree, name_in}
 use Rattle.m51_emit.specs.declared.gathering.ModuleContent.{ModuleContent}
-use Rattle.m51_asm.specs.Parts.{name_in, version_of, parts}
+use Rattle.m51_asm.specs.Parts.{version_of, parts}
 use Rattle.m51_asm.proofs.answering.parts_of.Goals as goal
 
 pub returns : goal.returns

@@ -1,7 +1,4 @@
-use Rattle.std.proofs.Common.{map, length, ap, sym, subst, ◌∙◌, arith}
-use Rattle.std.proofs.lemmas.List.{length-map}
-use Rattle.m51_text.specs.Answer.{line_tree}
-use Rattle.m51_asm.specs.FirstFault.{IsFirstFault}
+use Rattle.m51_asm.proofs.Common.{map, length, ap, sym, subst, ◌∙◌, arith, length-map, line_tree, IsFirstFault}
 use Rattle.m51_asm.specs.Passing.{IsPlaced, IsPassed}
 use Rattle.m51_asm.proofs.AnAssignment.{fitting, fits}
 use Rattle.m51_asm.proofs.AnsweredLines.{if_ok}

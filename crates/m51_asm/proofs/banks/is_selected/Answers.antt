@@ -1,7 +1,5 @@
-use Rattle.std.proofs.Common.{◌≡◌, ◌<◌, ◌||◌, map, length, refl, ap, sym, ◌∙◌, add-one, arith}
-use Rattle.std.proofs.lemmas.List.{length-map}
-use Rattle.m51_text.specs.Answer.{line_tree}
-use Rattle.m51_asm.specs.Assignment.{body_of}
+use Rattle.m51_asm.proofs.Common.{◌≡◌, ◌<◌, ◌||◌, map, length, refl, ap, sym, ◌∙◌, add-one, arith, length-map}
+use Rattle.m51_asm.proofs.Common.{line_tree, body_of}
 use Rattle.m51_asm.specs.Parts.{is_selected}
 use Rattle.m51_asm.proofs.ReadLines.{line_at, place_at}
 use Rattle.m51_asm.proofs.SelectedBanks.{selected_more}

@@ -1,8 +1,5 @@
-use Rattle.std.proofs.Common.{◌≡◌, map}
-use Rattle.m51_text.specs.Answer.{line_tree}
-use Rattle.m51_asm.specs.Assignment.{Assignment}
+use Rattle.m51_asm.proofs.Common.{◌≡◌, map, line_tree, Assignment, ArePlaces}
 use Rattle.m51_asm.specs.Parts.{is_selected}
-use Rattle.m51_asm.specs.Passing.{ArePlaces}
 use Rattle.m51_asm.proofs.banks.is_selected.Given as goal
 
 -- whether one of the lines so far selects it

@@ -1,21 +1,16 @@
-use Rattle.std.proofs.Common.{◌++◌, [], ap, ◌∙◌}
-use Rattle.m51_stmt.specs.Statement.{body_tree}
-use Rattle.m51_text.specs.Answer.{line_tree}
-use Rattle.m51_emit.specs.Outcomes.{or_next}
-use Rattle.m51_asm.specs.ContentFaults.{if_fault}
-use Rattle.m51_asm.specs.ObjectNames.{object_names, AreNamesAt}
-use Rattle.m51_asm.specs.Publishing.{published_by, publics_among, fault_among}
-use Rattle.m51_asm.specs.Located.{located_value}
+use Rattle.m51_asm.proofs.Common.{◌++◌, [], ap, sym, ◌∙◌, line_tree, or_next, if_fault, AreNamesAt, fault_among}
+use Rattle.m51_asm.proofs.Common.{located_value}
+use Rattle.m51_asm.specs.ObjectNames.{object_names}
+use Rattle.m51_asm.specs.Publishing.{published_by, publics_among}
 use Rattle.m51_asm.proofs.FinalNames.{names_are}
 use Rattle.m51_asm.proofs.PublishedNames.{published_is}
-use Rattle.m51_asm.proofs.GivenLines.{next_given}
+use Rattle.m51_asm.proofs.GivenLines.{next_given, content_is, unfaulted}
 use Rattle.m51_asm.proofs.contents.give_line.Goals as goal
 
-pub returns : goal.returns
-returns c = λ lines a k ready is stands h.
+pub returns-clause-given : goal.returns-clause-given
+returns-clause-given c = λ lines a k ready is stands h.
     let t = c.args.text.now in
     let line = line_tree c.args.line.now in
-    let body = body_tree c.args.line.now.stmt.body in
     let n = c.names_of-names.result in
     let e = c.names_of-names.ensures in
     let names : AreNamesAt lines a k n =
@@ -37,5 +32,22 @@ returns c = λ lines a k ready is stands h.
     ((c.in_ok-unpublished.ensures.fault ∙ ap (fault_among of) c.publics_in.ensures) i))))
     c.in_ok-push.ensures.ok
     (c.row_at.ensures lines a k ready.fits stands)
-    c.in_ok-push-2.ensures.ok
     (ap (λ l. l.content) told)
+
+pub returns-clause-content : goal.returns-clause-content
+returns-clause-content c = λ lines a k ready is stands h.
+    let t = c.args.text.now in
+    let line = line_tree c.args.line.now in
+    let n = c.names_of-names.result in
+    let e = c.names_of-names.ensures in
+    let names : AreNamesAt lines a k n =
+    names_are lines a k t ready c.args.contents.now.set h.sets c.args.place.now stands n e.names e.kept e.set e.mod51
+    e.bank e.numbering
+    (ap located_value e.place ∙ c.here_of-here.ensures) in
+    content_is lines a k line is (object_names n) c.args.place.now.form names.meanings stands.form
+    c.in_ok-told.told.content (ap (λ l. l.content) c.in_ok-told.ensures)
+
+pub returns-clause-faults : goal.returns-clause-faults
+returns-clause-faults c = λ none.
+    (unfaulted (line_tree c.args.line.now) c.or_next.result c.args.contents.now.faults
+    (sym c.in_ok-push_fault.ensures ∙ none)).0

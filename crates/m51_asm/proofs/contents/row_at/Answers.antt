@@ -1,5 +1,4 @@
-use Rattle.std.proofs.Common.{ap, ◌∙◌}
-use Rattle.m51_text.specs.Answer.{line_tree}
+use Rattle.m51_asm.proofs.Common.{ap, ◌∙◌, line_tree}
 use Rattle.m51_emit.specs.Rows.{row_in}
 use Rattle.m51_asm.proofs.GivenLines.{row_is}
 use Rattle.m51_asm.proofs.contents.row_at.Goals as goal

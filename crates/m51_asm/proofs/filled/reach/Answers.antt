@@ -1,5 +1,4 @@
-use Rattle.std.proofs.Common.{ap, ◌∙◌}
-use Rattle.m51_asm.specs.Filled.{size_in}
+use Rattle.m51_asm.proofs.Common.{ap, ◌∙◌, size_in}
 use Rattle.m51_asm.proofs.FilledSizes.{one_more}
 use Rattle.m51_asm.proofs.filled.reach.Goals as goal
 

@@ -1,4 +1,4 @@
-use Rattle.std.proofs.Common.{◌-◌, suc, length}
+use Rattle.m51_asm.proofs.Common.{◌-◌, suc, length}
 use Rattle.m51_asm.specs.Filled.{SameSizes}
 use Rattle.m51_asm.proofs.filled.reach.Given as goal
 

@@ -1,5 +1,4 @@
-use Rattle.std.proofs.Common.{◌≡◌, ◌-◌, get_or, sym}
-use Rattle.m51_emit.specs.Gathering.{with_line}
+use Rattle.m51_asm.proofs.Common.{◌≡◌, ◌-◌, get_or, sym, with_line}
 use Rattle.m51_asm.proofs.GatheredLines.{added, not_there}
 use Rattle.m51_asm.proofs.gathering.add_line.Goals as goal
 

@@ -1,5 +1,4 @@
-use Rattle.std.proofs.Common.{◌≡◌}
-use Rattle.m51_asm.specs.Gathering.{nothing_gathered}
+use Rattle.m51_asm.proofs.Common.{◌≡◌, nothing_gathered}
 use Rattle.m51_asm.proofs.gathering.nothing_gathered.Given as goal
 
 -- the segments so far

@@ -1,4 +1,4 @@
-use Rattle.std.proofs.Common.{length}
+use Rattle.m51_asm.proofs.Common.{length}
 use Rattle.m51_asm.proofs.giving.+take_in.Given as goal
 
 abbrev pub decreases-take_in : goal.decreases-take_in

@@ -1,6 +1,4 @@
-use Rattle.std.proofs.Common.{◌≡◌, ◌++◌, drop, map}
-use Rattle.m51_text.specs.Answer.{line_tree}
-use Rattle.m51_asm.specs.Parts.{externals}
+use Rattle.m51_asm.proofs.Common.{◌≡◌, ◌++◌, drop, map, line_tree, externals}
 use Rattle.m51_asm.proofs.naming_lines.externals.Given as goal
 
 -- what is pushed, before what the lines that are left give, is the whole

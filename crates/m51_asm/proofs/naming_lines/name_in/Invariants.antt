@@ -1,6 +1,4 @@
-use Rattle.std.proofs.Common.{◌≡◌, drop, map}
-use Rattle.m51_text.specs.Answer.{line_tree}
-use Rattle.m51_asm.specs.Parts.{name_in}
+use Rattle.m51_asm.proofs.Common.{◌≡◌, drop, map, line_tree, name_in}
 use Rattle.m51_asm.proofs.naming_lines.name_in.Given as goal
 
 -- the lines so far give no name

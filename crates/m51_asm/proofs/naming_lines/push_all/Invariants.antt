@@ -1,5 +1,4 @@
-use Rattle.std.proofs.Common.{◌≡◌, ◌++◌, drop, map}
-use Rattle.m51_asm.specs.Parts.{external}
+use Rattle.m51_asm.proofs.Common.{◌≡◌, ◌++◌, drop, map, external}
 use Rattle.m51_asm.proofs.naming_lines.push_all.Given as goal
 
 -- what is pushed, before what is left, is the whole

@@ -1,9 +1,6 @@
-use Rattle.std.proofs.Common.{◌≡◌, ◌<◌, suc, ◌∷◌, [], ◌++◌, map, length, ap, sym, subst, ◌∙◌, add-one, arith}
-use Rattle.std.proofs.lemmas.List.{length-map}
-use Rattle.m51_text.specs.Answer.{line_tree}
-use Rattle.m51_asm.specs.Assignment.{opening, body_of, body_at}
-use Rattle.m51_asm.specs.ObjectSegments.{size_of}
-use Rattle.m51_asm.specs.Numbering.{segment_filled, segment_added, as_list, next_number, IsNumberedTo}
+use Rattle.m51_asm.proofs.Common.{◌≡◌, ◌<◌, suc, ◌∷◌, [], ◌++◌, map, length, ap, sym, subst, ◌∙◌, add-one, arith}
+use Rattle.m51_asm.proofs.Common.{length-map, line_tree, opening, body_of, body_at, size_of, IsNumberedTo}
+use Rattle.m51_asm.specs.Numbering.{segment_filled, segment_added, as_list, next_number}
 use Rattle.m51_asm.proofs.AnAssignment.{fitting, fits}
 use Rattle.m51_asm.proofs.GoodLines.{free_where}
 use Rattle.m51_asm.proofs.ReadLines.{line_at, place_at}

@@ -1,8 +1,4 @@
-use Rattle.std.proofs.Common.{map}
-use Rattle.m51_text.specs.Answer.{line_tree}
-use Rattle.m51_asm.specs.Assignment.{Assignment}
-use Rattle.m51_asm.specs.Fitting.{Fits}
-use Rattle.m51_asm.specs.Numbering.{IsNumberedTo}
+use Rattle.m51_asm.proofs.Common.{map, line_tree, Assignment, Fits, IsNumberedTo}
 use Rattle.m51_asm.proofs.numbering.number_segments.Given as goal
 
 -- the lines so far are numbered

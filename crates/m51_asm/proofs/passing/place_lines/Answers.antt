@@ -1,10 +1,7 @@
-use Rattle.std.proofs.Common.{◌≡◌, ◌<◌, map, length, ap, sym, subst, ◌∙◌, add-one, arith}
-use Rattle.std.proofs.lemmas.List.{length-map}
-use Rattle.m51_text.specs.Answer.{line_tree}
-use Rattle.m51_asm.specs.Assignment.{body_of}
+use Rattle.m51_asm.proofs.Common.{◌≡◌, ◌<◌, map, length, ap, sym, subst, ◌∙◌, add-one, arith, length-map, line_tree}
+use Rattle.m51_asm.proofs.Common.{body_of, ArePlaces, IsPassedTo}
 use Rattle.m51_asm.specs.FewNames.{HasFewNames}
 use Rattle.m51_asm.specs.Placing.{IsLineOutcome}
-use Rattle.m51_asm.specs.Passing.{ArePlaces, IsPassedTo}
 use Rattle.m51_asm.proofs.ReadLines.{line_at}
 use Rattle.m51_asm.proofs.PassedLines.{reached, no_places, passed_more}
 use Rattle.m51_asm.proofs.passing.place_lines.Goals as goal
@@ -12,10 +9,11 @@ use Rattle.m51_asm.proofs.passing.place_lines.Goals as goal
 pub loop-k-init : goal.loop-k-init
 loop-k-init c = λ a f.
     let lines = map line_tree c.args.text.now.lines.now in
+    let none = c.of-places.ensures ∙ c.in_ok-with_capacity.ensures.items in
     record {
       free = λ j b. absurd (omega (arith, b));
-      counted = ap length c.new-places.ensures;
-      each = subst (ArePlaces lines a) (sym c.new-places.ensures) (no_places lines a);
+      counted = ap length none;
+      each = subst (ArePlaces lines a) (sym none) (no_places lines a);
       at = c.start-placing.ensures lines a f;
     }
 

@@ -1,8 +1,4 @@
-use Rattle.std.proofs.Common.{map}
-use Rattle.m51_text.specs.Answer.{line_tree}
-use Rattle.m51_asm.specs.Assignment.{Assignment}
-use Rattle.m51_asm.specs.Fitting.{Fits}
-use Rattle.m51_asm.specs.Passing.{IsPassedTo}
+use Rattle.m51_asm.proofs.Common.{map, line_tree, Assignment, Fits, IsPassedTo}
 use Rattle.m51_asm.proofs.passing.place_lines.Given as goal
 
 -- the lines so far are passed

@@ -1,10 +1,5 @@
-use Rattle.std.proofs.Common.{◌≡◌, ◌∙◌, ap, map}
-use Rattle.m51_text.specs.Answer.{line_tree}
-use Rattle.m51_asm.specs.Located.{located_value}
-use Rattle.m51_asm.specs.Filled.{size_in}
-use Rattle.m51_asm.specs.Above.{kept_meanings}
-use Rattle.m51_asm.specs.OpenSegments.{text_segment}
-use Rattle.m51_asm.specs.Placing.{here_of}
+use Rattle.m51_asm.proofs.Common.{◌≡◌, ◌∙◌, ap, map, line_tree, located_value, size_in, kept_meanings, text_segment}
+use Rattle.m51_asm.proofs.Common.{here_of}
 use Rattle.m51_asm.proofs.ToldLines.{names_are, told_line}
 use Rattle.m51_asm.proofs.placing.told_of.Goals as goal
 
@@ -16,7 +11,7 @@ returns c = λ a f once at.
     let here : located_value c.here_of-here.result ≡ here_of (text_segment s.segment) (size_in s.filled s.segment.id) =
     c.here_of-here.ensures ∙ ap (here_of (text_segment s.segment)) c.of.ensures in
     told_line lines a f c.args.k s at (line_tree c.args.line.now) c.requires.line once table c.requires.names
-    (kept_meanings lines table s.values c.args.k c.args.text.now.mod51 s.bank c.here_of-here.result)
+    (kept_meanings lines table s.values c.args.text.now.mod51 s.bank c.here_of-here.result)
     (names_are lines a f c.args.k s at table c.requires.names c.args.text.now.mod51 c.requires.predefined
     c.here_of-here.result here)
     c.named_by-named.result c.named_by-named.ensures c.in_ok-told.told c.in_ok-told.ensures.here

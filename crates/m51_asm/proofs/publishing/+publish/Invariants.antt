@@ -1,4 +1,4 @@
-use Rattle.std.proofs.Common.{length}
+use Rattle.m51_asm.proofs.Common.{length}
 use Rattle.m51_asm.proofs.publishing.+publish.Given as goal
 
 abbrev pub decreases-publish : goal.decreases-publish

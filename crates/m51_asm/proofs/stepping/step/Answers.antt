@@ -1,11 +1,9 @@
-use Rattle.std.proofs.Common.{◌≡◌, ap, map, sym, ◌∙◌, None}
+use Rattle.m51_asm.proofs.Common.{◌≡◌, ap, map, sym, ◌∙◌, None, line_tree, body_of, body_at, externals_in, text_segment}
+use Rattle.m51_asm.proofs.Common.{AreLineFacts}
 use Rattle.m51_stmt.specs.Statement.{body_tree}
-use Rattle.m51_text.specs.Answer.{line_tree}
-use Rattle.m51_asm.specs.Assignment.{body_of, body_at}
-use Rattle.m51_asm.specs.Fitting.{filled, externals_in}
+use Rattle.m51_asm.specs.Fitting.{filled}
 use Rattle.m51_asm.specs.PlacedFaults.{placed_fault}
-use Rattle.m51_asm.specs.OpenSegments.{text_segment}
-use Rattle.m51_asm.specs.Placing.{IsTold, IsCounted}
+use Rattle.m51_asm.specs.Placing.{IsCounted}
 use Rattle.m51_asm.proofs.GoodLines.{free}
 use Rattle.m51_asm.proofs.PlacedLines.{counted, fault_told, small_counts, small_sum_is, bank_after}
 use Rattle.m51_asm.proofs.stepping.step.Goals as goal
@@ -19,27 +17,27 @@ returns-in-Some c = λ a f at.
     let n = c.count-counts.result in
     let body = body_tree c.args.line.now.stmt.body in
     let is : body ≡ body_at lines k = ap body_of (sym c.requires.line) in
-    let told : IsTold lines a k t = c.in_ok-told.ensures a f c.requires.once at in
+    let told : AreLineFacts lines a k t = c.in_ok-told.ensures a f c.requires.once at in
     let counts : IsCounted lines a k n =
     counted lines a k s t n body at told is c.count-counts.ensures.next c.count-counts.ensures.segments
     c.count-counts.ensures.externals in
-    sym (fault_told lines a k s t n body f at told counts is c.requires.once) ∙ sym c.fault_of-fault.ensures
+    sym (fault_told lines a k s t n body f at told counts is c.requires.once) ∙ sym c.evaluated_fault-fault.ensures
     ∙ c.in-Some.is
 
 pub take_in-requires-clause-next : goal.take_in-requires-clause-next
 take_in-requires-clause-next c =
     (small_counts (text_segment c.in_ok-told.told.next) c.count-counts.result _ _
-    (sym c.fault_of-fault.ensures ∙ c.in-None.is)).next
+    (sym c.evaluated_fault-fault.ensures ∙ c.in-None.is)).next
 
 pub take_in-requires-clause-segments : goal.take_in-requires-clause-segments
 take_in-requires-clause-segments c =
     (small_counts (text_segment c.in_ok-told.told.next) c.count-counts.result _ _
-    (sym c.fault_of-fault.ensures ∙ c.in-None.is)).segments
+    (sym c.evaluated_fault-fault.ensures ∙ c.in-None.is)).segments
 
 pub take_in-requires-clause-externals : goal.take_in-requires-clause-externals
 take_in-requires-clause-externals c =
     (small_counts (text_segment c.in_ok-told.told.next) c.count-counts.result _ _
-    (sym c.fault_of-fault.ensures ∙ c.in-None.is)).externals
+    (sym c.evaluated_fault-fault.ensures ∙ c.in-None.is)).externals
 
 pub take_in-requires-clause-declared : goal.take_in-requires-clause-declared
 take_in-requires-clause-declared c =
@@ -47,7 +45,7 @@ take_in-requires-clause-declared c =
     c.count-counts.result.externals
     c.count-counts.ensures.externals
     (small_counts (text_segment c.in_ok-told.told.next) c.count-counts.result _ _
-    (sym c.fault_of-fault.ensures ∙ c.in-None.is)).externals
+    (sym c.evaluated_fault-fault.ensures ∙ c.in-None.is)).externals
 
 pub returns-in_ok-take_in-in-None : goal.returns-in_ok-take_in-in-None
 returns-in_ok-take_in-in-None c = λ a f at.
@@ -58,12 +56,12 @@ returns-in_ok-take_in-in-None c = λ a f at.
     let n = c.count-counts.result in
     let body = body_tree c.args.line.now.stmt.body in
     let is : body ≡ body_at lines k = ap body_of (sym c.requires.line) in
-    let told : IsTold lines a k t = c.in_ok-told.ensures a f c.requires.once at in
+    let told : AreLineFacts lines a k t = c.in_ok-told.ensures a f c.requires.once at in
     let counts : IsCounted lines a k n =
     counted lines a k s t n body at told is c.count-counts.ensures.next c.count-counts.ensures.segments
     c.count-counts.ensures.externals in
     let none : placed_fault lines a k ≡ None =
-    sym (fault_told lines a k s t n body f at told counts is c.requires.once) ∙ sym c.fault_of-fault.ensures
+    sym (fault_told lines a k s t n body f at told counts is c.requires.once) ∙ sym c.evaluated_fault-fault.ensures
     ∙ c.in-None.is in
     let is_free = free lines a k none in (
       none,

@@ -1,8 +1,7 @@
-use Rattle.std.proofs.Common.{rules, ◌≡◌, ◌++◌, take, ℕ, List, ap, ◌∙◌}
-use Rattle.m51_expr.specs.Tree.{Tree, tree_of}
-use Rattle.m51_expr.specs.Meanings.{Meanings}
+use Rattle.m51_asm.proofs.Common.{rules, ◌≡◌, ◌++◌, take, ℕ, List, ap, ◌∙◌, Tree, Meanings, ids_in, base_ids, IsEnough}
+use Rattle.m51_expr.specs.Tree.{tree_of}
 use Rattle.m51_encode.specs.JumpForm.{jump_form_of}
-use Rattle.m51_asm.specs.Located.{ids_in, base_ids, local, IsEnough}
+use Rattle.m51_asm.specs.Located.{local}
 use Rattle.m51_asm.proofs.FewNames.{table_few}
 use Rattle.m51_asm.proofs.LocatedValues.{front_enough}
 use Rattle.m51_asm.proofs.tables.form_to.Goals as goal

@@ -1,5 +1,4 @@
-use Rattle.std.proofs.Common.{subst}
-use Rattle.m51_text.specs.Answer.{line_tree}
+use Rattle.m51_asm.proofs.Common.{subst, line_tree}
 use Rattle.m51_asm.specs.ValuesAt.{PutsIf}
 use Rattle.m51_asm.proofs.TextValues.{set_next}
 use Rattle.m51_asm.proofs.values_at.take_set.Goals as goal

@@ -10,5 +10,6 @@ returns-then-count-text-clause-lines c =
 
 pub returns-clause-lines : goal.returns-clause-lines
 returns-clause-lines c =
-    cut_line c.args.text.now c.without_return.result.now c.count_before_feed-count.result c.count_before_feed-count.ensures.count
+    cut_line c.args.text.now c.without_return.result.now c.count_before_feed-count.result
+    c.count_before_feed-count.ensures.count
     (omega (arith, c.count_before_feed-count.ensures.within)) c.without_return.ensures

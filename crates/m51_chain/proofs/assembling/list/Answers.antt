@@ -1,4 +1,4 @@
-use Rattle.std.proofs.Common.{◌∙◌}
+use Rattle.m51_chain.proofs.Common.{◌∙◌}
 use Rattle.m51_chain.proofs.Built.{listed}
 use Rattle.m51_chain.proofs.assembling.list.Goals as goal
 

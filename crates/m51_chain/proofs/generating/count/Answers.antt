@@ -1,8 +1,6 @@
-use Rattle.std.proofs.Common.{[]}
-use Rattle.m51_asm.specs.Answer.{Gives, IsAnswer}
+use Rattle.m51_chain.proofs.Common.{[], Gives, IsAnswer, IsCounted, IsProgramOutcome, sole_program}
 use Rattle.m51_generator.specs.Lines.{generated}
-use Rattle.m51_chain.specs.Generates.{IsCounted, IsGenOutcome}
-use Rattle.m51_chain.specs.Linking.{IsProgramOutcome, alone}
+use Rattle.m51_chain.specs.Generates.{IsGenOutcome}
 use Rattle.m51_verbs.proofs.Ends.{comes_weaker}
 use Rattle.m51_chain.proofs.generating.count.Goals as goal
 
@@ -11,7 +9,7 @@ returns c =
     let job = c.args.job.now in
     let answered : IsAnswer (generated job.units job.start) [] (Gives c.in-Module.parts c.in-Module.field-1) =
     rw (c.in_ok-source.ensures, c.in-Module.is) at c.in_ok-faults.ensures in
-    comes_weaker (IsGenOutcome job) (IsProgramOutcome (alone c.in-Module.parts) (IsCounted job.steps))
+    comes_weaker (IsGenOutcome job) (IsProgramOutcome (sole_program c.in-Module.parts) (IsCounted job.steps))
     c.count_program.result
     (λ o it. record { answer = Gives c.in-Module.parts c.in-Module.field-1; answered = answered; is = it })
     c.count_program.ensures

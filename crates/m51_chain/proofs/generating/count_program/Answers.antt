@@ -1,17 +1,14 @@
-use Rattle.std.proofs.Common.{Ok, Err}
-use Rattle.std.proofs.lemmas.Option.{IfSome_then}
-use Rattle.m51_chain.specs.Generates.{IsCounted}
-use Rattle.m51_chain.specs.Linking.{Follows, IsLinkedOr, alone}
+use Rattle.m51_chain.proofs.Common.{Ok, Err, IfSome_then, IsCounted, Follows, IsLinkedOr, sole_program}
 use Rattle.m51_chain.proofs.Following.{came, unlinked}
 use Rattle.m51_chain.proofs.generating.count_program.Goals as goal
 
 pub returns : goal.returns
 returns c =
-    let is : IsLinkedOr (alone c.args.parts) (Ok c.in_ok-linked.linked) = c.in_ok-linked.ensures.answer in
+    let is : IsLinkedOr (sole_program c.args.parts) (Ok c.in_ok-linked.linked) = c.in_ok-linked.ensures.answer in
     Follows is.0 _ is.1 is.2 c.in_ok-summary.ensures
 
 pub returns-in_err-linked : goal.returns-in_err-linked
 returns-in_err-linked c =
-    let is : IsLinkedOr (alone c.args.parts) (Err c.in_err-linked.field-0.0) = c.in_err-linked.ensures.answer in
+    let is : IsLinkedOr (sole_program c.args.parts) (Err c.in_err-linked.field-0.0) = c.in_err-linked.ensures.answer in
     rw (came c.from_residual.result _ c.from_residual.ensures.1)
     (IfSome_then _ is (unlinked _ (IsCounted c.args.steps)))

@@ -1,8 +1,5 @@
-use Rattle.std.proofs.Common.{◌≡◌, ◌++◌, List, Ok, length}
+use Rattle.m51_chain.proofs.Common.{◌≡◌, ◌++◌, List, Ok, length, ModuleParts, Script, script_in}
 use Rattle.std.specs.Option.{option_copied}
-use Rattle.m51_module.specs.declared.parts.ModuleParts.{ModuleParts}
-use Rattle.m51_script.specs.declared.script.Script.{Script}
-use Rattle.m51_verbs.specs.FlatRuns.{script_in}
 use Rattle.m51_chain.specs.Parties.{AreBoardsFor}
 use Rattle.m51_chain.proofs.joining.boards_alone.Given as goal
 

@@ -1,9 +1,7 @@
-use Rattle.std.proofs.Common.{◌≡◌, Ok, length}
+use Rattle.m51_chain.proofs.Common.{◌≡◌, Ok, length, IsPartyWork, party_files, script_in}
 use Rattle.std.specs.Option.{option_copied}
 use Rattle.std.proofs.lemmas.List.{take_rest}
 use Rattle.m51_inputs.specs.Inputs.{inputs_tree}
-use Rattle.m51_chain.specs.Parties.{IsPartyWork, party_files}
-use Rattle.m51_verbs.specs.FlatRuns.{script_in}
 use Rattle.m51_chain.proofs.Accepted.{is_accepted, party_given}
 use Rattle.m51_chain.proofs.Following.{came, file_refused}
 use Rattle.m51_chain.proofs.Joined.{joined}

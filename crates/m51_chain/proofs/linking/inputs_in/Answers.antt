@@ -1,13 +1,13 @@
-use Rattle.std.proofs.Common.{◌+◌, length, Err, refl}
+use Rattle.m51_chain.proofs.Common.{◌+◌, length, Err, refl, AreAnswered, IsFilesOutcome, Nothing, ProgramFiles, Refused}
 use Rattle.std.specs.Prelude.{option_to_list}
 use Rattle.std.proofs.lemmas.List.{take_rest}
-use Rattle.m51_chain.specs.ProgramFiles.{AreAnswered, IsFilesOutcome, Nothing, ProgramFiles, Refused, named}
+use Rattle.m51_chain.specs.ProgramFiles.{program_files}
 use Rattle.m51_chain.proofs.InputsGiven.{error_told}
 use Rattle.m51_chain.proofs.linking.inputs_in.Goals as goal
 
 pub returns-in_ok-refuse_inputs-in-Err : goal.returns-in_ok-refuse_inputs-in-Err
 returns-in_ok-refuse_inputs-in-Err c =
-    let files : ProgramFiles = named c.args.files.now c.args.control.now c.args.script.now in
+    let files : ProgramFiles = program_files c.args.files.now c.args.control.now c.args.script.now in
     let given : AreAnswered files c.args.contents.now (Err c.in-Err.error) =
     rw (
       c.content_if-control_content.ensures,

@@ -1,4 +1,4 @@
-use Rattle.std.proofs.Common.{inl, inr}
+use Rattle.m51_chain.proofs.Common.{inl, inr}
 use Rattle.std.proofs.lemmas.Result.{IfOk-weaker}
 use Rattle.m51_chain.specs.Due.{Asked}
 use Rattle.m51_chain.proofs.FitJobs.{asked_fit}

@@ -11,7 +11,8 @@ loop-line-preserved c =
     let all = lines c.args.bytes.now in
     let control = c.in-Some-2.control in
     let here : Goes c.loop-line.controls.items c.loop-line.number (line ∷ more) all =
-    subst (λ l. Goes c.loop-line.controls.items c.loop-line.number l all) c.in-Some.ensures.lines c.loop-line.invariant in
+    subst (λ l. Goes c.loop-line.controls.items c.loop-line.number l all)
+    c.in-Some.ensures.lines c.loop-line.invariant in
     subst (λ l. Goes l (c.loop-line.number + 1) more all) (sym c.in_ok-push-in-Some-2.ensures.items)
     (line_step c.loop-line.controls.items c.loop-line.number line more all control here
     (sym c.is_skipped.ensures ∙ c.if-is_skipped.false)

@@ -1,4 +1,4 @@
-use Rattle.std.proofs.Common.{◌≡◌, ◌∙◌, subst, length, rules}
+use Rattle.m51_flat.proofs.Common.{◌≡◌, ◌∙◌, subst, length, rules}
 use Rattle.m51_flat.specs.Causes.{IsCause}
 use Rattle.m51_flat.specs.Outcome.{outcome_by}
 use Rattle.m51_flat.proofs.Outcomes.{keeps_control, keeps_levels, keeps_parity, over_map}

@@ -1,5 +1,4 @@
-use Rattle.std.proofs.Common.{sym, subst, false}
-use Rattle.m51_flat.specs.Laws.{HasParity}
+use Rattle.m51_flat.proofs.Common.{sym, subst, false, HasParity}
 use Rattle.m51_flat.proofs.Outcomes.{reset_parity}
 use Rattle.m51_flat.proofs.executing.reset.Goals as goal
 

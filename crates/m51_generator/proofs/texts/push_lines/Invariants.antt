@@ -1,6 +1,7 @@
 use Rattle.std.proofs.Common.{◌≡◌, ◌++◌, drop}
-use Rattle.m51_generator.specs.Lines.{lent, text_of}
+use Rattle.m51_generator.specs.Lines.{lent, lines_as_text}
 use Rattle.m51_generator.proofs.texts.push_lines.Given as goal
 
 abbrev pub invariant-loop-line : goal.invariant-loop-line
-invariant-loop-line l = l.text.items ++ text_of (lent (drop l.line-index l.lines)) ≡ l.fn.text.items ++ text_of (lent l.lines)
+invariant-loop-line l = l.text.items ++ lines_as_text (lent (drop l.line-index l.lines))
+    ≡ l.fn.text.items ++ lines_as_text (lent l.lines)

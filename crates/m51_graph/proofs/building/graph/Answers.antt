@@ -1,11 +1,6 @@
-use Rattle.std.proofs.Common.{◌≡◌, ◌≤◌, ℕ, List, length, sym, ap, subst, ◌∙◌, arith}
-use Rattle.m51_module.specs.Walks.{Edges}
-use Rattle.m51_resolve.specs.declared.segment.JoinedSegment.{JoinedSegment}
-use Rattle.m51_resolve.specs.Joining.{segments_of}
-use Rattle.m51_graph.specs.Drawing.{fixup_edges}
+use Rattle.m51_graph.proofs.Common.{◌≡◌, ◌≤◌, ℕ, List, length, sym, ap, subst, ◌∙◌, arith, Edges, JoinedSegment}
+use Rattle.m51_graph.proofs.Common.{segments_of, fixup_edges, LeadWithin, code_segments, units_of, unit_titles}
 use Rattle.m51_graph.specs.DrawnEdges.{DrawnEdges}
-use Rattle.m51_graph.specs.Graph.{LeadWithin}
-use Rattle.m51_graph.specs.Units.{code_segments, units_of, unit_titles}
 use Rattle.m51_graph.proofs.Within.{count_units, fixups_within, titles_are}
 use Rattle.m51_graph.proofs.building.graph.Goals as goal
 
@@ -13,7 +8,13 @@ pub of-requires-2-clause-few : goal.of-requires-2-clause-few
 of-requires-2-clause-few c =
     let segments : List JoinedSegment = segments_of c.args.joined.now in
     let few : length (code_segments segments) ≤ 1000 = c.segments-segments.ensures.resolved.few_units in
-    omega (arith, few, count_units 0 segments, ap (λ (js : List JoinedSegment). length (units_of js)) c.segments-segments.ensures.list)
+    omega (
+      arith,
+      few,
+      count_units 0 segments,
+      ap
+          (λ (js : List JoinedSegment). length (units_of js)) c.segments-segments.ensures.list,
+    )
 
 pub graph_over-requires-clause-count : goal.graph_over-requires-clause-count
 graph_over-requires-clause-count c =
@@ -25,7 +26,10 @@ graph_over-requires-clause-count c =
 pub graph_over-requires-clause-made : goal.graph_over-requires-clause-made
 graph_over-requires-clause-made c =
     let segments : List JoinedSegment = segments_of c.args.joined.now in
-    let titles : c.in_ok-titles.titles ≡ unit_titles segments = c.in_ok-titles.ensures ∙ ap unit_titles c.segments-segments.ensures.list in
-    let made : c.in_ok-made.made.list ≡ fixup_edges c.args.joined.now = ap (λ (m : DrawnEdges). m.list) c.in_ok-made.ensures in
+    let titles : c.in_ok-titles.titles ≡ unit_titles segments = c.in_ok-titles.ensures
+    ∙ ap unit_titles c.segments-segments.ensures.list in
+    let made : c.in_ok-made.made.list ≡ fixup_edges c.args.joined.now =
+    ap (λ (m : DrawnEdges). m.list) c.in_ok-made.ensures in
     subst (λ (names : List (List ℕ)). LeadWithin (length names) c.in_ok-made.made.list) (sym titles)
-    (subst (λ (edges : Edges). LeadWithin (length (unit_titles segments)) edges) (sym made) (fixups_within c.args.joined.now))
+    (subst (λ (edges : Edges). LeadWithin (length (unit_titles segments)) edges) (sym made)
+    (fixups_within c.args.joined.now))

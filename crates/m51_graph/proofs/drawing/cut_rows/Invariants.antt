@@ -1,6 +1,4 @@
-use Rattle.std.proofs.Common.{◌≡◌, ℕ, length, take}
-use Rattle.m51_graph.specs.Drawing.{is_cut}
-use Rattle.m51_relations.specs.Rows.{pairs}
+use Rattle.m51_graph.proofs.Common.{◌≡◌, ℕ, length, take, is_cut, pairs}
 use Rattle.m51_graph.proofs.drawing.cut_rows.Given as goal
 
 abbrev pub invariant-loop-line : goal.invariant-loop-line

@@ -8,5 +8,6 @@ fixup_edge-requires-clause-field c =
 
 pub fixup_edge-requires-clause-target : goal.fixup_edge-requires-clause-target
 fixup_edge-requires-clause-target c =
-    fixup_target_there c.args.joined.now c.args.module c.args.parts.now c.requires.there c.fixups-fixup-items.ensures.valid
+    fixup_target_there c.args.joined.now c.args.module c.args.parts.now c.requires.there
+    c.fixups-fixup-items.ensures.valid
     c.fixups-fixup-items.result.now c.fixups-fixup-items.ensures.list c.loop-fixup.fixup-index _ c.loop-fixup-test.true

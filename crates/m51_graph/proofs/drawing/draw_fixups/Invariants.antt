@@ -1,6 +1,4 @@
-use Rattle.std.proofs.Common.{◌≡◌, drop}
-use Rattle.std.specs.List.{filter_map}
-use Rattle.m51_graph.specs.Drawing.{fixup_edge, with_edges}
+use Rattle.m51_graph.proofs.Common.{◌≡◌, drop, filter_map, fixup_edge, with_edges}
 use Rattle.m51_graph.proofs.drawing.draw_fixups.Given as goal
 
 abbrev pub invariant-loop-fixup : goal.invariant-loop-fixup

@@ -1,6 +1,4 @@
-use Rattle.std.proofs.Common.{◌≡◌, drop}
-use Rattle.std.specs.List.{filter_map}
-use Rattle.m51_graph.specs.Drawing.{edge_named, with_edges}
+use Rattle.m51_graph.proofs.Common.{◌≡◌, drop, filter_map, edge_named, with_edges}
 use Rattle.m51_graph.proofs.drawing.draw_named.Given as goal
 
 abbrev pub invariant-loop-name : goal.invariant-loop-name

@@ -1,6 +1,5 @@
-use Rattle.std.proofs.Common.{◌≡◌, [], flat_map, length}
-use Rattle.std.specs.List.{range_with_len}
-use Rattle.m51_graph.specs.Drawing.{module_edges, with_edges}
+use Rattle.m51_graph.proofs.Common.{◌≡◌, [], length, range_with_len, module_edges, with_edges}
+use Rattle.std.proofs.Common.{flat_map}
 use Rattle.m51_graph.proofs.drawing.fixup_edges.Given as goal
 
 abbrev pub invariant-loop-module : goal.invariant-loop-module

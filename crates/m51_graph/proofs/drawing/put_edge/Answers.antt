@@ -1,6 +1,4 @@
-use Rattle.std.proofs.Common.{ℕ, Bool, Option, ◌||◌, sym, ap, ◌∙◌}
-use Rattle.m51_graph.specs.Drawing.{is_edge}
-use Rattle.m51_relations.specs.Rows.{pairs}
+use Rattle.m51_graph.proofs.Common.{ℕ, Bool, Option, ◌||◌, sym, ap, ◌∙◌, is_edge, pairs}
 use Rattle.m51_graph.proofs.drawing.put_edge.Goals as goal
 
 pub returns-in-Some-clause-pairs : goal.returns-in-Some-clause-pairs

@@ -1,8 +1,6 @@
-use Rattle.std.proofs.Common.{◌||◌, ℕ, List, Option, length, sym, ap, subst, ◌∙◌}
+use Rattle.m51_graph.proofs.Common.{◌||◌, ℕ, List, Option, length, sym, ap, subst, ◌∙◌, edge_named, is_edge, pairs}
 use Rattle.std.specs.Prelude.{IfSome}
-use Rattle.m51_graph.specs.Conditions.{IsWithin}
-use Rattle.m51_graph.specs.Drawing.{edge_named, is_edge}
-use Rattle.m51_relations.specs.Rows.{pairs}
+use Rattle.m51_graph.specs.Conditions.{IsEdgeWithin}
 use Rattle.m51_graph.proofs.Cutting.{names_more, named_there}
 use Rattle.m51_graph.proofs.drawing.put_named.Goals as goal
 
@@ -10,8 +8,10 @@ pub put_edge-requires : goal.put_edge-requires
 put_edge-requires c =
     let titles : List (List ℕ) = c.args.titles.now in
     let name : List ℕ = c.name-item.result in
-    subst (λ (found : Option (ℕ × ℕ)). IfSome found (λ edge. IsWithin c.loop-name.set.count edge)) (sym c.edge_named.ensures)
-    (subst (λ n. IfSome (edge_named titles c.args.from.now name) (λ edge. IsWithin n edge)) (sym (c.loop-name.invariant.count ∙ c.requires)) (named_there titles c.args.from.now name))
+    subst (λ (found : Option (ℕ × ℕ)). IfSome found (λ edge. IsEdgeWithin c.loop-name.set.count edge))
+    (sym c.edge_named.ensures)
+    (subst (λ n. IfSome (edge_named titles c.args.from.now name) (λ edge. IsEdgeWithin n edge))
+    (sym (c.loop-name.invariant.count ∙ c.requires)) (named_there titles c.args.from.now name))
 
 pub loop-name-preserved : goal.loop-name-preserved
 loop-name-preserved c =
@@ -21,9 +21,11 @@ loop-name-preserved c =
     record {
       count = c.put_edge.ensures.count ∙ c.loop-name.invariant.count;
       pairs = λ u v.
-          names_more (λ (n : List ℕ). is_edge (u, v) (edge_named titles from n)) c.args.names.now c.loop-name.name-index name
+          names_more
+          (λ (n : List ℕ). is_edge (u, v) (edge_named titles from n)) c.args.names.now c.loop-name.name-index name
           (pairs c.args.set.now u v) (pairs c.loop-name.set u v) (pairs c.put_edge.new.set u v) c.loop-name-test.true
           (c.put_edge.ensures.pairs u v
-          ∙ ap (λ (found : Option (ℕ × ℕ)). is_edge (u, v) found || pairs c.loop-name.set u v) (c.edge_named.ensures ∙ ap (λ (n : List ℕ). edge_named titles from n) c.name-item.is))
+          ∙ ap (λ (found : Option (ℕ × ℕ)). is_edge (u, v) found || pairs c.loop-name.set u v)
+          (c.edge_named.ensures ∙ ap (λ (n : List ℕ). edge_named titles from n) c.name-item.is))
           (c.loop-name.invariant.pairs u v);
     }

@@ -1,7 +1,6 @@
-use Rattle.std.proofs.Common.{◌≡◌, ◌++◌, drop}
-use Rattle.m51_relations.specs.Rows.{pairs}
-use Rattle.m51_graph.specs.Graphs.{cyclic_from}
+use Rattle.m51_graph.proofs.Common.{◌≡◌, ◌++◌, drop, pairs, cyclic_from}
 use Rattle.m51_graph.proofs.judging.cyclic_titles.Given as goal
 
 abbrev pub invariant-loop-unit : goal.invariant-loop-unit
-invariant-loop-unit l = l.cyclic.items ++ cyclic_from (pairs l.reach) l.unit (drop l.unit l.titles) ≡ cyclic_from (pairs l.reach) 0 l.titles
+invariant-loop-unit l = l.cyclic.items ++ cyclic_from (pairs l.reach) l.unit (drop l.unit l.titles)
+    ≡ cyclic_from (pairs l.reach) 0 l.titles

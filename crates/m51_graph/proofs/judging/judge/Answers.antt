@@ -1,9 +1,6 @@
-use Rattle.std.proofs.Common.{◌≡◌, ℕ, Bool, sym, ap, subst, ◌∙◌}
+use Rattle.m51_graph.proofs.Common.{◌≡◌, ℕ, Bool, sym, ap, subst, ◌∙◌, Edges, pairs, LeadWithin}
 use Rattle.m51_cells.specs.Outcome.{Gives}
-use Rattle.m51_module.specs.Walks.{Edges}
 use Rattle.m51_resolve.specs.Rules.{but_memory}
-use Rattle.m51_relations.specs.Rows.{pairs}
-use Rattle.m51_graph.specs.Graph.{LeadWithin}
 use Rattle.m51_graph.specs.Graphs.{judged_by}
 use Rattle.m51_graph.specs.Leading.{leads}
 use Rattle.m51_graph.proofs.judging.judge.Goals as goal
@@ -18,5 +15,7 @@ judge_by-requires-clause-reach c = c.in_ok-reach.ensures.pairs ∙ ap (λ (edges
 
 pub returns : goal.returns
 returns c =
-    let reach : pairs c.in_ok-reach.reach ≡ leads c.args.parts.edges = c.in_ok-reach.ensures.pairs ∙ ap (λ (edges : Edges). leads edges) c.as_slice.ensures in
-    subst (λ (p : ℕ → ℕ → Bool). Gives (λ g. g) but_memory c.judge_by.result (judged_by p c.args.titles.now c.args.parts)) reach c.judge_by.ensures
+    let reach : pairs c.in_ok-reach.reach ≡ leads c.args.parts.edges = c.in_ok-reach.ensures.pairs
+    ∙ ap (λ (edges : Edges). leads edges) c.as_slice.ensures in
+    subst (λ (p : ℕ → ℕ → Bool). Gives (λ g. g) but_memory c.judge_by.result
+    (judged_by p c.args.titles.now c.args.parts)) reach c.judge_by.ensures

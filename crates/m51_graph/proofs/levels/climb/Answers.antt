@@ -1,7 +1,6 @@
-use Rattle.std.proofs.Common.{◌≡◌, ◌<◌, ◌≤◌, ◌*◌, ℕ, length, refl, sum, sym, subst, ◌∙◌, arith}
+use Rattle.m51_graph.proofs.Common.{◌≡◌, ◌<◌, ◌≤◌, ◌*◌, ℕ, length, refl, sum, sym, subst, ◌∙◌, arith, AreWalked}
+use Rattle.m51_graph.proofs.Common.{LeadWithin}
 use Rattle.std.proofs.lemmas.Nat.{mul-le}
-use Rattle.m51_graph.specs.Climbing.{AreWalked}
-use Rattle.m51_graph.specs.Graph.{LeadWithin}
 use Rattle.m51_graph.proofs.Climbing.{walked_first, levels_most}
 use Rattle.m51_graph.proofs.levels.climb.Goals as goal
 
@@ -12,8 +11,10 @@ pub climb-smaller : goal.climb-smaller
 climb-smaller c =
     let levels = c.raise.new.levels in
     let len : length levels ≡ length c.args.levels.now = omega (arith, c.raise.ensures.len, c.climb.invariant.len) in
-    let within : LeadWithin (length levels) c.args.edges.now = subst (λ n. LeadWithin n c.args.edges.now) (sym len) c.requires.within in
-    let most : sum levels ≤ length levels * length levels = levels_most c.args.edges.now levels within c.requires.no_cycle c.raise.ensures.walked in
+    let within : LeadWithin (length levels) c.args.edges.now =
+    subst (λ n. LeadWithin n c.args.edges.now) (sym len) c.requires.within in
+    let most : sum levels ≤ length levels * length levels =
+    levels_most c.args.edges.now levels within c.requires.no_cycle c.raise.ensures.walked in
     let few : length levels ≤ 1000 = omega (arith, len, c.requires.units) in
     let bound : sum levels ≤ 1000000 = omega (arith, most, mul-le (length levels) (length levels) 1000 1000 few few) in
     omega (arith, bound, c.raise.ensures.more c.climb-test.true)

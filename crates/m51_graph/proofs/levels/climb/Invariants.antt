@@ -1,5 +1,4 @@
-use Rattle.std.proofs.Common.{◌≡◌, ◌-◌, length, sum}
-use Rattle.m51_graph.specs.Climbing.{AreWalked}
+use Rattle.m51_graph.proofs.Common.{◌≡◌, ◌-◌, length, sum, AreWalked}
 use Rattle.m51_graph.proofs.levels.climb.Given as goal
 
 abbrev pub invariant-climb : goal.invariant-climb

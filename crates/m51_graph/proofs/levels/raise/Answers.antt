@@ -1,7 +1,5 @@
-use Rattle.std.proofs.Common.{◌≡◌, ◌<◌, ℕ, ◌+◌, Bool, ◌||◌, length, take, get_or, sym, ap, subst, ◌∙◌, arith}
-use Rattle.m51_module.specs.Walks.{Edges}
-use Rattle.m51_graph.specs.Climbing.{IsClimbing}
-use Rattle.m51_graph.specs.Graph.{LeadWithin}
+use Rattle.m51_graph.proofs.Common.{◌≡◌, ◌<◌, ℕ, ◌+◌, Bool, ◌||◌, length, take, get_or, sym, ap, subst, ◌∙◌, arith}
+use Rattle.m51_graph.proofs.Common.{Edges, IsClimbing, LeadWithin}
 use Rattle.m51_graph.proofs.Climbing.{climbs_none, climbs_more, level_most, ends_within, Ends}
 use Rattle.m51_graph.proofs.levels.raise.Goals as goal
 use Rattle.m51_graph.proofs.levels.raise.Goals.{then-lift, else-lift}
@@ -14,12 +12,19 @@ lift-requires c =
     let edges : Edges = c.args.edges.now in
     let levels = c.loop-from.levels in
     let i : ℕ = c.loop-from.from-index in
-    let within : LeadWithin (length levels) edges = subst (λ n. LeadWithin n edges) (sym c.loop-from.auto.levels) c.requires.within in
-    let ends : Ends (length levels) (get_or edges i (0, 0)) = ends_within (length levels) i (0, 0) edges within c.loop-from-test.true in
+    let within : LeadWithin (length levels) edges =
+    subst (λ n. LeadWithin n edges) (sym c.loop-from.auto.levels) c.requires.within in
+    let ends : Ends (length levels) (get_or edges i (0, 0)) =
+    ends_within (length levels) i (0, 0) edges within c.loop-from-test.true in
     record {
       lower = ends.from;
       upper = ends.to;
-      room = omega (arith, level_most edges levels within c.requires.no_cycle c.loop-from.invariant.walked (get_or edges i (0, 0)).0 ends.from, c.requires.units);
+      room = omega (
+        arith,
+        level_most edges levels within c.requires.no_cycle c.loop-from.invariant.walked
+            (get_or edges i (0, 0)).0 ends.from,
+        c.requires.units,
+      );
     }
 
 pub loop-from-preserved : goal.loop-from-preserved
@@ -27,11 +32,15 @@ loop-from-preserved c =
     let edges : Edges = c.args.edges.now in
     let levels = c.loop-from.levels in
     let i : ℕ = c.loop-from.from-index in
-    let within : LeadWithin (length levels) edges = subst (λ n. LeadWithin n edges) (sym c.loop-from.auto.levels) c.requires.within in
+    let within : LeadWithin (length levels) edges =
+    subst (λ n. LeadWithin n edges) (sym c.loop-from.auto.levels) c.requires.within in
     let before : Bool = c.loop-from.rose in
-    let rose : (c.lift.result || before) ≡ c.if-lift.rose = elim c.if-lift.branch as (λ _. (c.lift.result || before) ≡ c.if-lift.rose) [
+    let rose : (c.lift.result || before) ≡ c.if-lift.rose =
+    elim c.if-lift.branch as (λ _. (c.lift.result || before) ≡ c.if-lift.rose) [
       | then-lift w ↦ ap (λ b. b || before) w.if-lift.true ∙ sym w.rose-is
       | else-lift w ↦ ap (λ b. b || before) w.if-lift.false ∙ sym w.rose-is
     ] in
     subst (λ b. IsClimbing edges (take (i + 1) edges) c.args.levels.now c.lift.new.levels b) rose
-    (climbs_more edges i (0, 0) c.args.levels.now levels c.lift.new.levels before c.lift.result within c.loop-from-test.true c.lift.ensures c.loop-from.invariant)
+    (climbs_more edges i
+    (0, 0) c.args.levels.now levels c.lift.new.levels before c.lift.result within c.loop-from-test.true c.lift.ensures
+    c.loop-from.invariant)

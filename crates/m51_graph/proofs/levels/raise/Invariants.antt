@@ -1,5 +1,4 @@
-use Rattle.std.proofs.Common.{take}
-use Rattle.m51_graph.specs.Climbing.{IsClimbing}
+use Rattle.m51_graph.proofs.Common.{take, IsClimbing}
 use Rattle.m51_graph.proofs.levels.raise.Given as goal
 
 abbrev pub invariant-loop-from : goal.invariant-loop-from

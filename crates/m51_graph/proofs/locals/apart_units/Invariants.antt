@@ -1,6 +1,4 @@
-use Rattle.std.proofs.Common.{◌≡◌, ◌≤◌, ◌*◌, ℕ, length, take}
-use Rattle.m51_relations.specs.Bits.{bit}
-use Rattle.m51_graph.specs.Locals.{is_apart}
+use Rattle.m51_graph.proofs.Common.{◌≡◌, ◌≤◌, ◌*◌, ℕ, length, take, bit, is_apart}
 use Rattle.m51_graph.proofs.locals.apart_units.Given as goal
 
 abbrev pub invariant-loop-line : goal.invariant-loop-line

@@ -1,5 +1,4 @@
-use Rattle.std.proofs.Common.{◌||◌, ℕ, List, Option, false, sym, ap, ◌∙◌}
-use Rattle.std.specs.Option.{option_map_or}
+use Rattle.m51_graph.proofs.Common.{◌||◌, ℕ, List, Option, false, sym, ap, ◌∙◌, option_map_or}
 use Rattle.m51_graph.specs.Ordering.{class_number, order_has, same_key}
 use Rattle.m51_graph.proofs.OrderKeys.{or_cond}
 use Rattle.m51_graph.proofs.ordering.add_key.Goals as goal
@@ -9,4 +8,5 @@ returns-in_ok-insert c = λ class name.
     let has = order_has c.args.names.now.keys class name in
     c.in_ok-insert.ensures.updates.0 (class_number class, name)
     ∙ or_cond (same_key c.in-Some.key (class_number class, name)) has
-    ∙ ap (λ (found : Option (ℕ × List ℕ)). option_map_or (λ key. same_key key (class_number class, name)) found false || has) (sym c.in-Some.is)
+    ∙ ap (λ (found : Option (ℕ × List ℕ)). option_map_or
+    (λ key. same_key key (class_number class, name)) found false || has) (sym c.in-Some.is)

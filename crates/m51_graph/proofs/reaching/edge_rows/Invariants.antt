@@ -1,6 +1,4 @@
-use Rattle.std.proofs.Common.{◌≡◌, take}
-use Rattle.m51_relations.specs.Rows.{pairs}
-use Rattle.m51_graph.specs.Drawing.{edge_test}
+use Rattle.m51_graph.proofs.Common.{◌≡◌, take, pairs, edge_test}
 use Rattle.m51_graph.proofs.reaching.edge_rows.Given as goal
 
 abbrev pub invariant-loop-from : goal.invariant-loop-from

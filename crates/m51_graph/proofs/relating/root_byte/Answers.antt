@@ -1,8 +1,4 @@
-use Rattle.std.proofs.Common.{ℕ, ◌+◌, ◌*◌, Bool, sym, subst, ◌∙◌}
-use Rattle.m51_module.specs.Roots.{vectors}
-use Rattle.m51_relations.specs.Rows.{pairs}
-use Rattle.m51_graph.specs.Graphs.{lies_under}
-use Rattle.m51_graph.specs.Relating.{AddsBits}
+use Rattle.m51_graph.proofs.Common.{ℕ, ◌+◌, ◌*◌, Bool, sym, subst, ◌∙◌, vectors, pairs, lies_under, AddsBits}
 use Rattle.m51_graph.proofs.Bytes.{adds_set, adds_clear}
 use Rattle.m51_graph.proofs.relating.root_byte.Goals as goal
 use Rattle.m51_graph.proofs.relating.root_byte.Goals.{then-lies_under, else-lies_under}
@@ -13,7 +9,9 @@ loop-vector-preserved c =
     let l = c.loop-vector in
     elim c.if-lies_under.branch [
       | then-lies_under w ↦ subst (λ n. AddsBits test vectors (l.vector-index + 1) n (l.weight * 2)) (sym w.bits-is)
-          (adds_set test vectors l.vector-index l.bits l.weight 0 c.loop-vector-test.true l.invariant (sym c.lies_under.ensures ∙ w.if-lies_under.true))
+          (adds_set test vectors l.vector-index l.bits l.weight 0 c.loop-vector-test.true l.invariant
+          (sym c.lies_under.ensures ∙ w.if-lies_under.true))
       | else-lies_under w ↦ subst (λ n. AddsBits test vectors (l.vector-index + 1) n (l.weight * 2)) (sym w.bits-is)
-          (adds_clear test vectors l.vector-index l.bits l.weight 0 c.loop-vector-test.true l.invariant (sym c.lies_under.ensures ∙ w.if-lies_under.false))
+          (adds_clear test vectors l.vector-index l.bits l.weight 0 c.loop-vector-test.true l.invariant
+          (sym c.lies_under.ensures ∙ w.if-lies_under.false))
     ]

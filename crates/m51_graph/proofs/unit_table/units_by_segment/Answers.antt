@@ -1,4 +1,4 @@
-use Rattle.std.proofs.Common.{arith}
+use Rattle.m51_graph.proofs.Common.{arith}
 use Rattle.m51_graph.proofs.unit_table.units_by_segment.Goals as goal
 
 pub overflow_add-unit : goal.overflow_add-unit

@@ -1,4 +1,4 @@
-use Rattle.std.proofs.Common.{◌≡◌, ◌≤◌, ◌++◌, drop}
+use Rattle.m51_graph.proofs.Common.{◌≡◌, ◌≤◌, ◌++◌, drop}
 use Rattle.m51_graph.specs.Numbered.{units_by_segment}
 use Rattle.m51_graph.proofs.unit_table.units_by_segment.Given as goal
 

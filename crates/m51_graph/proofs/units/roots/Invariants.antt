@@ -1,5 +1,5 @@
-use Rattle.std.proofs.Common.{◌≡◌, ◌≤◌, ◌++◌, drop}
-use Rattle.m51_graph.specs.Units.{code_segments, roots_from, roots_of}
+use Rattle.m51_graph.proofs.Common.{◌≡◌, ◌≤◌, ◌++◌, drop, code_segments}
+use Rattle.m51_graph.specs.Units.{roots_from, roots_of}
 use Rattle.m51_graph.proofs.units.roots.Given as goal
 
 abbrev pub invariant-loop-segment : goal.invariant-loop-segment

@@ -1,5 +1,4 @@
-use Rattle.std.proofs.Common.{◌≡◌, ◌++◌, drop}
-use Rattle.m51_graph.specs.Units.{units_from, units_of}
+use Rattle.m51_graph.proofs.Common.{◌≡◌, ◌++◌, drop, units_from, units_of}
 use Rattle.m51_graph.proofs.units.unit_numbers.Given as goal
 
 abbrev pub invariant-loop-number : goal.invariant-loop-number

@@ -15,5 +15,7 @@ returns c =
     ∙ ap (λ t. t ++ hex2 c.checksum_of-checksum.result) (c.in_ok-push_bytes-2.ensures
     ∙ ap (λ t. t ++ flat_map hex2 bytes) (c.in_ok-push_bytes.ensures
     ∙ ap (λ t. t ++ flat_map hex2 front) c.in_ok-push.ensures.items)))
-    ∙ ap (λ (n : ℕ). ((((text ++ colon ∷ []) ++ flat_map hex2 front) ++ flat_map hex2 bytes) ++ hex2 n) ++ line_feed ∷ []) c.checksum_of-checksum.ensures
+    ∙ ap (λ (n : ℕ).
+    ((((text ++ colon ∷ []) ++ flat_map hex2 front) ++ flat_map hex2 bytes) ++ hex2 n) ++ line_feed ∷ [])
+    c.checksum_of-checksum.ensures
     ∙ line_of_parts text front (seen c.args.«record».now) c.front_of-front.ensures

@@ -14,8 +14,14 @@ pub loop-offset-preserved : goal.loop-offset-preserved
 loop-offset-preserved c =
     let image = c.loop-offset.image in
     let r = c.args.«record».now in
-    let more = stored_more image (memory_in c.args.image.now) r.kind r.address c.loop-offset.offset r.bytes.now c.loop-offset.invariant.whole c.requires.within c.loop-offset-test.true c.loop-offset.invariant.memory in
+    let more =
+    stored_more image
+    (memory_in c.args.image.now)
+    r.kind r.address c.loop-offset.offset r.bytes.now c.loop-offset.invariant.whole c.requires.within
+    c.loop-offset-test.true c.loop-offset.invariant.memory in
     record {
-      whole = ap length c.set.ensures ∙ length-set image (r.address + c.loop-offset.offset) (slice_index r.bytes.now c.loop-offset.offset) ∙ c.loop-offset.invariant.whole;
+      whole = ap length c.set.ensures
+          ∙ length-set image (r.address + c.loop-offset.offset) (slice_index r.bytes.now c.loop-offset.offset)
+          ∙ c.loop-offset.invariant.whole;
       memory = ap memory_in c.set.ensures ∙ more;
     }

@@ -6,5 +6,6 @@ abbrev pub invariant-loop-digit : goal.invariant-loop-digit
 invariant-loop-digit l = record {
   base : (2 ≤ l.base) × (l.base ≤ 16);
   fits : l.value ≤ 65535;
-  told : of_16_bits (value_in l.base l.value (drop l.digit-index l.digits)) ≡ of_16_bits (value_in l.fn.base 0 l.digits);
+  told : of_16_bits (value_in l.base l.value (drop l.digit-index l.digits))
+      ≡ of_16_bits (value_in l.fn.base 0 l.digits);
 }

@@ -6,10 +6,11 @@ use Rattle.m51_library.proofs.Following.{with_front}
 use Rattle.m51_library.proofs.modules.modules_at.Given as goal
 
 -- what is read, before what the rest gives, is the whole
-abbrev pub invariant-loop-place : goal.invariant-loop-place
-invariant-loop-place l = record {
-  goes : with_front l.modules.items (modules_at (l.count - l._place) l.total l.next l.rest) ≡ modules_at l.count l.total l.number l.bytes;
+abbrev pub invariant-loop-index : goal.invariant-loop-index
+invariant-loop-index l = record {
+  goes : with_front l.modules.items (modules_at (l.count - l._index) l.total l.next l.rest)
+      ≡ modules_at l.count l.total l.number l.bytes;
   spelled : l.bytes ≡ flat_map bytes_of l.modules.items ++ l.rest;
-  so_many : length l.modules.items ≡ l._place;
+  so_many : length l.modules.items ≡ l._index;
   few : l.next + length l.rest ≤ l.number + length l.bytes;
 }

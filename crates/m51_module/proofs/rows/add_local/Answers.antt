@@ -9,12 +9,23 @@ pub loop-unit-init : goal.loop-unit-init
 loop-unit-init c = added_start c.args.segment c.args.rows.now.items
 
 pub add_to-requires : goal.add_to-requires
-add_to-requires c = omega (arith, c.from.ensures, c.requires.units c.loop-unit.unit-index 0 c.loop-unit-test.true, c.loop-unit.invariant.len)
+add_to-requires c =
+    omega (
+      arith,
+      c.from.ensures,
+      c.requires.units c.loop-unit.unit-index 0 c.loop-unit-test.true,
+      c.loop-unit.invariant.len,
+    )
 
 pub loop-unit-preserved : goal.loop-unit-preserved
 loop-unit-preserved c =
-    rw (c.in_ok-add_to.ensures, c.from.ensures, take_more c.args.owners.now c.loop-unit.unit-index 0 c.loop-unit-test.true)
-    (added_more (take c.loop-unit.unit-index c.args.owners.now) c.args.segment c.args.rows.now.items c.loop-unit.rows.items
+    rw (
+      c.in_ok-add_to.ensures,
+      c.from.ensures,
+      take_more c.args.owners.now c.loop-unit.unit-index 0 c.loop-unit-test.true,
+    )
+    (added_more
+    (take c.loop-unit.unit-index c.args.owners.now) c.args.segment c.args.rows.now.items c.loop-unit.rows.items
     (slice_index_or c.args.owners.now c.loop-unit.unit-index 0) c.loop-unit.invariant
     (c.requires.units c.loop-unit.unit-index 0 c.loop-unit-test.true)
     (different_before c.args.owners.now c.loop-unit.unit-index 0 c.requires.different c.loop-unit-test.true))

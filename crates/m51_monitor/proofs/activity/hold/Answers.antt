@@ -1,5 +1,4 @@
-use Rattle.std.proofs.Common.{◌≡◌, ◌∷◌, length, rules, subst, sym, ◌∙◌}
-use Rattle.m51_monitor.specs.Activity.{AreHolders}
+use Rattle.m51_monitor.proofs.Common.{◌≡◌, ◌∷◌, length, rules, subst, sym, ◌∙◌, AreHolders}
 use Rattle.m51_monitor.proofs.Holding.{held_more, room_for, whole_row}
 use Rattle.m51_monitor.proofs.Placing.{below}
 use Rattle.m51_monitor.proofs.activity.hold.Goals as goal

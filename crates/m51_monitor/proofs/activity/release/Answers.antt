@@ -1,5 +1,4 @@
-use Rattle.std.proofs.Common.{◌≡◌, length, rules, subst, sym, ◌∙◌}
-use Rattle.m51_monitor.specs.Activity.{AreHolders}
+use Rattle.m51_monitor.proofs.Common.{◌≡◌, length, rules, subst, sym, ◌∙◌, AreHolders}
 use Rattle.m51_monitor.proofs.Holding.{held_less, some_held, whole_row}
 use Rattle.m51_monitor.proofs.Placing.{below}
 use Rattle.m51_monitor.proofs.activity.release.Goals as goal

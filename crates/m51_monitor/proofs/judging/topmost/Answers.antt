@@ -1,5 +1,4 @@
-use Rattle.std.proofs.Common.{arith}
-use Rattle.std.proofs.lemmas.Grind.{common_steps}
+use Rattle.m51_monitor.proofs.Common.{arith, common_steps}
 use Rattle.m51_monitor.proofs.Topping.{last_split}
 use Rattle.m51_monitor.proofs.judging.topmost.Goals as goal
 

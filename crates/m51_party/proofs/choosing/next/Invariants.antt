@@ -1,5 +1,4 @@
-use Rattle.std.proofs.Common.{◌≡◌, drop}
-use Rattle.m51_party.specs.Seats.{next_from}
+use Rattle.m51_party.proofs.Common.{◌≡◌, drop, next_from}
 use Rattle.m51_party.proofs.choosing.next.Given as goal
 
 abbrev pub invariant-loop-index : goal.invariant-loop-index

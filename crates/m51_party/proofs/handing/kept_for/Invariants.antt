@@ -1,5 +1,6 @@
-use Rattle.std.proofs.Common.{◌≡◌, ◌≤◌, ◌++◌, drop, take}
-use Rattle.m51_party.specs.Seats.{kept_for, kept_from}
+use Rattle.m51_party.proofs.Common.{◌≡◌, ◌≤◌, ◌++◌, drop, kept_for}
+use Rattle.std.proofs.Common.{take}
+use Rattle.m51_party.specs.Seats.{kept_from}
 use Rattle.m51_party.proofs.handing.kept_for.Given as goal
 
 abbrev pub invariant-loop-at : goal.invariant-loop-at

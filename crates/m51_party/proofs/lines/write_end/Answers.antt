@@ -1,6 +1,6 @@
+use Rattle.m51_party.proofs.Common.{front_of}
 use Rattle.m51_party.proofs.Fronts.{stop_then}
 use Rattle.m51_party.specs.Seats.{last_text}
-use Rattle.m51_party.specs.Text.{front_of}
 use Rattle.m51_party.proofs.lines.write_end.Goals as goal
 
 pub returns-clause-front : goal.returns-clause-front

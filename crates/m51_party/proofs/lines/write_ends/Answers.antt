@@ -1,4 +1,4 @@
-use Rattle.std.proofs.Common.{arith}
+use Rattle.m51_party.proofs.Common.{arith}
 use Rattle.m51_party.proofs.Ending.{ending_cut, ending_on}
 use Rattle.m51_party.proofs.Fronts.{at_error}
 use Rattle.m51_party.proofs.lines.write_ends.Goals as goal

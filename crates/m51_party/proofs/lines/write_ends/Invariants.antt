@@ -1,4 +1,4 @@
-use Rattle.std.proofs.Common.{◌≤◌}
+use Rattle.m51_party.proofs.Common.{◌≤◌}
 use Rattle.m51_party.proofs.Ending.{IsEnding}
 use Rattle.m51_party.proofs.lines.write_ends.Given as goal
 

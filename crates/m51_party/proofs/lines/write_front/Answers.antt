@@ -1,7 +1,4 @@
-use Rattle.std.proofs.Common.{ℕ, ◌+◌, List, [], ◌∷◌, subst, sym}
-use Rattle.std.specs.Prelude.{OnErr, OnOk}
-use Rattle.std.specs.Io.KnownBytes.{Appends}
-use Rattle.m51_cells.specs.Outside.{AppendsFront}
+use Rattle.m51_party.proofs.Common.{ℕ, ◌+◌, List, [], ◌∷◌, subst, sym, OnErr, OnOk, Appends, AppendsFront}
 use Rattle.m51_party.proofs.Fronts.{front_digit, stop_front}
 use Rattle.m51_party.proofs.lines.write_front.Goals as goal
 

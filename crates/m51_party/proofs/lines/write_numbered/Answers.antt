@@ -1,6 +1,5 @@
+use Rattle.m51_party.proofs.Common.{entry_line, front_of}
 use Rattle.m51_party.proofs.Fronts.{stop_then}
-use Rattle.m51_print.specs.Lines.{entry_line}
-use Rattle.m51_party.specs.Text.{front_of}
 use Rattle.m51_party.proofs.lines.write_numbered.Goals as goal
 
 pub returns-clause-front : goal.returns-clause-front

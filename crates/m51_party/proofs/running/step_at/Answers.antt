@@ -1,8 +1,6 @@
-use Rattle.std.proofs.Common.{List, refl, subst, sym}
+use Rattle.m51_party.proofs.Common.{List, refl, subst, sym, Timed, IsSeatStep}
 use Rattle.std.specs.Prelude.{slice_index_or}
-use Rattle.m51_sim.specs.declared.cycles.Timed.{Timed}
 use Rattle.m51_sim.specs.Cycles.{AreFew}
-use Rattle.m51_party.specs.Seats.{IsSeatStep}
 use Rattle.m51_party.proofs.OnTheLine.{kept_are_few, seat_read}
 use Rattle.m51_party.proofs.running.step_at.Goals as goal
 

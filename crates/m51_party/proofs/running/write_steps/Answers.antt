@@ -1,4 +1,4 @@
-use Rattle.std.proofs.Common.{◌∙◌, arith, refl, sym}
+use Rattle.m51_party.proofs.Common.{◌∙◌, arith, refl, sym}
 use Rattle.m51_party.proofs.Fronts.{at_error}
 use Rattle.m51_party.proofs.Progress.{chosen_below, chosen_within, fewer_left, party_few, progress_cut, progress_end}
 use Rattle.m51_party.proofs.Progress.{progress_on, progress_start, progress_texts}

@@ -1,4 +1,4 @@
-use Rattle.std.proofs.Common.{◌≡◌, ◌≤◌, length}
+use Rattle.m51_party.proofs.Common.{◌≡◌, ◌≤◌, length}
 use Rattle.m51_party.proofs.Progress.{AllInProgress, steps_left}
 use Rattle.m51_party.proofs.running.write_steps.Given as goal
 

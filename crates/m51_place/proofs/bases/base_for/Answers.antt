@@ -1,26 +1,23 @@
-use Rattle.std.proofs.Common.{ℕ, List, sym, ap, subst, ◌∙◌}
-use Rattle.std.specs.List.{All}
-use Rattle.std.specs.List.Sorted.{IsPermutation}
-use Rattle.std.proofs.lemmas.List.Sorted.{All-permutation}
-use Rattle.m51_cells.specs.declared.extent.Extent.{Extent}
-use Rattle.m51_module.specs.declared.placed.Placed.{Placed}
+use Rattle.m51_place.proofs.Common.{ℕ, List, sym, ap, subst, ◌∙◌, All, IsPermutation, All-permutation, Extent, Placed}
+use Rattle.m51_place.proofs.Common.{conflicting, extents_in}
 use Rattle.m51_place.specs.Bases.{least_base}
-use Rattle.m51_place.specs.Placement.{conflicting}
 use Rattle.m51_bases.specs.Raising.{EndsWithin}
-use Rattle.m51_place.specs.InTheWay.{extents_in}
 use Rattle.m51_place.proofs.Clearing.{found_below, least_is}
 use Rattle.m51_place.proofs.Conflicting.{in_the_way_is}
 use Rattle.m51_place.proofs.bases.base_for.Goals as goal
 
 pub first_clear-requires-clause-ends : goal.first_clear-requires-clause-ends
 first_clear-requires-clause-ends c =
-    let moved = All-permutation EndsWithin c.in_ok-extents.extents.items c.arrange.new.extents.items c.arrange.ensures c.in_ok-extents.ensures.ends in
+    let moved =
+    All-permutation EndsWithin c.in_ok-extents.extents.items c.arrange.new.extents.items c.arrange.ensures
+    c.in_ok-extents.ensures.ends in
     subst (λ (es : List Extent). All EndsWithin es) (sym c.deref.ensures.value) moved
 
 pub as_base-requires : goal.as_base-requires
 as_base-requires c =
     let j = c.args.ranked.now.segment in
-    found_below c.deref.result.now j.kind j.reloc c.from-size.result c.first_clear.result c.requires.ranked.kind c.first_clear.ensures
+    found_below c.deref.result.now j.kind j.reloc c.from-size.result c.first_clear.result c.requires.ranked.kind
+    c.first_clear.ensures
 
 pub returns : goal.returns
 returns c =
@@ -32,7 +29,14 @@ returns c =
     let others : List Placed = conflicting g number c.args.earlier.now in
     let from_list = subst (λ (es : List Extent). IsPermutation es c.arrange.new.extents.items)
     (c.in_ok-extents.ensures.list ∙ in_the_way_is g number space c.args.earlier.now) c.arrange.ensures in
-    let moved = subst (λ (es : List Extent). IsPermutation (extents_in space others) es) (sym c.deref.ensures.value) from_list in
-    let below = found_below c.deref.result.now j.kind j.reloc size c.first_clear.result c.requires.ranked.kind c.first_clear.ensures in
-    let least = least_is j.kind j.reloc size space (λ base. c.space_of-space.ensures base size) others c.deref.result.now moved c.first_clear.result c.first_clear.ensures below in
+    let moved =
+    subst (λ (es : List Extent). IsPermutation (extents_in space others) es)
+    (sym c.deref.ensures.value) from_list in
+    let below =
+    found_below c.deref.result.now j.kind j.reloc size c.first_clear.result c.requires.ranked.kind
+    c.first_clear.ensures in
+    let least =
+    least_is j.kind j.reloc size space
+    (λ base. c.space_of-space.ensures base size)
+    others c.deref.result.now moved c.first_clear.result c.first_clear.ensures below in
     c.as_base.ensures ∙ least ∙ ap (λ (n : ℕ). least_base others j.kind j.reloc n) c.from-size.ensures

@@ -1,8 +1,7 @@
-use Rattle.std.proofs.Common.{◌≡◌, ◌-◌, ◌<◌, ℕ, List, [], ◌∷◌, length, sym, subst, arith}
-use Rattle.std.proofs.lemmas.List.{append-nil}
+use Rattle.m51_place.proofs.Common.{◌≡◌, ◌-◌, ◌<◌, ℕ, List, [], ◌∷◌, length, sym, subst, arith, append-nil, leads}
+use Rattle.m51_place.proofs.Common.{IsFront}
 use Rattle.m51_graph.proofs.Climbing.{tally_le}
-use Rattle.m51_graph.specs.Leading.{leads}
-use Rattle.m51_place.specs.Heaviest.{GoesOn, IsFront, IsNext}
+use Rattle.m51_place.specs.Heaviest.{FollowsHeaviest, IsNext}
 use Rattle.m51_place.proofs.Chained.{front_more, front_start}
 use Rattle.m51_place.proofs.Ranking.{rank, rank_edge}
 use Rattle.m51_place.proofs.chaining.units_from.Goals as goal
@@ -11,20 +10,27 @@ pub loop-next-init : goal.loop-next-init
 loop-next-init c =
     let l = c.args.layout.now in
     let items : c.in_ok-units.units.items ≡ c.args.root ∷ [] = c.in_ok-units.ensures.items in
-    subst (λ (us : List ℕ). IsFront l c.args.best.now c.args.root c.args.root us) (sym items) (front_start l c.requires.sound c.args.weights.now c.args.best.now c.requires.weights c.requires.best c.args.root c.requires.root)
+    subst (λ (us : List ℕ). IsFront l c.args.best.now c.args.root c.args.root us) (sym items)
+    (front_start l c.requires.sound c.args.weights.now c.args.best.now c.requires.weights c.requires.best
+    c.args.root c.requires.root)
 
 pub loop-next-preserved : goal.loop-next-preserved
 loop-next-preserved c =
     let l = c.args.layout.now in
-    let more = front_more l c.requires.sound c.args.weights.now c.args.best.now c.requires.weights c.requires.best c.args.root c.loop-next.unit c.in-Some.next c.loop-next.units.items c.loop-next.invariant c.in-Some.ensures in
-    subst (λ (us : List ℕ). IsFront l c.args.best.now c.args.root c.in-Some.next us) (sym c.in_ok-push.ensures.items) more
+    let more =
+    front_more l c.requires.sound c.args.weights.now c.args.best.now c.requires.weights c.requires.best c.args.root
+    c.loop-next.unit c.in-Some.next c.loop-next.units.items c.loop-next.invariant c.in-Some.ensures in
+    subst (λ (us : List ℕ). IsFront l c.args.best.now c.args.root c.in-Some.next us)
+    (sym c.in_ok-push.ensures.items) more
 
 pub loop-next-smaller : goal.loop-next-smaller
 loop-next-smaller c =
     let l = c.args.layout.now in
     let n : ℕ = length l.units in
     let next : IsNext l c.args.best.now c.loop-next.unit c.in-Some.next = c.in-Some.ensures.1 in
-    let more = rank_edge l.edges n c.loop-next.unit c.in-Some.next c.loop-next.invariant.below c.requires.sound.no_cycle next.edge in
+    let more =
+    rank_edge l.edges n c.loop-next.unit c.in-Some.next c.loop-next.invariant.below c.requires.sound.no_cycle
+    next.edge in
     let most = tally_le (λ w. leads l.edges w c.in-Some.next) n in
     let less : n - rank l.edges n c.in-Some.next < n - rank l.edges n c.loop-next.unit = omega (arith, more, most) in
     less
@@ -33,4 +39,10 @@ pub returns : goal.returns
 returns c =
     let l = c.args.layout.now in
     let inv : IsFront l c.args.best.now c.args.root c.loop-next.unit c.loop-next.units.items = c.loop-next.invariant in
-    record { more = inv.front; are = inv.are; goes = subst (λ (us : List ℕ). GoesOn l c.args.best.now c.args.root us) (append-nil inv.front) (inv.goes [] c.in_default.ensures) }
+    record {
+      more = inv.front;
+      are = inv.are;
+      goes =
+          subst (λ (us : List ℕ). FollowsHeaviest l c.args.best.now c.args.root us) (append-nil inv.front)
+          (inv.goes [] c.in_default.ensures);
+    }

@@ -1,4 +1,4 @@
-use Rattle.std.proofs.Common.{◌≡◌, ◌++◌, take}
+use Rattle.m51_place.proofs.Common.{◌≡◌, ◌++◌, take}
 use Rattle.m51_place.specs.Placement.{pairs_with}
 use Rattle.m51_place.proofs.layouts.add_pairs.Given as goal
 

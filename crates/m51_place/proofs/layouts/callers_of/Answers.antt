@@ -1,6 +1,4 @@
-use Rattle.std.proofs.Common.{ℕ, ◌++◌, Bool, cond, List, [], ◌∷◌, filter, sym, ap, ◌∙◌}
-use Rattle.std.specs.List.{range_with_len}
-use Rattle.m51_graph.specs.Drawing.{edge_test}
+use Rattle.m51_place.proofs.Common.{ℕ, ◌++◌, Bool, cond, List, [], ◌∷◌, filter, sym, ap, ◌∙◌, range_with_len, edge_test}
 use Rattle.m51_place.proofs.Counting.{passing_more}
 use Rattle.m51_place.proofs.layouts.callers_of.Goals as goal
 

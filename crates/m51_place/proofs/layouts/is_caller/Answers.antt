@@ -1,5 +1,4 @@
-use Rattle.std.proofs.lemmas.Bool.Decides.{same_from_decides}
-use Rattle.m51_graph.specs.Drawing.{edge_test}
+use Rattle.m51_place.proofs.Common.{same_from_decides, edge_test}
 use Rattle.m51_graph.proofs.Closed.{edge_tells}
 use Rattle.m51_place.proofs.layouts.is_caller.Goals as goal
 

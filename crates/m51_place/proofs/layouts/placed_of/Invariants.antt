@@ -1,4 +1,4 @@
-use Rattle.std.proofs.Common.{◌≡◌, map, take}
+use Rattle.m51_place.proofs.Common.{◌≡◌, map, take}
 use Rattle.m51_place.proofs.layouts.placed_of.Given as goal
 
 abbrev pub invariant-loop-extent : goal.invariant-loop-extent

@@ -1,5 +1,4 @@
-use Rattle.std.proofs.Common.{◌≡◌, [], drop}
-use Rattle.m51_place.specs.Order.{put_all}
+use Rattle.m51_place.proofs.Common.{◌≡◌, [], drop, put_all}
 use Rattle.m51_place.proofs.ordering.in_order.Given as goal
 
 abbrev pub invariant-loop-next : goal.invariant-loop-next

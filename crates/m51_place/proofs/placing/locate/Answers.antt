@@ -1,13 +1,6 @@
-use Rattle.std.proofs.Common.{◌≡◌, ℕ, List, sym, ap, subst, ◌∙◌}
-use Rattle.std.specs.List.{All}
-use Rattle.m51_control.specs.declared.control.Control.{Control}
-use Rattle.m51_resolve.specs.declared.segment.JoinedSegment.{JoinedSegment}
-use Rattle.m51_resolve.specs.Joining.{segments_of}
-use Rattle.m51_place.specs.declared.numbered.Numbered.{Numbered}
-use Rattle.m51_place.specs.declared.ranked.Ranked.{Ranked}
-use Rattle.m51_place.specs.Fixed.{fixed_of}
-use Rattle.m51_place.specs.Order.{order_of}
-use Rattle.m51_place.specs.Ready.{IsNumbered, IsReady}
+use Rattle.m51_place.proofs.Common.{◌≡◌, ℕ, List, sym, ap, subst, ◌∙◌, All, Control, JoinedSegment, segments_of}
+use Rattle.m51_place.proofs.Common.{Numbered, Ranked, fixed_of, order_of, IsNumbered}
+use Rattle.m51_place.specs.Ready.{IsPlaceable}
 use Rattle.m51_place.proofs.Segments.{all_joined, graph_is}
 use Rattle.m51_place.proofs.Whole.{numbered}
 use Rattle.m51_place.proofs.Start.{fixed_spots}
@@ -21,9 +14,12 @@ place_after-requires-clause-order c =
     let is = graph_is c.args.joined.now c.args.controls.now g c.requires in
     let joined = all_joined c.args.joined.now c.modules-modules.ensures.valid in
     let order : c.deref-2.result.now ≡ order_of g c.args.controls.now segments =
-    c.deref-2.ensures.value ∙ c.in_ok-order.ensures ∙ ap (λ (cs : List (ℕ × Control)). order_of g cs c.segments.result.now) c.lines.ensures.list ∙ ap (order_of g c.args.controls.now) c.segments.ensures.list in
-    subst (λ (ts : List Ranked). All (IsReady g) ts) (sym order)
-    (λ k d below. ready segments c.args.controls.now g is joined _ (order_ranked g c.args.controls.now segments k d below))
+    c.deref-2.ensures.value ∙ c.in_ok-order.ensures
+    ∙ ap (λ (cs : List (ℕ × Control)). order_of g cs c.segments.result.now) c.lines.ensures.list
+    ∙ ap (order_of g c.args.controls.now) c.segments.ensures.list in
+    subst (λ (ts : List Ranked). All (IsPlaceable g) ts) (sym order)
+    (λ k d below. ready segments c.args.controls.now g is joined _
+    (order_ranked g c.args.controls.now segments k d below))
 
 pub place_after-requires-clause-earlier : goal.place_after-requires-clause-earlier
 place_after-requires-clause-earlier c =
@@ -32,5 +28,8 @@ place_after-requires-clause-earlier c =
     let controls = c.args.controls.now in
     let segments : List JoinedSegment = segments_of modules in
     let is = graph_is modules controls g c.requires in
-    let spots = fixed_spots g modules controls segments is (all_joined modules c.modules-modules.ensures.valid) c.lines.ensures.kept.each in
-    subst (λ (es : List Numbered). All (IsNumbered g) es) (sym c.in_ok-fixed.ensures) (numbered segments controls g (fixed_of modules controls segments) is spots)
+    let spots =
+    fixed_spots g modules controls segments is
+    (all_joined modules c.modules-modules.ensures.valid) c.lines.ensures.kept.each in
+    subst (λ (es : List Numbered). All (IsNumbered g) es) (sym c.in_ok-fixed.ensures)
+    (numbered segments controls g (fixed_of modules controls segments) is spots)

@@ -1,6 +1,5 @@
-use Rattle.std.proofs.Common.{◌≡◌, drop, take}
-use Rattle.m51_place.specs.Fixed.{shared_after, shared_extents}
+use Rattle.m51_place.proofs.Common.{◌≡◌, drop, take, shared_after, shared_extents}
 use Rattle.m51_place.proofs.sharing.check_shared.Given as goal
 
-abbrev pub invariant-loop-place : goal.invariant-loop-place
-invariant-loop-place l = shared_after (take l.place l.fixed) (drop l.place l.fixed) ≡ shared_extents l.fixed
+abbrev pub invariant-loop-index : goal.invariant-loop-index
+invariant-loop-index l = shared_after (take l.index l.fixed) (drop l.index l.fixed) ≡ shared_extents l.fixed

@@ -13,13 +13,16 @@ loop-k-preserved c =
     let rows = c.loop-k.rows in
     let k : ℕ = c.loop-k.k in
     let below : k < length rows = omega (arith, c.loop-k-test.true, c.loop-k.auto.rows) in
-    let through : c.in_ok-through.through ≡ get_or rows k [] = c.in_ok-through.ensures ∙ get_or_default rows k c.index-rows-k.result [] below in
-    let wide : length c.in_ok-through.through ≡ words_for (length c.args.rows.now) = ap (λ (row : List ℕ). length row) through ∙ c.loop-k.invariant.rows.wide k below in
+    let through : c.in_ok-through.through ≡ get_or rows k [] = c.in_ok-through.ensures
+    ∙ get_or_default rows k c.index-rows-k.result [] below in
+    let wide : length c.in_ok-through.through ≡ words_for (length c.args.rows.now) =
+    ap (λ (row : List ℕ). length row) through ∙ c.loop-k.invariant.rows.wide k below in
     record {
       rows = record {
         few = c.loop-k.invariant.rows.few;
         len = c.pass.ensures.len ∙ c.loop-k.invariant.rows.len;
         wide = subst (λ n. AreWide n c.pass.new.rows) wide c.pass.ensures.wide;
       };
-      closed = close_more _ k rows c.pass.new.rows c.in_ok-through.through through c.loop-k.invariant.closed c.pass.ensures.joined;
+      closed = close_more _ k rows c.pass.new.rows c.in_ok-through.through through c.loop-k.invariant.closed
+          c.pass.ensures.joined;
     }

@@ -6,6 +6,7 @@ use Rattle.m51_relations.proofs.bit_rows.pass.Given as goal
 abbrev pub invariant-loop-row : goal.invariant-loop-row
 invariant-loop-row l = record {
   wide : AreWide (length l.through) l.rows;
-  done : (u v : ℕ) → u < l.row-index → pair_at l.rows u v ≡ (pair_at l.fn.rows u v || (pair_at l.fn.rows u l.k && bit l.through v));
+  done : (u v : ℕ) → u < l.row-index → pair_at l.rows u v
+      ≡ (pair_at l.fn.rows u v || (pair_at l.fn.rows u l.k && bit l.through v));
   rest : (u : ℕ) → l.row-index ≤ u → slice_index_or l.rows u [] ≡ slice_index_or l.fn.rows u [];
 }

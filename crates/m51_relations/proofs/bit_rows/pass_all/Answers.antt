@@ -9,7 +9,8 @@ pub loop-k-init : goal.loop-k-init
 loop-k-init c = record {
   len = refl;
   wide = c.requires.wide;
-  passed = λ u v below. passed_first (pair_at c.args.tests.now) (pair_at c.args.others.now) (pair_at c.args.rows.now) u v;
+  passed = λ u v below. passed_first (pair_at c.args.tests.now) (pair_at c.args.others.now)
+      (pair_at c.args.rows.now) u v;
 }
 
 pub loop-k-preserved : goal.loop-k-preserved
@@ -20,12 +21,14 @@ loop-k-preserved c =
     let new = c.pass_tested.new.rows in
     let other = c.index-others-k.result in
     let is : other ≡ get_or others k [] = c.index-others-k.is ∙ get_or_default others k other [] c.loop-k-test.true in
-    let wide : length other ≡ words_for (length others) = ap (λ (row : List ℕ). length row) is ∙ c.requires.others.wide k c.loop-k-test.true in
+    let wide : length other ≡ words_for (length others) = ap (λ (row : List ℕ). length row) is
+    ∙ c.requires.others.wide k c.loop-k-test.true in
     record {
       len = c.pass_tested.ensures.len ∙ c.loop-k.invariant.len;
       wide = subst (λ n. AreWide n new) wide c.pass_tested.ensures.wide;
       passed = λ u v below.
-          passed_more (pair_at c.args.tests.now) (pair_at others) (pair_at c.args.rows.now) k u v (pair_at old u v) (pair_at new u v)
+          passed_more (pair_at c.args.tests.now) (pair_at others) (pair_at c.args.rows.now) k u v (pair_at old u v)
+          (pair_at new u v)
           (c.pass_tested.ensures.joined u v (omega (arith, below, c.loop-k.invariant.len))
           ∙ ap (λ (row : List ℕ). pair_at old u v || (pair_at c.args.tests.now u k && bit row v)) is)
           (c.loop-k.invariant.passed u v below);

@@ -18,8 +18,11 @@ loop-unit-preserved c =
     record {
       count = c.put_related.ensures.count ∙ c.loop-unit.invariant.count;
       done = λ u v below below'. elim (cases_eq u unit) as (λ _. pairs c.put_related.new.set u v ≡ test u v) [
-        | inl here ↦ subst (λ w. pairs c.put_related.new.set w v ≡ test w v) (sym here) (c.put_related.ensures.done v (omega (arith, below', c.loop-unit.invariant.count)))
-        | inr other ↦ c.put_related.ensures.others u v other ∙ c.loop-unit.invariant.done u v (omega (arith, below, other)) below'
+        | inl here ↦ subst (λ w. pairs c.put_related.new.set w v ≡ test w v) (sym here)
+            (c.put_related.ensures.done v (omega (arith, below', c.loop-unit.invariant.count)))
+        | inr other ↦ c.put_related.ensures.others u v other
+            ∙ c.loop-unit.invariant.done u v (omega (arith, below, other)) below'
       ];
-      rest = λ u v past. c.put_related.ensures.others u v (λ e. absurd (omega (arith, e, past))) ∙ c.loop-unit.invariant.rest u v (omega (arith, past));
+      rest = λ u v past. c.put_related.ensures.others u v (λ e. absurd (omega (arith, e, past)))
+          ∙ c.loop-unit.invariant.rest u v (omega (arith, past));
     }

@@ -1,8 +1,7 @@
-use Rattle.std.proofs.Common.{◌≡◌, ◌<◌, ◌≤◌, List, Bor, None, [], ◌∷◌, get_or, length, map, ap, arith, length-append, ◌∙◌}
-use Rattle.std.proofs.lemmas.List.{length-map}
-use Rattle.m51_cells.specs.declared.limits.TheConstants.{MOST_MODULES}
-use Rattle.m51_module.specs.declared.parts.ModuleParts.{ModuleParts}
-use Rattle.m51_resolve.specs.WorkChoice.{IsNext, IsNextAt}
+use Rattle.m51_resolve.proofs.Common.{◌≡◌, ◌<◌, ◌≤◌, List, None, [], ◌∷◌, get_or, length, map, ap, arith, length-append}
+use Rattle.m51_resolve.proofs.Common.{◌∙◌, length-map, MOST_MODULES, ModuleParts, IsNext}
+use Rattle.std.proofs.Common.{Bor}
+use Rattle.m51_resolve.specs.WorkChoice.{IsNextAt}
 use Rattle.m51_resolve.proofs.NamedModules.{lent_is}
 use Rattle.m51_resolve.proofs.Skipping.{asked_more, asked_start, choosing_more, choosing_start}
 use Rattle.m51_resolve.proofs.Stopping.{few_is, stopped}
@@ -19,7 +18,8 @@ loop-index-init c = record {
 }
 
 pub next_needed-requires-clause-asked : goal.next_needed-requires-clause-asked
-next_needed-requires-clause-asked c = λ name w. c.in_ok-asked.ensures.each name ∙ c.loop-index.invariant.asked.each name w
+next_needed-requires-clause-asked c = λ name w. c.in_ok-asked.ensures.each name
+    ∙ c.loop-index.invariant.asked.each name w
 
 pub loop-index-smaller : goal.loop-index-smaller
 loop-index-smaller c =
@@ -34,9 +34,11 @@ loop-index-preserved c =
     let members = c.args.members.now in
     let index = c.in-Some.index in
     let next : IsNextAt chosen (parts_of members) index = c.in-Some.ensures in
-    let below : index < length members = omega (arith, next.inside, length-map members (λ (m : Bor ModuleParts). m.now)) in
+    let below : index < length members =
+    omega (arith, next.inside, length-map members (λ (m : Bor ModuleParts). m.now)) in
     let m : ModuleParts = c.index-members-index.result.now in
-    let is : m ≡ get_or (parts_of members) index m = lent_is (λ m. m.now) members index c.index-members-index.result below c.index-members-index.is in
+    let is : m ≡ get_or (parts_of members) index m =
+    lent_is (λ m. m.now) members index c.index-members-index.result below c.index-members-index.is in
     rw (c.in_ok-chosen.ensures, c.in_ok-member.ensures) (record {
       choosing = choosing_more c.args.given (parts_of members) chosen index m c.loop-index.invariant.choosing next is;
       asked = asked_more c.args.given (parts_of members) chosen index m next.inside is c.loop-index.invariant.asked;

@@ -1,5 +1,5 @@
-use Rattle.std.proofs.Common.{◌+◌, ◌-◌, length, map}
-use Rattle.m51_cells.specs.declared.limits.TheConstants.{MOST_MODULES}
+use Rattle.m51_resolve.proofs.Common.{◌+◌, length, map, MOST_MODULES}
+use Rattle.std.proofs.Common.{◌-◌}
 use Rattle.m51_resolve.proofs.Skipping.{AreAsked, IsChoosing}
 use Rattle.m51_resolve.proofs.choosing.choose_of.Given as goal
 

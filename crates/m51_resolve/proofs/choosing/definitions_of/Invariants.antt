@@ -1,5 +1,4 @@
-use Rattle.std.proofs.Common.{map, take}
-use Rattle.m51_resolve.specs.WorkNames.{AreAskedFor}
+use Rattle.m51_resolve.proofs.Common.{map, take, AreAskedFor}
 use Rattle.m51_resolve.proofs.choosing.definitions_of.Given as goal
 
 abbrev pub invariant-loop-number : goal.invariant-loop-number

@@ -1,13 +1,7 @@
-use Rattle.std.proofs.Common.{◌≡◌, List, Option, None, ap, cond, false, length, map, arith}
-use Rattle.std.specs.Prelude.{nat_lt}
+use Rattle.m51_resolve.proofs.Common.{◌≡◌, List, Option, None, ap, cond, false, length, map, arith, nat_lt}
+use Rattle.m51_resolve.proofs.Common.{MOST_MODULES, ModuleParts, Definition, IsWanted, defining_module, supplier}
+use Rattle.m51_resolve.proofs.Common.{definition_in, public_definition, defines}
 use Rattle.std.proofs.lemmas.Grind.{common_steps}
-use Rattle.m51_cells.specs.declared.limits.TheConstants.{MOST_MODULES}
-use Rattle.m51_module.specs.declared.parts.ModuleParts.{ModuleParts}
-use Rattle.m51_resolve.specs.declared.publics.Definition.{Definition}
-use Rattle.m51_resolve.specs.WorkChoice.{IsWanted, number_of, supplier}
-use Rattle.m51_resolve.specs.WorkNames.{definition_in}
-use Rattle.m51_resolve.specs.Publics.{definition_of}
-use Rattle.m51_module.specs.Library.{defines}
 use Rattle.m51_resolve.proofs.DefinedNames.{asked_at}
 use Rattle.m51_resolve.proofs.Earliest.{earliest_gives, next_is}
 use Rattle.m51_resolve.proofs.choosing.next_needed.Goals as goal
@@ -16,9 +10,12 @@ pub returns : goal.returns
 returns c =
     let chosen = c.args.chosen.now in
     let members : List ModuleParts = map (λ m. m.now) c.args.members.now in
-    let few : nat_lt MOST_MODULES (length chosen) ≡ false = grind (arith, common_steps, c.if-count-gt-MOST_MODULES.false, c.count.ensures) in
+    let few : nat_lt MOST_MODULES (length chosen) ≡ false =
+    grind (arith, common_steps, c.if-count-gt-MOST_MODULES.false, c.count.ensures) in
     let table = c.args.definitions.now.entries in
     next_is chosen members c.first_supplier.result few
-    (earliest_gives (supplier chosen (definition_in table)) (supplier chosen (definition_of members)) (IsWanted chosen) c.first_supplier.result
-    (λ name w. ap (λ (o : Option Definition). cond (defines chosen name) None (number_of o)) (asked_at c.args.asked.now.keys members table c.requires.definitions name (c.requires.asked name w)))
+    (earliest_gives (supplier chosen (definition_in table)) (supplier chosen (public_definition members))
+    (IsWanted chosen) c.first_supplier.result
+    (λ name w. ap (λ (o : Option Definition). cond (defines chosen name) None (defining_module o))
+    (asked_at c.args.asked.now.keys members table c.requires.definitions name (c.requires.asked name w)))
     c.first_supplier.ensures)

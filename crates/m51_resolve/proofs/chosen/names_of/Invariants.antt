@@ -1,5 +1,4 @@
-use Rattle.std.proofs.Common.{take}
-use Rattle.m51_resolve.specs.WorkNames.{AreNamed}
+use Rattle.m51_resolve.proofs.Common.{take, AreNamed}
 use Rattle.m51_resolve.proofs.chosen.names_of.Given as goal
 
 abbrev pub invariant-loop-number : goal.invariant-loop-number

@@ -1,5 +1,4 @@
-use Rattle.std.proofs.Common.{take}
-use Rattle.m51_resolve.specs.WorkNames.{Wants}
+use Rattle.m51_resolve.proofs.Common.{take, Wants}
 use Rattle.m51_resolve.proofs.chosen.want_externals.Given as goal
 
 abbrev pub invariant-loop-external : goal.invariant-loop-external

@@ -1,18 +1,18 @@
-use Rattle.std.proofs.Common.{ap, sym, ◌∙◌}
-use Rattle.m51_resolve.specs.WorkNames.{value_in}
+use Rattle.m51_resolve.proofs.Common.{ap, sym, ◌∙◌, entry_by_name}
 use Rattle.m51_resolve.proofs.Tables.{absolute_is, joined_within, number_is}
 use Rattle.m51_resolve.proofs.joining.joined_with.Goals as goal
 
 pub returns-then-is_relocatable-clause-index : goal.returns-then-is_relocatable-clause-index
 returns-then-is_relocatable-clause-index c =
-    c.copied.ensures ∙ c.get.ensures.value ∙ ap (λ ns. value_in ns c.args.segment.now.name) c.requires
+    c.copied.ensures ∙ c.get.ensures.value ∙ ap (λ ns. entry_by_name ns c.args.segment.now.name) c.requires
     ∙ number_is c.args.growing.now c.args.segment.now (sym c.is_relocatable.ensures ∙ c.if-is_relocatable.true)
 
 pub returns-then-is_relocatable-clause-within : goal.returns-then-is_relocatable-clause-within
 returns-then-is_relocatable-clause-within c =
     joined_within c.args.growing.now c.args.segment.now c.copied.result
-    (c.copied.ensures ∙ c.get.ensures.value ∙ ap (λ ns. value_in ns c.args.segment.now.name) c.requires
+    (c.copied.ensures ∙ c.get.ensures.value ∙ ap (λ ns. entry_by_name ns c.args.segment.now.name) c.requires
     ∙ number_is c.args.growing.now c.args.segment.now (sym c.is_relocatable.ensures ∙ c.if-is_relocatable.true))
 
 pub returns-else-is_relocatable-clause-index : goal.returns-else-is_relocatable-clause-index
-returns-else-is_relocatable-clause-index c = absolute_is c.args.growing.now c.args.segment.now (sym c.is_relocatable.ensures ∙ c.if-is_relocatable.false)
+returns-else-is_relocatable-clause-index c =
+    absolute_is c.args.growing.now c.args.segment.now (sym c.is_relocatable.ensures ∙ c.if-is_relocatable.false)

@@ -1,4 +1,4 @@
-use Rattle.std.proofs.Common.{◌≡◌, map, take}
+use Rattle.m51_resolve.proofs.Common.{◌≡◌, map, take}
 use Rattle.m51_resolve.specs.WorkJoining.{joined_as}
 use Rattle.m51_resolve.proofs.resolving.segments_of.Given as goal
 

@@ -7,7 +7,9 @@ use Rattle.m51_sfr.proofs.Searches.{found}
 use Rattle.m51_sfr.proofs.searching.address_in.Goals as goal
 
 pub returns-in_err-found : goal.returns-in_err-found
-returns-in_err-found c = c.from_residual.ensures ∙ ap (option_map (λ (r : CodedRow). r.1)) c.in_err-found.ensures ∙ found (λ (r : CodedRow). row r.0.now r.1) c.args.rows.now c.args.name.now
+returns-in_err-found c = c.from_residual.ensures ∙ ap (option_map (λ (r : CodedRow). r.1)) c.in_err-found.ensures
+    ∙ found (λ (r : CodedRow). row r.0.now r.1) c.args.rows.now c.args.name.now
 
 pub returns : goal.returns
-returns c = ap (option_map (λ (r : CodedRow). r.1)) c.in_ok-found.ensures ∙ found (λ (r : CodedRow). row r.0.now r.1) c.args.rows.now c.args.name.now
+returns c = ap (option_map (λ (r : CodedRow). r.1)) c.in_ok-found.ensures
+    ∙ found (λ (r : CodedRow). row r.0.now r.1) c.args.rows.now c.args.name.now

@@ -4,7 +4,8 @@ use Rattle.m51_sfr.proofs.searching.bit_among.Goals as goal
 
 pub returns-in-Some : goal.returns-in-Some
 returns-in-Some c =
-    among_here c.args.rows.now c.loop-row.row-index _ c.args.name.now c.in-Some.address c.bit_of.result c.loop-row-test.true
+    among_here c.args.rows.now c.loop-row.row-index _ c.args.name.now c.in-Some.address c.bit_of.result
+    c.loop-row-test.true
     c.loop-row.invariant c.bit_of.ensures c.in-Some.is
 
 pub loop-row-preserved : goal.loop-row-preserved

@@ -9,7 +9,8 @@ pub loop-done-preserved-in-Ok : goal.loop-done-preserved-in-Ok
 loop-done-preserved-in-Ok g c =
     let done = c.loop-done.done in
     let bytes = c.args.bytes.now in
-    let front = ap (λ part. take done bytes ++ take c.in-Ok.count part) (take_rest bytes done) ∙ sym (take-add done c.in-Ok.count bytes) in
+    let front = ap (λ part. take done bytes ++ take c.in-Ok.count part) (take_rest bytes done)
+    ∙ sym (take-add done c.in-Ok.count bytes) in
     record {
       within = search rules;
       tries = search rules;

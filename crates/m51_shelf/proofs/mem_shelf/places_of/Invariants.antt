@@ -5,6 +5,6 @@ use Rattle.m51_shelf.proofs.mem_shelf.places_of.Given as goal
 
 abbrev pub invariant-loop : goal.invariant-loop
 invariant-loop l = record {
-  count : length l.places.items ≡ l.counter;
-  room : All (IsPlace l.room) l.places.items;
+  count : length l.buffers.items ≡ l.counter;
+  room : All (IsPlace l.room) l.buffers.items;
 }

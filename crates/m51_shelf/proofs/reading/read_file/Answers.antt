@@ -5,7 +5,8 @@ use Rattle.m51_shelf.proofs.reading.read_file.Goals as goal
 
 pub returns-clause-given : goal.returns-clause-given
 returns-clause-given g c =
-    started_given (g.F.Shelf.state c.args.files.now).reads (g.F.Shelf.state c.start.new.self).reads (g.F.Shelf.state c.read_open.new.files).reads
+    started_given (g.F.Shelf.state c.args.files.now).reads (g.F.Shelf.state c.start.new.self).reads
+    (g.F.Shelf.state c.read_open.new.files).reads
     (string_bytes c.args.name) c.read_open.result c.in_ok-start.ensures.given c.read_open.ensures.given
 
 pub returns-in_err-start-clause-given : goal.returns-in_err-start-clause-given

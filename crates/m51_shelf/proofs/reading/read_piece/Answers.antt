@@ -9,16 +9,20 @@ pub returns-clause-taken : goal.returns-clause-taken
 returns-clause-taken g c =
     let piece = c.in_ok-count.ensures in
     let room : c.len.result ≡ length c.args.bytes.now.items = search rules in
-    taken_on (g.F.Shelf.state c.args.files.now).reads (g.F.Shelf.state c.piece.new.self).reads c.args.bytes.now.items c.piece.new.into c.append.new.bytes.items c.in_ok-count.count
+    taken_on (g.F.Shelf.state c.args.files.now).reads
+    (g.F.Shelf.state c.piece.new.self).reads c.args.bytes.now.items c.piece.new.into c.append.new.bytes.items
+    c.in_ok-count.count
     c.requires.taken c.requires.few piece.opened piece.ready piece.taken piece.bound
-    (grind (arith, common_steps, room, c.piece.auto.into)) (grind (arith, common_steps, room, c.piece.auto.into)) (grind (arith, common_steps, room, c.piece.auto.into)) piece.piece c.in_ok-append.ensures
+    (grind (arith, common_steps, room, c.piece.auto.into)) (grind (arith, common_steps, room, c.piece.auto.into))
+    (grind (arith, common_steps, room, c.piece.auto.into)) piece.piece c.in_ok-append.ensures
 
 pub returns-clause-given : goal.returns-clause-given
 returns-clause-given g c =
     let room : c.len.result ≡ length c.args.bytes.now.items = search rules in
     record {
       piece = _;
-      most = most_with c.args.bytes.now.items c.piece.new.into c.in_ok-count.count c.requires.few c.in_ok-count.ensures.bound (grind (arith, common_steps, room, c.piece.auto.into));
+      most = most_with c.args.bytes.now.items c.piece.new.into c.in_ok-count.count c.requires.few
+          c.in_ok-count.ensures.bound (grind (arith, common_steps, room, c.piece.auto.into));
       goes = c.in_ok-count.ensures.given;
       all = c.in_ok-append.ensures;
     }
@@ -39,7 +43,8 @@ returns-in_err-append-clause-given g c =
     let room : c.len.result ≡ length c.args.bytes.now.items = search rules in
     rw (p.1) (record {
       piece = _;
-      most = most_with c.args.bytes.now.items c.piece.new.into c.in_ok-count.count c.requires.few c.in_ok-count.ensures.bound (grind (arith, common_steps, room, c.piece.auto.into));
+      most = most_with c.args.bytes.now.items c.piece.new.into c.in_ok-count.count c.requires.few
+          c.in_ok-count.ensures.bound (grind (arith, common_steps, room, c.piece.auto.into));
       goes = c.in_ok-count.ensures.given;
       all = tt;
     })

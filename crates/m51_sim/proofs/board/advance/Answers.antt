@@ -1,8 +1,4 @@
-use Rattle.std.proofs.Common.{ap}
-use Rattle.m51_sim.specs.Allowed.{Allowed}
-use Rattle.m51_sim.specs.SeparateMachine.{Separate}
-use Rattle.m51_sim.specs.Boards.{memory_of}
-use Rattle.m51_sim.specs.Cycles.{inputs_of, with_extra}
+use Rattle.m51_sim.proofs.Common.{ap, Allowed, Separate, held_memory, inputs_of, with_extra}
 use Rattle.m51_sim.proofs.Fitting.{order_after}
 use Rattle.m51_sim.proofs.Passes.{IsPassed, passed_keeps, step_done, step_stopped}
 use Rattle.m51_sim.proofs.board.advance.Goals as goal
@@ -33,8 +29,9 @@ returns-in-Ok-clause-order c =
 pub returns-in-Ok-clause-step : goal.returns-in-Ok-clause-step
 returns-in-Ok-clause-step c =
     let inputs = with_extra c.args.extra.now (inputs_of c.args.chip.now.script) in
-    step_done c.args.monitor.now.layout c.args.chip.now.image inputs c.args.chip.now (memory_of c.args.monitor.now)
-    c.pass.new.self (memory_of c.commit.new.monitor)
+    step_done c.args.monitor.now.layout c.args.chip.now.image inputs c.args.chip.now
+    (held_memory c.args.monitor.now)
+    c.pass.new.self (held_memory c.commit.new.monitor)
     (record { effect = c.judge.new.effect; step = c.in-Ok.step }) c.pass.result
     c.in-Ok.ensures.value c.commit.ensures.memory
     (record { port = c.pass.ensures.port; passed = c.pass.ensures.passed })
@@ -42,5 +39,6 @@ returns-in-Ok-clause-step c =
 pub returns-in-Err-clause-step : goal.returns-in-Err-clause-step
 returns-in-Err-clause-step c =
     let inputs = with_extra c.args.extra.now (inputs_of c.args.chip.now.script) in
-    step_stopped c.args.monitor.now.layout c.args.chip.now.image inputs c.args.chip.now (memory_of c.args.monitor.now)
+    step_stopped c.args.monitor.now.layout c.args.chip.now.image inputs c.args.chip.now
+    (held_memory c.args.monitor.now)
     c.in-Err.event c.in-Err.ensures.value

@@ -1,8 +1,5 @@
-use Rattle.std.proofs.Common.{subst}
-use Rattle.m51_sim.specs.Boards.{memory_of, state_with}
-use Rattle.m51_sim.specs.Cycles.{Inputs, inputs_of}
-use Rattle.m51_sim.specs.Run.{IsAdvance}
-use Rattle.m51_sim.specs.SeparateMachine.{separate_machine}
+use Rattle.m51_sim.proofs.Common.{subst, held_memory, Inputs, inputs_of, IsAdvance, separate_machine}
+use Rattle.m51_sim.specs.Boards.{state_with}
 use Rattle.m51_sim.proofs.Passes.{no_extra, none_are_few}
 use Rattle.m51_sim.proofs.board.advance_alone.Goals as goal
 
@@ -11,7 +8,7 @@ advance-requires-clause-few c = none_are_few
 
 pub returns-clause-step : goal.returns-clause-step
 returns-clause-step c =
-    let old = state_with c.args.chip.now (memory_of c.args.monitor.now) in
+    let old = state_with c.args.chip.now (held_memory c.args.monitor.now) in
     subst (λ (inputs : Inputs). IsAdvance (separate_machine c.args.monitor.now.layout c.args.chip.now.image inputs old)
-    c.advance.result old (state_with c.advance.new.chip (memory_of c.advance.new.monitor)))
+    c.advance.result old (state_with c.advance.new.chip (held_memory c.advance.new.monitor)))
     (no_extra (inputs_of c.args.chip.now.script)) c.advance.ensures.step

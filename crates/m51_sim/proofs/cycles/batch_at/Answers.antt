@@ -1,4 +1,4 @@
-use Rattle.std.proofs.Common.{arith, false}
+use Rattle.m51_sim.proofs.Common.{arith, false}
 use Rattle.m51_sim.proofs.FurtherFrames.{count_step, frames_fit, frames_step}
 use Rattle.m51_sim.proofs.cycles.batch_at.Goals as goal
 

@@ -1,5 +1,4 @@
-use Rattle.std.proofs.Common.{◌≡◌, length, take}
-use Rattle.m51_sim.specs.Cycles.{frames_in}
+use Rattle.m51_sim.proofs.Common.{◌≡◌, length, take, frames_in}
 use Rattle.m51_sim.proofs.cycles.batch_at.Given as goal
 
 abbrev pub invariant-loop-timed : goal.invariant-loop-timed

@@ -1,5 +1,4 @@
-use Rattle.std.proofs.Common.{refl}
-use Rattle.m51_sim.specs.Cycles.{inputs_of, with_extra}
+use Rattle.m51_sim.proofs.Common.{refl, inputs_of, with_extra}
 use Rattle.m51_sim.proofs.Passes.{cycle_is}
 use Rattle.m51_sim.proofs.cycles.pass_cycle.Goals as goal
 

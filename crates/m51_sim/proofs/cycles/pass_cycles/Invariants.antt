@@ -1,5 +1,5 @@
-use Rattle.std.proofs.Common.{◌≡◌}
-use Rattle.m51_sim.specs.Cycles.{cycles_passed, inputs_of, with_extra}
+use Rattle.m51_sim.proofs.Common.{◌≡◌, inputs_of, with_extra}
+use Rattle.m51_sim.specs.Cycles.{cycles_passed}
 use Rattle.m51_sim.proofs.cycles.pass_cycles.Given as goal
 
 abbrev pub invariant-loop : goal.invariant-loop

@@ -1,6 +1,4 @@
-use Rattle.std.proofs.Common.{subst}
-use Rattle.m51_sim.specs.Boards.{map_of}
-use Rattle.m51_sim.specs.Cycles.{Inputs, inputs_of}
+use Rattle.m51_sim.proofs.Common.{subst, map_of, Inputs, inputs_of}
 use Rattle.m51_sim.proofs.Passes.{IsPassed, flat_done, flat_stopped, no_extra, none_are_few}
 use Rattle.m51_sim.proofs.flat_board.advance.Goals as goal
 

@@ -1,5 +1,4 @@
-use Rattle.m51_sim.specs.Boards.{map_of}
-use Rattle.m51_sim.specs.Cycles.{inputs_of}
+use Rattle.m51_sim.proofs.Common.{map_of, inputs_of}
 use Rattle.m51_sim.proofs.Flatly.{effect_done, effect_down}
 use Rattle.m51_sim.proofs.Values.{flat_whole}
 use Rattle.m51_sim.proofs.flat_board.execute.Goals as goal

@@ -1,4 +1,4 @@
-use Rattle.std.proofs.Common.{sym}
+use Rattle.m51_sim.proofs.Common.{sym}
 use Rattle.m51_flat.proofs.Flat.{none_shut}
 use Rattle.m51_sim.proofs.Values.{put_map}
 use Rattle.m51_sim.proofs.flat_board.put.Goals as goal

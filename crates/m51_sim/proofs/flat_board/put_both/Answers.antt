@@ -1,5 +1,4 @@
-use Rattle.std.proofs.Common.{ap, ◌∙◌}
-use Rattle.m51_sim.specs.FlatMachine.{map_after}
+use Rattle.m51_sim.proofs.Common.{ap, ◌∙◌, map_after}
 use Rattle.m51_sim.proofs.flat_board.put_both.Goals as goal
 
 pub returns : goal.returns

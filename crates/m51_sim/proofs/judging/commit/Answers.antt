@@ -1,5 +1,4 @@
-use Rattle.std.proofs.Common.{refl}
-use Rattle.m51_sim.specs.Boards.{stores_read}
+use Rattle.m51_sim.proofs.Common.{refl, stores_read}
 use Rattle.m51_sim.proofs.StoresRead.{read_same}
 use Rattle.m51_sim.proofs.judging.commit.Goals as goal
 

@@ -1,6 +1,6 @@
+use Rattle.m51_sim.proofs.Common.{stores_read}
 use Rattle.m51_monitor.specs.Shared.{shared_cells}
 use Rattle.m51_flat.specs.Outcome.{outcome_by}
-use Rattle.m51_sim.specs.Boards.{stores_read}
 use Rattle.m51_sim.proofs.Preparing.{instr_ready}
 use Rattle.m51_sim.proofs.judging.instr_outcome.Goals as goal
 

@@ -1,5 +1,4 @@
-use Rattle.std.proofs.Common.{sym, ap, ◌∙◌}
-use Rattle.m51_monitor.specs.Transfers.{is_at}
+use Rattle.m51_sim.proofs.Common.{sym, ap, ◌∙◌, is_at}
 use Rattle.m51_monitor.proofs.Finding.{same_unit_found}
 use Rattle.m51_sim.proofs.judging.is_inside.Goals as goal
 

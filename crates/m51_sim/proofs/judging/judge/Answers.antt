@@ -1,5 +1,4 @@
-use Rattle.std.proofs.Common.{◌≡◌, Some, sym, subst, ◌∙◌}
-use Rattle.m51_flat.specs.declared.state.Cpu.{Cpu}
+use Rattle.m51_sim.proofs.Common.{◌≡◌, Some, sym, subst, ◌∙◌, Cpu}
 use Rattle.m51_irq.specs.Choice.{chosen}
 use Rattle.m51_sim.proofs.Preparing.{attempt_taken}
 use Rattle.m51_sim.proofs.judging.judge.Goals as goal

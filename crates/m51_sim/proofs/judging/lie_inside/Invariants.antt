@@ -1,6 +1,5 @@
-use Rattle.std.proofs.Common.{◌≡◌, true}
-use Rattle.m51_sim.specs.SeparateMachine.{lie_inside}
+use Rattle.m51_sim.proofs.Common.{◌≡◌, true, lie_inside}
 use Rattle.m51_sim.proofs.judging.lie_inside.Given as goal
 
-abbrev pub invariant-loop-place : goal.invariant-loop-place
-invariant-loop-place l = lie_inside l.monitor.layout l.unit l.pc l.place ≡ true
+abbrev pub invariant-loop-index : goal.invariant-loop-index
+invariant-loop-index l = lie_inside l.monitor.layout l.unit l.pc l.index ≡ true

@@ -1,4 +1,4 @@
-use Rattle.std.proofs.Common.{sym, ap, ◌∙◌}
+use Rattle.m51_sim.proofs.Common.{sym, ap, ◌∙◌}
 use Rattle.m51_sim.specs.SeparateMachine.{unwritten_in}
 use Rattle.m51_sim.proofs.Segments.{segment_is, segment_below}
 use Rattle.m51_sim.proofs.judging.unwritten.Goals as goal

@@ -1,5 +1,4 @@
-use Rattle.std.proofs.Common.{◌≡◌, ap, ◌∙◌, arith}
-use Rattle.m51_sim.specs.Runs.{State}
+use Rattle.m51_sim.proofs.Common.{◌≡◌, ap, ◌∙◌, arith, State}
 use Rattle.m51_sim.proofs.Counting.{counting_on, counting_start, last_at_event, tally_at_event}
 use Rattle.m51_sim.proofs.Sums.{stays}
 use Rattle.m51_sim.proofs.runs.count_run.Goals as goal

@@ -1,4 +1,4 @@
-use Rattle.std.proofs.Common.{◌≡◌}
+use Rattle.m51_sim.proofs.Common.{◌≡◌}
 use Rattle.m51_sim.proofs.Counting.{IsCounting}
 use Rattle.m51_sim.proofs.runs.count_run.Given as goal
 

@@ -1,6 +1,5 @@
-use Rattle.std.proofs.Common.{◌≡◌, ap, ◌∙◌, arith}
+use Rattle.m51_sim.proofs.Common.{◌≡◌, ap, ◌∙◌, arith, State}
 use Rattle.m51_print.specs.Lines.{titles_of}
-use Rattle.m51_sim.specs.Runs.{State}
 use Rattle.m51_sim.proofs.Sums.{stays}
 use Rattle.m51_sim.proofs.Going.{going_start, going_on, cut_in_entry, over_at_event, over_at_last, whole_at_end}
 use Rattle.m51_sim.proofs.Going.{cut_at_end}

@@ -1,4 +1,4 @@
-use Rattle.std.proofs.Common.{◌≡◌, ◌≤◌}
+use Rattle.m51_sim.proofs.Common.{◌≡◌, ◌≤◌}
 use Rattle.m51_sim.proofs.Going.{IsGoing}
 use Rattle.m51_sim.proofs.runs.run.Given as goal
 

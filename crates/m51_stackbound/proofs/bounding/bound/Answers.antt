@@ -1,7 +1,5 @@
-use Rattle.std.proofs.Common.{subst, sym, List}
-use Rattle.m51_stackbound.specs.declared.point.Point.{Point}
-use Rattle.m51_stackbound.specs.Points.{first_points}
-use Rattle.m51_stackbound.specs.Search.{ArePoints, Finds}
+use Rattle.m51_stackbound.proofs.Common.{subst, sym, List, Point, first_points, ArePoints}
+use Rattle.m51_stackbound.specs.Search.{Finds}
 use Rattle.m51_stackbound.proofs.bounding.bound.Goals as goal
 
 pub judged-requires-clause-points : goal.judged-requires-clause-points

@@ -1,4 +1,4 @@
-use Rattle.std.proofs.Common.{subst}
+use Rattle.m51_stackbound.proofs.Common.{subst}
 use Rattle.m51_stackbound.specs.Above.{IsTangle}
 use Rattle.m51_stackbound.proofs.bounding.bound_of.Goals as goal
 

@@ -1,4 +1,4 @@
-use Rattle.std.proofs.Common.{inl}
+use Rattle.m51_stackbound.proofs.Common.{inl}
 use Rattle.m51_stackbound.proofs.Deciding.{above_by}
 use Rattle.m51_stackbound.proofs.bounding.is_above.Goals as goal
 

@@ -1,10 +1,6 @@
-use Rattle.std.proofs.Common.{◌≡◌, ℕ, Bool, true, List, refl, sym, subst}
-use Rattle.std.specs.List.{Contains}
-use Rattle.m51_module.specs.declared.stack_bound.StackBound.{StackBound}
-use Rattle.m51_module.specs.Plan.{IsRootAt, IsUnitAt}
-use Rattle.m51_stackbound.specs.declared.paths.Next.{Next}
-use Rattle.m51_stackbound.specs.Listing.{AreListed, is_noted}
-use Rattle.m51_stackbound.specs.Nexts.{AreRows, AreTables}
+use Rattle.m51_stackbound.proofs.Common.{◌≡◌, ℕ, Bool, true, List, refl, sym, subst, Contains, StackBound, IsRootAt}
+use Rattle.m51_stackbound.proofs.Common.{IsUnitAt, Next, AreListed, is_noted, AreRootRows}
+use Rattle.m51_stackbound.specs.Nexts.{AreTables}
 use Rattle.m51_stackbound.proofs.Deciding.{covered_noted, lists}
 use Rattle.m51_stackbound.proofs.Covering.{handler_root}
 use Rattle.m51_stackbound.proofs.Leading.{tables}
@@ -40,8 +36,8 @@ returns c =
     let b : StackBound = record { procs = c.of.result; roots = c.of-2.result; total = c.args.total } in
     let listed = subst (λ (starts : List Bool). AreListed l starts depths 65536 c.in_ok-procs.procs.items)
     c.deref.ensures.value c.in_ok-procs.ensures in
-    let rows = subst (λ (vs : List ℕ). AreRows l depths nexts vs c.in_ok-roots.roots.items) c.requires.vectors
-    (subst (λ (ns : List Next). AreRows l depths ns c.args.vectors.now c.in_ok-roots.roots.items)
+    let rows = subst (λ (vs : List ℕ). AreRootRows l depths nexts vs c.in_ok-roots.roots.items) c.requires.vectors
+    (subst (λ (ns : List Next). AreRootRows l depths ns c.args.vectors.now c.in_ok-roots.roots.items)
     c.deref-2.ensures.value c.in_ok-roots.ensures) in
     lists l image c.args.points.now depths nexts c.requires.points c.requires.depths c.requires.low
     c.in_ok-nexts.ensures c.in_ok-starts.starts.items c.in_ok-procs.procs.items c.in_ok-roots.roots.items

@@ -1,4 +1,4 @@
-use Rattle.std.proofs.Common.{subst}
+use Rattle.m51_stackbound.proofs.Common.{subst}
 use Rattle.m51_stackbound.specs.Bounds.{HasFirstCyclic}
 use Rattle.m51_stackbound.proofs.bounding.tangle.Goals as goal
 

@@ -1,6 +1,4 @@
-use Rattle.std.proofs.Common.{subst}
-use Rattle.m51_stackbound.specs.Bounds.{HasTwoHeights}
-use Rattle.m51_stackbound.specs.Rules.{IsLeast}
+use Rattle.m51_stackbound.proofs.Common.{subst, HasTwoHeights, IsLeast}
 use Rattle.m51_stackbound.proofs.bounding.twice.Goals as goal
 
 pub returns-in-Some : goal.returns-in-Some

@@ -1,11 +1,8 @@
-use Rattle.std.proofs.Common.{◌≡◌, ◌+◌, ◌++◌, List, [], Option, get_or, take, sym, ap, ◌∙◌}
+use Rattle.m51_stackbound.proofs.Common.{◌≡◌, ◌+◌, ◌++◌, List, [], Option, get_or, take, sym, ap, ◌∙◌, Reset, Call}
+use Rattle.m51_stackbound.proofs.Common.{Point, calls_of, call_of, point_at}
 use Rattle.std.specs.List.{cons_option}
 use Rattle.std.proofs.lemmas.List.{append-nil}
-use Rattle.m51_module.specs.declared.start.Start.TheVariants.{Reset}
-use Rattle.m51_stackbound.specs.declared.calls.Call.{Call}
-use Rattle.m51_stackbound.specs.declared.point.Point.{Point}
-use Rattle.m51_stackbound.specs.Callers.{call_from, calls_of}
-use Rattle.m51_stackbound.specs.Points.{call_of, point_at}
+use Rattle.m51_stackbound.specs.Callers.{call_from}
 use Rattle.m51_stackbound.proofs.CallRows.{calls_more}
 use Rattle.m51_stackbound.proofs.calls.calls_in_order.Goals as goal
 use Rattle.m51_stackbound.proofs.calls.calls_in_order.Goals.{in-Some+in_ok-push-in-Some, in-None}

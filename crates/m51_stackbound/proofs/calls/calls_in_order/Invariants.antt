@@ -1,5 +1,4 @@
-use Rattle.std.proofs.Common.{◌≡◌, take}
-use Rattle.m51_stackbound.specs.Callers.{calls_of}
+use Rattle.m51_stackbound.proofs.Common.{◌≡◌, take, calls_of}
 use Rattle.m51_stackbound.proofs.calls.calls_in_order.Given as goal
 
 abbrev pub invariant-loop-point : goal.invariant-loop-point

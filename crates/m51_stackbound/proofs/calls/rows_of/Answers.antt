@@ -1,7 +1,4 @@
-use Rattle.std.proofs.Common.{get_or, take, arith}
-use Rattle.std.proofs.lemmas.List.{take_more}
-use Rattle.m51_module.specs.declared.start.Start.TheVariants.{Reset}
-use Rattle.m51_stackbound.specs.declared.calls.Call.{Call}
+use Rattle.m51_stackbound.proofs.Common.{get_or, take, arith, take_more, Reset, Call}
 use Rattle.m51_stackbound.proofs.CallRows.{rows_more, rows_none}
 use Rattle.m51_stackbound.proofs.calls.rows_of.Goals as goal
 

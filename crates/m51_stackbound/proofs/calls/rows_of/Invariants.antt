@@ -1,4 +1,4 @@
-use Rattle.std.proofs.Common.{take}
+use Rattle.m51_stackbound.proofs.Common.{take}
 use Rattle.m51_stackbound.specs.Callers.{AreRowsOf}
 use Rattle.m51_stackbound.proofs.calls.rows_of.Given as goal
 

@@ -1,8 +1,7 @@
-use Rattle.std.proofs.Common.{◌≡◌, ◌+◌, ℕ, Bool, ◌||◌, get_or, take, sym, ap, subst, ◌∙◌, arith}
-use Rattle.std.proofs.lemmas.List.Elements.{Contains-get_or}
-use Rattle.m51_module.specs.declared.start.Start.TheVariants.{Reset}
-use Rattle.m51_stackbound.specs.declared.calls.Call.{Call}
-use Rattle.m51_stackbound.specs.Climb.{IsRaised, Raises, depth_by}
+use Rattle.m51_stackbound.proofs.Common.{◌≡◌, ◌+◌, ℕ, Bool, get_or, take, sym, ap, subst, ◌∙◌, arith, Contains-get_or}
+use Rattle.m51_stackbound.proofs.Common.{Reset, Call, IsRaised, Raises}
+use Rattle.std.proofs.Common.{◌||◌}
+use Rattle.m51_stackbound.specs.Climb.{depth_by}
 use Rattle.m51_stackbound.proofs.Raised.{raised_next, raised_none}
 use Rattle.m51_stackbound.proofs.climbing.raise_all.Goals as goal
 use Rattle.m51_stackbound.proofs.climbing.raise_all.Goals.{then-raise, else-raise}

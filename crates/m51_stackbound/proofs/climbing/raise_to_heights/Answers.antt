@@ -1,9 +1,4 @@
-use Rattle.std.proofs.Common.{ℕ, get_or, arith, subst}
-use Rattle.std.proofs.lemmas.List.Elements.{Contains-get_or}
-use Rattle.m51_stackbound.specs.declared.point.Point.{Point}
-use Rattle.m51_module.specs.declared.start.Start.TheVariants.{Reset}
-use Rattle.m51_stackbound.specs.Climb.{Raises}
-use Rattle.m51_stackbound.specs.Points.{point_at}
+use Rattle.m51_stackbound.proofs.Common.{ℕ, get_or, arith, subst, Contains-get_or, Point, Reset, Raises, point_at}
 use Rattle.m51_stackbound.proofs.Raised.{climbing_next, climbing_none}
 use Rattle.m51_stackbound.proofs.climbing.raise_to_heights.Goals as goal
 

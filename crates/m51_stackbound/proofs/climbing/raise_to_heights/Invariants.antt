@@ -1,5 +1,4 @@
-use Rattle.std.proofs.Common.{take}
-use Rattle.m51_stackbound.specs.Climb.{IsClimbing}
+use Rattle.m51_stackbound.proofs.Common.{take, IsClimbing}
 use Rattle.m51_stackbound.proofs.climbing.raise_to_heights.Given as goal
 
 abbrev pub invariant-loop-point : goal.invariant-loop-point

@@ -1,7 +1,5 @@
-use Rattle.std.proofs.Common.{ℕ, ◌<◌}
-use Rattle.m51_module.specs.declared.start.Start.TheVariants.{At}
-use Rattle.m51_stackbound.specs.Bounds.{IsCyclic}
+use Rattle.m51_stackbound.proofs.Common.{ℕ, ◌<◌, At, IsCyclic}
 use Rattle.m51_stackbound.proofs.cycling.first_cyclic.Given as goal
 
-abbrev pub invariant-loop-place : goal.invariant-loop-place
-invariant-loop-place l = (a : ℕ) → a < l.place → IsCyclic l.layout l.image (At a) → ⊥
+abbrev pub invariant-loop-address : goal.invariant-loop-address
+invariant-loop-address l = (a : ℕ) → a < l.address → IsCyclic l.layout l.image (At a) → ⊥

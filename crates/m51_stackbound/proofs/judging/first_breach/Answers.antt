@@ -1,10 +1,7 @@
-use Rattle.std.proofs.Common.{◌≡◌, ◌+◌, List, get_or, take, ap, sym, subst, ◌∙◌, Option, Some, arith}
-use Rattle.std.proofs.lemmas.List.{take_all}
-use Rattle.m51_stackbound.specs.declared.point.ReachedAddress.{ReachedAddress}
-use Rattle.m51_stackbound.specs.declared.point.Point.{Point}
-use Rattle.m51_module.specs.declared.start.Start.TheVariants.{Reset}
-use Rattle.m51_stackbound.specs.Points.{point_at}
-use Rattle.m51_stackbound.specs.Rules.{IsFirstBreach, lesser, place_of}
+use Rattle.m51_stackbound.proofs.Common.{◌≡◌, ◌+◌, List, get_or, take, ap, sym, subst, ◌∙◌, Option, Some, arith}
+use Rattle.m51_stackbound.proofs.Common.{take_all, ReachedAddress, Point, Reset, point_at, IsFirstBreach}
+use Rattle.m51_stackbound.proofs.Common.{reached_address}
+use Rattle.m51_stackbound.specs.Rules.{lesser}
 use Rattle.m51_stackbound.proofs.Leasts.{breach_more, breach_passes}
 use Rattle.m51_stackbound.proofs.judging.first_breach.Goals as goal
 use Rattle.m51_stackbound.proofs.judging.first_breach.Goals.{then-breaks_at, else-breaks_at}
@@ -20,8 +17,9 @@ loop-point-preserved c =
     let none : Point = point_at Reset 0 0 in
     elim c.if-breaks_at.branch [
       | then-breaks_at w ↦
-          let is : Some (lesser least (place_of (get_or points i none))) ≡ c.if-breaks_at.least =
-          ap Some (ap (λ place. lesser least place) (sym w.place_of.ensures) ∙ sym w.lesser.ensures) ∙ sym w.least-is in
+          let is : Some (lesser least (reached_address (get_or points i none))) ≡ c.if-breaks_at.least =
+          ap Some (ap (λ reached. lesser least reached) (sym w.reached_address.ensures) ∙ sym w.lesser.ensures)
+          ∙ sym w.least-is in
           subst (λ (r : Option ReachedAddress). IsFirstBreach l image rule (take (i + 1) points) r) is
           (breach_more l image rule points i none least c.loop-point-test.true
           (sym c.breaks_at.ensures ∙ w.if-breaks_at.true) c.loop-point.invariant)

@@ -1,9 +1,5 @@
-use Rattle.std.proofs.Common.{◌+◌, List, get_or, take, refl, sym, subst, arith}
-use Rattle.std.proofs.lemmas.List.{take_all}
-use Rattle.m51_module.specs.declared.start.Start.TheVariants.{Reset}
-use Rattle.m51_stackbound.specs.declared.point.Point.{Point}
-use Rattle.m51_stackbound.specs.Listing.{AreStarts}
-use Rattle.m51_stackbound.specs.Points.{point_at}
+use Rattle.m51_stackbound.proofs.Common.{◌+◌, List, get_or, take, refl, sym, subst, arith, take_all, Reset, Point}
+use Rattle.m51_stackbound.proofs.Common.{AreStarts, point_at}
 use Rattle.m51_stackbound.proofs.Procs.{starts_more}
 use Rattle.m51_stackbound.proofs.listing.note_starts.Goals as goal
 

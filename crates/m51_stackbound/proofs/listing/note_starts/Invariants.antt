@@ -1,5 +1,4 @@
-use Rattle.std.proofs.Common.{take}
-use Rattle.m51_stackbound.specs.Listing.{AreStarts}
+use Rattle.m51_stackbound.proofs.Common.{take, AreStarts}
 use Rattle.m51_stackbound.proofs.listing.note_starts.Given as goal
 
 abbrev pub invariant-loop-point : goal.invariant-loop-point

@@ -1,5 +1,5 @@
-use Rattle.m51_stackbound.specs.Listing.{AreListed}
+use Rattle.m51_stackbound.proofs.Common.{AreListed}
 use Rattle.m51_stackbound.proofs.listing.procs_of.Given as goal
 
-abbrev pub invariant-loop-place : goal.invariant-loop-place
-invariant-loop-place l = AreListed l.layout l.starts l.depths l.place l.procs.items
+abbrev pub invariant-loop-address : goal.invariant-loop-address
+invariant-loop-address l = AreListed l.layout l.starts l.depths l.address l.procs.items

@@ -1,8 +1,5 @@
-use Rattle.std.proofs.Common.{◌+◌, ◌++◌, ◌∷◌, [], get_or, take, sym, subst}
-use Rattle.std.proofs.lemmas.List.{take_more}
-use Rattle.std.proofs.lemmas.List.Elements.{Contains-get_or}
-use Rattle.m51_module.specs.declared.stack_bound.RootDepth.{RootDepth}
-use Rattle.m51_stackbound.specs.Nexts.{AreRows}
+use Rattle.m51_stackbound.proofs.Common.{◌+◌, ◌++◌, ◌∷◌, [], get_or, take, sym, subst, take_more, Contains-get_or}
+use Rattle.m51_stackbound.proofs.Common.{RootDepth, AreRootRows}
 use Rattle.m51_stackbound.proofs.Deciding.{rows_more}
 use Rattle.m51_stackbound.proofs.listing.roots_of.Goals as goal
 
@@ -20,7 +17,8 @@ loop-vector-preserved c =
     let i = c.loop-vector.vector-index in
     let old = c.loop-vector.roots.items in
     let handler : RootDepth = c.in_ok-handler.handler in
-    subst (λ rs. AreRows l depths nexts (take (i + 1) vectors) rs) (sym c.in_ok-push-2.ensures.items)
-    (subst (λ vs. AreRows l depths nexts vs (old ++ handler ∷ [])) (sym (take_more vectors i 0 c.loop-vector-test.true))
+    subst (λ rs. AreRootRows l depths nexts (take (i + 1) vectors) rs) (sym c.in_ok-push-2.ensures.items)
+    (subst (λ vs. AreRootRows l depths nexts vs (old ++ handler ∷ []))
+    (sym (take_more vectors i 0 c.loop-vector-test.true))
     (rows_more l depths nexts (take i vectors) (get_or vectors i 0) old handler c.loop-vector.invariant
     (record { root = c.root_number-root.result; is_root = c.root_number-root.ensures; row = c.in_ok-handler.ensures })))

@@ -1,5 +1,4 @@
-use Rattle.std.proofs.Common.{[], sym, subst, arith}
-use Rattle.m51_stackbound.specs.Listing.{AreStarts}
+use Rattle.m51_stackbound.proofs.Common.{[], sym, subst, arith, AreStarts}
 use Rattle.m51_stackbound.proofs.Procs.{starts_none}
 use Rattle.m51_stackbound.proofs.listing.starts_of.Goals as goal
 

@@ -1,4 +1,4 @@
-use Rattle.std.proofs.Common.{◌≡◌, length}
+use Rattle.m51_stackbound.proofs.Common.{◌≡◌, length}
 use Rattle.m51_stackbound.proofs.ordering.left_in_order.Given as goal
 
 abbrev pub invariant-loop : goal.invariant-loop

@@ -1,5 +1,4 @@
-use Rattle.std.proofs.Common.{[], sym, subst, arith}
-use Rattle.m51_stackbound.specs.Nexts.{AreNexts}
+use Rattle.m51_stackbound.proofs.Common.{[], sym, subst, arith, AreNexts}
 use Rattle.m51_stackbound.proofs.Ways.{nexts_none}
 use Rattle.m51_stackbound.proofs.paths.nexts_of.Goals as goal
 

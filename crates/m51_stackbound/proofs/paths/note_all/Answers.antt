@@ -1,11 +1,6 @@
-use Rattle.std.proofs.Common.{◌≡◌, ℕ, List, get_or, set, take, ap, subst, ◌∙◌, Option, arith}
-use Rattle.std.proofs.lemmas.List.{take_all}
-use Rattle.m51_module.specs.declared.start.Start.TheVariants.{Reset}
-use Rattle.m51_stackbound.specs.declared.paths.Next.{Next}
-use Rattle.m51_stackbound.specs.declared.point.Point.{Point}
-use Rattle.m51_stackbound.specs.Nexts.{AreNexts, earlier, next_by, next_in}
-use Rattle.m51_stackbound.specs.Points.{call_of, point_at}
-use Rattle.m51_stackbound.specs.Rules.{rank}
+use Rattle.m51_stackbound.proofs.Common.{◌≡◌, ℕ, List, get_or, set, take, ap, subst, ◌∙◌, Option, arith, take_all}
+use Rattle.m51_stackbound.proofs.Common.{Reset, Next, Point, AreNexts, next_in, call_of, point_at, rank}
+use Rattle.m51_stackbound.specs.Nexts.{earlier, next_by}
 use Rattle.m51_stackbound.proofs.Ways.{nexts_more}
 use Rattle.m51_stackbound.proofs.paths.note_all.Goals as goal
 

@@ -1,5 +1,4 @@
-use Rattle.std.proofs.Common.{take}
-use Rattle.m51_stackbound.specs.Nexts.{AreNexts}
+use Rattle.m51_stackbound.proofs.Common.{take, AreNexts}
 use Rattle.m51_stackbound.proofs.paths.note_all.Given as goal
 
 abbrev pub invariant-loop-point : goal.invariant-loop-point

@@ -1,4 +1,4 @@
-use Rattle.std.proofs.Common.{refl, sym, ◌∙◌}
+use Rattle.m51_stackbound.proofs.Common.{refl, sym, ◌∙◌}
 use Rattle.m51_stackbound.proofs.Leading.{passed_all, passed_more}
 use Rattle.m51_stackbound.proofs.paths.root_depth.Goals as goal
 

@@ -1,4 +1,4 @@
-use Rattle.m51_stackbound.specs.Climb.{depth_in}
+use Rattle.m51_stackbound.proofs.Common.{depth_in}
 use Rattle.m51_stackbound.specs.Nexts.{IsPassed}
 use Rattle.m51_stackbound.proofs.paths.root_depth.Given as goal
 

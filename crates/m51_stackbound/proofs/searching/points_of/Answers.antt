@@ -1,4 +1,4 @@
-use Rattle.m51_stackbound.specs.Points.{first_points}
+use Rattle.m51_stackbound.proofs.Common.{first_points}
 use Rattle.m51_stackbound.proofs.Reaching.{finds_ok, noted_differ}
 use Rattle.m51_stackbound.proofs.searching.points_of.Goals as goal
 

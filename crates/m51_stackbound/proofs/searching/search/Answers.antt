@@ -1,8 +1,4 @@
-use Rattle.std.proofs.Common.{List, get_or, subst, arith}
-use Rattle.m51_stackbound.specs.declared.point.Point.{Point}
-use Rattle.m51_module.specs.declared.start.Start.TheVariants.{Reset}
-use Rattle.m51_stackbound.specs.Points.{point_at, successors}
-use Rattle.m51_stackbound.specs.Search.{NotesAll}
+use Rattle.m51_stackbound.proofs.Common.{List, get_or, subst, arith, Point, Reset, point_at, successors, NotesAll}
 use Rattle.m51_stackbound.proofs.Reaching.{search_first, search_step, search_done}
 use Rattle.m51_stackbound.proofs.searching.search.Goals as goal
 

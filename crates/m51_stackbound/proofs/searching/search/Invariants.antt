@@ -1,4 +1,4 @@
-use Rattle.std.proofs.Common.{◌-◌}
+use Rattle.m51_stackbound.proofs.Common.{◌-◌}
 use Rattle.m51_stackbound.proofs.Reaching.{IsSearching}
 use Rattle.m51_stackbound.proofs.searching.search.Given as goal
 

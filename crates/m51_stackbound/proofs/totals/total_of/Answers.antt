@@ -1,7 +1,6 @@
-use Rattle.std.proofs.Common.{◌≡◌, ◌+◌, get_or, take, ap, sym, subst, ◌∙◌, arith}
-use Rattle.std.proofs.lemmas.List.{take_all}
+use Rattle.m51_stackbound.proofs.Common.{◌≡◌, ◌+◌, get_or, take, ap, sym, subst, ◌∙◌, arith, take_all, AreGreatest}
 use Rattle.m51_stackbound.specs.declared.totals.Greatest.{Greatest}
-use Rattle.m51_stackbound.specs.Totals.{added, with_bytes, AreGreatest}
+use Rattle.m51_stackbound.specs.Totals.{added, with_bytes}
 use Rattle.m51_stackbound.proofs.Adding.{greatest_more, greatest_none}
 use Rattle.m51_stackbound.proofs.totals.total_of.Goals as goal
 

@@ -1,5 +1,4 @@
-use Rattle.std.proofs.Common.{take}
-use Rattle.m51_stackbound.specs.Totals.{AreGreatest}
+use Rattle.m51_stackbound.proofs.Common.{take, AreGreatest}
 use Rattle.m51_stackbound.proofs.totals.total_of.Given as goal
 
 abbrev pub invariant-loop-vector : goal.invariant-loop-vector

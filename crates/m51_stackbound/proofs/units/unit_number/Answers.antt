@@ -1,5 +1,4 @@
-use Rattle.std.proofs.Common.{ap}
-use Rattle.std.specs.Prelude.{is_some}
+use Rattle.m51_stackbound.proofs.Common.{ap, is_some}
 use Rattle.m51_stackbound.proofs.units.unit_number.Goals as goal
 
 pub unwrap-requires : goal.unwrap-requires

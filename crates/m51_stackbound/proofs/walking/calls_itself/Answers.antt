@@ -1,4 +1,4 @@
-use Rattle.std.proofs.Common.{List, ℕ, subst}
+use Rattle.m51_stackbound.proofs.Common.{List, ℕ, subst}
 use Rattle.m51_stackbound.specs.Callers.{Walks}
 use Rattle.m51_stackbound.proofs.Walks.{walk_finds}
 use Rattle.m51_stackbound.proofs.walking.calls_itself.Goals as goal

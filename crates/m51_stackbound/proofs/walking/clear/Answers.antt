@@ -1,4 +1,4 @@
-use Rattle.std.proofs.Common.{arith}
+use Rattle.m51_stackbound.proofs.Common.{arith}
 use Rattle.m51_stackbound.proofs.Walks.{alone, closed_again, same_when}
 use Rattle.m51_stackbound.proofs.walking.clear.Goals as goal
 

@@ -1,6 +1,4 @@
-use Rattle.std.proofs.Common.{List, ℕ, Bool, get_or, arith, sym, subst}
-use Rattle.m51_cells.proofs.Small.{none_in_empty}
-use Rattle.m51_stackbound.specs.Callers.{AreCleared, IsClosed}
+use Rattle.m51_stackbound.proofs.Common.{List, ℕ, Bool, get_or, arith, sym, subst, none_in_empty, AreCleared, IsClosed}
 use Rattle.m51_stackbound.proofs.Walks.{cleared_more, cleared_none}
 use Rattle.m51_stackbound.proofs.walking.cleared.Goals as goal
 

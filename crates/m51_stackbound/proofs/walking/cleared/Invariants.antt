@@ -1,4 +1,4 @@
-use Rattle.m51_stackbound.specs.Callers.{AreCleared, IsClosed}
+use Rattle.m51_stackbound.proofs.Common.{AreCleared, IsClosed}
 use Rattle.m51_stackbound.proofs.walking.cleared.Given as goal
 
 abbrev pub invariant-loop-start : goal.invariant-loop-start

@@ -1,6 +1,6 @@
-use Rattle.std.proofs.Common.{◌≡◌, ◌<◌, ℕ, List, get_or, sym, ap, subst, ◌∙◌, arith, rules}
+use Rattle.m51_stackbound.proofs.Common.{◌≡◌, ◌<◌, ℕ, List, get_or, sym, ap, subst, ◌∙◌, arith, GoesOn, callee_row}
+use Rattle.std.proofs.Common.{rules}
 use Rattle.m51_module.proofs.KeptRows.{row_is}
-use Rattle.m51_stackbound.specs.Callers.{GoesOn, row_of}
 use Rattle.m51_stackbound.proofs.Walks.{IsWalking, walk_first, walk_step, walk_done}
 use Rattle.m51_stackbound.proofs.walking.walk.Goals as goal
 
@@ -8,8 +8,8 @@ pub loop-next-init : goal.loop-next-init
 loop-next-init c =
     let rows = c.args.rows.now in
     let few : c.args.from < 65536 = search rules in
-    let row : row_of rows c.args.from ≡ c.as_slice.result.now =
-    ap (row_of rows) (sym c.from.ensures)
+    let row : callee_row rows c.args.from ≡ c.as_slice.result.now =
+    ap (callee_row rows) (sym c.from.ensures)
     ∙ row_is rows c.from.result c.index-rows-from.result (omega (arith, c.from.ensures, c.requires, few))
     c.index-rows-from.is ∙ sym c.as_slice.ensures in
     let old = c.args.found.now in
@@ -27,8 +27,8 @@ loop-next-preserved c =
     let next = c.loop-next.next in
     let new = c.note_all-in-loop-next.new.self in
     let few : c.at-via.result < 65536 = search rules in
-    let row : row_of rows (get_or found next 0) ≡ c.as_slice-in-loop-next.result.now =
-    ap (row_of rows) (sym c.at-via.ensures ∙ sym c.from-in-loop-next.ensures)
+    let row : callee_row rows (get_or found next 0) ≡ c.as_slice-in-loop-next.result.now =
+    ap (callee_row rows) (sym c.at-via.ensures ∙ sym c.from-in-loop-next.ensures)
     ∙ row_is rows c.from-in-loop-next.result c.index-rows-from-in-loop-next.result
     (omega (arith, c.from-in-loop-next.ensures, c.requires, few)) c.index-rows-from-in-loop-next.is
     ∙ sym c.as_slice-in-loop-next.ensures in (

@@ -1,4 +1,4 @@
-use Rattle.std.proofs.Common.{◌-◌, ◌≤◌, length}
+use Rattle.m51_stackbound.proofs.Common.{◌-◌, ◌≤◌, length}
 use Rattle.m51_stackbound.proofs.Walks.{IsWalking}
 use Rattle.m51_stackbound.proofs.walking.walk.Given as goal
 

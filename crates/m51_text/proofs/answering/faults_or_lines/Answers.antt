@@ -9,15 +9,15 @@ pub returns-then-is_empty : goal.returns-then-is_empty
 returns-then-is_empty c =
     let empty : (length c.in_ok-faults.faults.items == 0) ≡ true = ap (λ n. n == 0) (sym c.in_ok-faults.faults.ok.0)
     ∙ sym c.is_empty.ensures ∙ c.if-is_empty.true in
-    let kept : c.in_ok-faults.faults.items ≡ filter_map fault_kept c.args.entries.items =
+    let kept : c.in_ok-faults.faults.items ≡ filter_map fault_kept c.args.read.entries.items =
     c.in_ok-faults.ensures ∙ ap (filter_map fault_kept) c.deref.ensures.value in
-    lines_told c.args.entries.items c.in_ok-faults.faults.items c.of.result empty kept
+    lines_told c.args.read c.in_ok-faults.faults.items c.of.result empty kept
     (c.of.ensures ∙ c.in_ok-lines.ensures)
 
 pub returns : goal.returns
 returns c =
     let some : (length c.in_ok-faults.faults.items == 0) ≡ false = ap (λ n. n == 0) (sym c.in_ok-faults.faults.ok.0)
     ∙ sym c.is_empty.ensures ∙ c.if-is_empty.false in
-    let kept : c.in_ok-faults.faults.items ≡ filter_map fault_kept c.args.entries.items =
+    let kept : c.in_ok-faults.faults.items ≡ filter_map fault_kept c.args.read.entries.items =
     c.in_ok-faults.ensures ∙ ap (filter_map fault_kept) c.deref.ensures.value in
-    ap Faults c.of-2.ensures ∙ faults_told c.args.entries.items c.in_ok-faults.faults.items some kept
+    ap Faults c.of-2.ensures ∙ faults_told c.args.read c.in_ok-faults.faults.items some kept

@@ -1,5 +1,5 @@
 use Rattle.std.proofs.Common.{◌≡◌, length, refl, subst}
-use Rattle.m51_hex.specs.Reading.{memory_from, refusal_of}
+use Rattle.m51_hex.specs.Reading.{memory_from, image_refusal}
 use Rattle.m51_module.specs.declared.image.TheConstants.{IMAGE_LEN}
 use Rattle.m51_verbs.specs.FlatRuns.{IsFlatWork, IsScripted, Read, Refused}
 use Rattle.m51_verbs.specs.Refusals.{hex_outcome}
@@ -16,7 +16,7 @@ returns-in-Ok c =
 
 pub returns-in_ok-refuse_hex-in-Err : goal.returns-in_ok-refuse_hex-in-Err
 returns-in_ok-refuse_hex-in-Err c =
-    refused_comes (IsFlatWork c.args.job.now c.args.file.now _) (refusal_of c.in-Err.error)
+    refused_comes (IsFlatWork c.args.job.now c.args.file.now _) (image_refusal c.in-Err.error)
     (hex_outcome c.args.job.now.file) _ (memory_from c.args.file.now)
     (rw c.as_str.ensures at c.in_ok-refuse_hex-in-Err.ensures) (rw c.as_slice.ensures at c.in-Err.ensures)
     (λ why is. Refused why is refl)

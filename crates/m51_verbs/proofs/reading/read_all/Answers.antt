@@ -1,6 +1,6 @@
 use Rattle.std.proofs.Common.{◌≡◌, ◌≤◌, ◌+◌, ◌∙◌, Err, arith, length, string_bytes, subst}
 use Rattle.m51_cells.specs.declared.limits.TheConstants.{MOST_FILE_BYTES}
-use Rattle.m51_shelf.specs.Reading.{IsRead, IsWhole}
+use Rattle.m51_shelf.specs.Reading.{IsRead, IsWholeFile}
 use Rattle.m51_shelf.proofs.Frames.{reads_then}
 use Rattle.m51_verbs.proofs.HandedOut.{given_file, given_more, given_some, reads_some}
 use Rattle.m51_verbs.proofs.Readings.{read_more, unread}
@@ -12,7 +12,7 @@ loop-name-preserved g c =
     let named : (g.F.Shelf.state c.read_file.new.files).reads.named ≡ c.name-item.result =
     c.in-Ok.ensures.named ∙ text in
     let before = c.loop-name.invariant in
-    let whole : IsWhole (g.F.Shelf.state c.args.files.now).holds (g.F.Shelf.state c.read_file.new.files).reads
+    let whole : IsWholeFile (g.F.Shelf.state c.args.files.now).holds (g.F.Shelf.state c.read_file.new.files).reads
     c.in-Ok.bytes = rw before.frame.holds at c.in-Ok.ensures.read in
     let few : length c.in-Ok.bytes ≤ MOST_FILE_BYTES + 1 = omega (arith, whole.within) in
     let file = given_file (g.F.Shelf.state c.loop-name.files).reads (g.F.Shelf.state c.read_file.new.files).reads

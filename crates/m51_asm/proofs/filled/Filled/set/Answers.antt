@@ -1,5 +1,4 @@
-use Rattle.std.proofs.Common.{◌==◌, cond, ap, ◌∙◌}
-use Rattle.m51_asm.specs.Filled.{size_in}
+use Rattle.m51_asm.proofs.Common.{◌==◌, cond, ap, ◌∙◌, size_in}
 use Rattle.m51_asm.proofs.FilledSizes.{set_one}
 use Rattle.m51_asm.proofs.filled.Filled.set.Goals as goal
 

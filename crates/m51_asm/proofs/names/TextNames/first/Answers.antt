@@ -1,8 +1,4 @@
-use Rattle.std.proofs.Common.{ap, ◌∙◌, ℕ}
-use Rattle.std.specs.Global.{Vec}
-use Rattle.std.specs.Map.{lookup}
-use Rattle.std.specs.Str.{bytes_eq}
-use Rattle.m51_asm.specs.Table.{first_in}
+use Rattle.m51_asm.proofs.Common.{ap, ◌∙◌, ℕ, Vec, lookup, bytes_eq, first_in}
 use Rattle.m51_asm.proofs.NamedEntries.{lookup_is}
 use Rattle.m51_asm.proofs.names.TextNames.first.Goals as goal
 

@@ -1,4 +1,4 @@
-use Rattle.std.proofs.Common.{◌≡◌, ◌||◌, drop}
+use Rattle.m51_asm.proofs.Common.{◌≡◌, ◌||◌, drop}
 use Rattle.m51_asm.specs.Table.{all_noted, any_clash}
 use Rattle.m51_asm.proofs.names.TextNames.note_all.Given as goal
 

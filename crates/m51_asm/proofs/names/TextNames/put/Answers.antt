@@ -1,5 +1,5 @@
-use Rattle.std.proofs.Common.{◌≡◌, ◌++◌, ◌∷◌, [], ap, ◌∙◌, None}
-use Rattle.m51_asm.specs.Table.{entries_of, first_in}
+use Rattle.m51_asm.proofs.Common.{◌≡◌, ◌++◌, ◌∷◌, [], ap, ◌∙◌, None, first_in}
+use Rattle.m51_asm.specs.Table.{entries_of}
 use Rattle.m51_asm.proofs.NamedEntries.{put_last}
 use Rattle.m51_asm.proofs.names.TextNames.put.Goals as goal
 

@@ -1,6 +1,4 @@
-use Rattle.std.proofs.Common.{ap, sym, refl}
-use Rattle.m51_asm.specs.Above.{value_in}
-use Rattle.m51_asm.specs.Filled.{size_in}
+use Rattle.m51_asm.proofs.Common.{ap, sym, refl, value_in, size_in}
 use Rattle.m51_asm.proofs.PlacedLines.{at_start}
 use Rattle.m51_asm.proofs.placing.PassOneState.start.Goals as goal
 

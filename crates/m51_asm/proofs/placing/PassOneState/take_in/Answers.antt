@@ -1,11 +1,6 @@
-use Rattle.std.proofs.Common.{rules, ◌≡◌, ap, map, refl, ◌∙◌}
+use Rattle.m51_asm.proofs.Common.{rules, ◌≡◌, ap, map, refl, ◌∙◌, line_tree, Giving, definitions_in, brief, value_in}
+use Rattle.m51_asm.proofs.Common.{given_or}
 use Rattle.m51_stmt.specs.Statement.{stmt_tree}
-use Rattle.m51_text.specs.Answer.{line_tree}
-use Rattle.m51_asm.specs.declared.giving.Giving.{Giving}
-use Rattle.m51_asm.specs.Definitions.{definitions_in}
-use Rattle.m51_asm.specs.Table.{brief}
-use Rattle.m51_asm.specs.Above.{value_in}
-use Rattle.m51_asm.specs.GivenValues.{given_or}
 use Rattle.m51_asm.proofs.GivenValues.{have_numbers}
 use Rattle.m51_asm.proofs.GoodLines.{free}
 use Rattle.m51_asm.proofs.PlacedLines.{at_next}

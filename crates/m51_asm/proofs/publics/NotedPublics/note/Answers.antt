@@ -1,8 +1,4 @@
-use Rattle.std.proofs.Common.{◌≡◌, ℕ, not, map, ap, ◌∙◌}
-use Rattle.std.specs.Global.{Vec}
-use Rattle.std.specs.List.{list_any}
-use Rattle.std.specs.Str.{bytes_eq}
-use Rattle.m51_asm.specs.Table.{made_public}
+use Rattle.m51_asm.proofs.Common.{◌≡◌, ℕ, not, map, ap, ◌∙◌, Vec, list_any, bytes_eq, made_public}
 use Rattle.m51_asm.proofs.PublicKeys.{keys_any, twice, key_put}
 use Rattle.m51_asm.proofs.publics.NotedPublics.note.Goals as goal
 

@@ -1,4 +1,4 @@
-use Rattle.std.proofs.Common.{◌≡◌, ◌||◌, drop}
+use Rattle.m51_asm.proofs.Common.{◌≡◌, ◌||◌, drop}
 use Rattle.m51_asm.specs.Table.{all_public, any_public}
 use Rattle.m51_asm.proofs.publics.NotedPublics.note_all.Given as goal
 

@@ -1,8 +1,5 @@
-use Rattle.std.proofs.Common.{ap, ◌∙◌, ℕ}
-use Rattle.std.specs.Global.{Vec}
-use Rattle.std.specs.Map.{lookup}
-use Rattle.std.specs.Str.{bytes_eq}
-use Rattle.m51_asm.specs.Above.{value_in, known}
+use Rattle.m51_asm.proofs.Common.{ap, ◌∙◌, ℕ, Vec, lookup, bytes_eq, value_in}
+use Rattle.m51_asm.specs.Above.{known}
 use Rattle.m51_asm.proofs.KeptMeanings.{lookup_value}
 use Rattle.m51_asm.proofs.valuation.Values.get.Goals as goal
 

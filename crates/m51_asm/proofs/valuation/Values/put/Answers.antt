@@ -1,6 +1,5 @@
-use Rattle.std.proofs.Common.{◌≡◌, cond, ap, ◌∙◌}
-use Rattle.std.specs.Str.{bytes_eq}
-use Rattle.m51_asm.specs.Above.{valuation_of, value_in}
+use Rattle.m51_asm.proofs.Common.{◌≡◌, cond, ap, ◌∙◌, bytes_eq, value_in}
+use Rattle.m51_asm.specs.Above.{valuation_of}
 use Rattle.m51_asm.proofs.KeptMeanings.{put_value}
 use Rattle.m51_asm.proofs.valuation.Values.put.Goals as goal
 

@@ -1,5 +1,4 @@
-use Rattle.std.proofs.Common.{List, subst}
-use Rattle.m51_sim.specs.Boards.{BoardState}
+use Rattle.m51_chain.proofs.Common.{List, subst, BoardState}
 use Rattle.m51_party.specs.Report.{IsPartyReport, boards_of}
 use Rattle.m51_party.specs.Rounds.{family_of}
 use Rattle.m51_party.proofs.One.{only_family}

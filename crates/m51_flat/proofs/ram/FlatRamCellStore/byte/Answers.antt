@@ -1,9 +1,7 @@
-use Rattle.std.proofs.Common.{◌≡◌, ◌<◌, rules, sym, ap, subst, ◌∙◌, arith}
-use Rattle.std.specs.Prelude.{slice_index}
+use Rattle.m51_flat.proofs.Common.{◌≡◌, ◌<◌, rules, sym, ap, subst, ◌∙◌, arith, slice_index, Value, FlatBytes}
+use Rattle.m51_flat.proofs.Common.{flat_cells}
 use Rattle.std.proofs.lemmas.Grind.{common_steps}
-use Rattle.m51_flat.specs.declared.state.Seen.TheVariants.{Value}
 use Rattle.m51_flat.specs.States.{byte_seen}
-use Rattle.m51_flat.specs.Flat.{FlatBytes, flat_cells}
 use Rattle.m51_flat.proofs.Bytes.{flat_byte}
 use Rattle.m51_flat.proofs.ram.FlatRamCellStore.byte.Goals as goal
 

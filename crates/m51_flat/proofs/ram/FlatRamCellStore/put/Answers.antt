@@ -1,5 +1,4 @@
-use Rattle.std.proofs.Common.{◌≡◌, ◌<◌, ◌+◌, ◌/◌, rules, arith, length}
-use Rattle.std.specs.Prelude.{slice_index}
+use Rattle.m51_flat.proofs.Common.{◌≡◌, ◌<◌, ◌+◌, ◌/◌, rules, arith, length, slice_index}
 use Rattle.std.proofs.lemmas.Grind.{common_steps}
 use Rattle.m51_flat.proofs.Bytes.{flat_bit}
 use Rattle.m51_flat.proofs.ram.FlatRamCellStore.put.Goals as goal

@@ -1,5 +1,4 @@
-use Rattle.std.proofs.Common.{◌∙◌}
-use Rattle.std.proofs.lemmas.Bool.Decides.{Decides-at}
+use Rattle.m51_graph.proofs.Common.{◌∙◌, Decides-at}
 use Rattle.m51_graph.proofs.PassedPairs.{owners_are}
 use Rattle.m51_graph.proofs.Relations.{conflict_tells}
 use Rattle.m51_graph.proofs.graphs.Graph.are_owners_related.Goals as goal
@@ -12,5 +11,7 @@ returns c =
     rw (← c.self.view_is)
     (λ s u is is'.
     Decides-at c.are_related.result _
-    (c.are_related.ensures ∙ owners_are g t kept.tables c.args.one c.args.two (kept.graph.units.own c.args.one.own s is.own) (kept.graph.units.own c.args.two.own u is'.own))
+    (c.are_related.ensures
+    ∙ owners_are g t kept.tables c.args.one c.args.two (kept.graph.units.own c.args.one.own s is.own)
+    (kept.graph.units.own c.args.two.own u is'.own))
     (conflict_tells g t kept s u c.args.one c.args.two is is'))

@@ -9,8 +9,10 @@ pub returns-clause-only : goal.returns-clause-only
 returns-clause-only c = λ unit h.
     let at : IsUnitAt c.self.inside.parts c.args.address unit = rw c.self.view_is h in
     let inside : c.args.address < 65536 = search rules in
-    let below : c.args.address < length c.self.inside.units_at.items = omega (arith, inside, c.self.invariant.units_at.len) in
+    let below : c.args.address < length c.self.inside.units_at.items =
+    omega (arith, inside, c.self.invariant.units_at.len) in
     c.index.ensures
-    ∙ ap (λ (place : ℕ). slice_index_or c.self.inside.units_at.items place c.index.result.now) c.from.ensures
+    ∙ ap (λ (index : ℕ). slice_index_or c.self.inside.units_at.items index c.index.result.now) c.from.ensures
     ∙ sym (get_or_default c.self.inside.units_at.items c.args.address None c.index.result.now below)
-    ∙ c.self.invariant.units_at.only c.args.address unit inside (unit_below c.self.inside.parts c.args.address unit at) at
+    ∙ c.self.invariant.units_at.only c.args.address unit inside
+    (unit_below c.self.inside.parts c.args.address unit at) at

@@ -9,19 +9,28 @@ use Rattle.m51_module.proofs.library.Library.raise.Goals as goal
 
 -- a module to name where the index is inside the list, so that it does not matter which
 abbrev any_module : ModuleParts
-any_module = record { name = []; version = 0; segments = []; publics = []; externals = []; pieces = []; fixups = []; banks = 0 }
+any_module =
+    record { name = []; version = 0; segments = []; publics = []; externals = []; pieces = []; fixups = []; banks = 0 }
 
 pub invariant_of-self : goal.invariant_of-self
 invariant_of-self c =
     let index : position (is_named c.args.name.now) c.self.inside.members.items ≡ Some c.in-Some.index = search rules in
-    let alone : PassesAlone (is_named c.args.name.now) c.self.inside.members.items c.in-Some.index = named_alone _ _ _ any_module c.self.invariant.library index in
-    rw (c.raise_at.ensures any_module) (record { library = raise_keeps c.self.inside.members.items c.in-Some.index any_module alone.within c.self.invariant.library; named = c.unknown.ensures _ })
+    let alone : PassesAlone (is_named c.args.name.now) c.self.inside.members.items c.in-Some.index =
+    named_alone _ _ _ any_module c.self.invariant.library index in
+    rw (c.raise_at.ensures any_module)
+    (record {
+      library =
+          raise_keeps c.self.inside.members.items c.in-Some.index any_module alone.within c.self.invariant.library;
+      named = c.unknown.ensures _;
+    })
 
 pub returns-clause-answer : goal.returns-clause-answer
 returns-clause-answer c =
     let index : position (is_named c.args.name.now) c.self.inside.members.items ≡ Some c.in-Some.index = search rules in
-    let alone : PassesAlone (is_named c.args.name.now) c.self.inside.members.items c.in-Some.index = named_alone _ _ _ any_module c.self.invariant.library index in
-    rw (c.raise_at.ensures any_module, ← c.self.view_is) (raise_there c.self.inside.members.items c.args.name.now c.in-Some.index any_module alone)
+    let alone : PassesAlone (is_named c.args.name.now) c.self.inside.members.items c.in-Some.index =
+    named_alone _ _ _ any_module c.self.invariant.library index in
+    rw (c.raise_at.ensures any_module, ← c.self.view_is)
+    (raise_there c.self.inside.members.items c.args.name.now c.in-Some.index any_module alone)
 
 pub returns-in-None-clause-answer : goal.returns-in-None-clause-answer
 returns-in-None-clause-answer c =

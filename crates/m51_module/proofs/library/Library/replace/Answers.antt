@@ -8,9 +8,15 @@ use Rattle.m51_module.proofs.library.Library.replace.Goals as goal
 
 pub returns-in-Some-clause-answer : goal.returns-in-Some-clause-answer
 returns-in-Some-clause-answer c =
-    let index : position (is_named c.args.incoming.name) c.self.inside.members.items ≡ Some c.in-Some.index = search rules in
-    let alone : PassesAlone (is_named c.args.incoming.name) c.self.inside.members.items c.in-Some.index = named_alone _ _ _ c.args.incoming c.self.invariant.library index in
-    rw (← c.self.view_is, replace_there c.self.inside.members.items c.args.incoming c.in-Some.index alone, c.self.view_is) c.replace_at.ensures.answer
+    let index : position (is_named c.args.incoming.name) c.self.inside.members.items ≡ Some c.in-Some.index =
+    search rules in
+    let alone : PassesAlone (is_named c.args.incoming.name) c.self.inside.members.items c.in-Some.index =
+    named_alone _ _ _ c.args.incoming c.self.invariant.library index in
+    rw (
+      ← c.self.view_is,
+      replace_there c.self.inside.members.items c.args.incoming c.in-Some.index alone,
+      c.self.view_is,
+    ) c.replace_at.ensures.answer
 
 pub returns-in-None-clause-answer : goal.returns-in-None-clause-answer
 returns-in-None-clause-answer c =

@@ -1,5 +1,4 @@
-use Rattle.std.proofs.Common.{◌≡◌, false, reverse, sym, ◌∙◌}
-use Rattle.m51_monitor.specs.Activity.{AreHolders, answers_in}
+use Rattle.m51_monitor.proofs.Common.{◌≡◌, false, reverse, sym, ◌∙◌, AreHolders, answers_in}
 use Rattle.m51_monitor.proofs.Placing.{none_up_to}
 use Rattle.m51_monitor.proofs.activity.Activity.segment_at.Goals as goal
 

@@ -1,7 +1,4 @@
-use Rattle.std.proofs.Common.{◌≡◌, ◌<◌, length, sym, ◌∙◌, arith}
-use Rattle.std.specs.Prelude.{slice_index}
-use Rattle.std.proofs.lemmas.Grind.{common_steps}
-use Rattle.std.proofs.lemmas.Bool.{eqb-true}
+use Rattle.m51_monitor.proofs.Common.{◌≡◌, ◌<◌, length, sym, ◌∙◌, arith, slice_index, common_steps, eqb-true}
 use Rattle.m51_monitor.proofs.FlagBytes.{length_flags, full_byte}
 use Rattle.m51_monitor.proofs.bits.Flags.are_set.Goals as goal
 

@@ -1,4 +1,4 @@
-use Rattle.std.proofs.Common.{◌*◌, ap, ◌∙◌}
+use Rattle.m51_monitor.proofs.Common.{◌*◌, ap, ◌∙◌}
 use Rattle.m51_monitor.proofs.FlagBytes.{length_flags, all_filled}
 use Rattle.m51_monitor.proofs.bits.Flags.filled.Goals as goal
 

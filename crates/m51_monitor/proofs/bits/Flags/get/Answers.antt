@@ -1,6 +1,5 @@
-use Rattle.std.proofs.Common.{◌≡◌, ◌/◌, ◌%◌, ◌<◌, length, sym, ap, ◌∙◌, arith}
-use Rattle.std.specs.Prelude.{nat_eq, slice_index}
-use Rattle.std.proofs.lemmas.Grind.{common_steps}
+use Rattle.m51_monitor.proofs.Common.{◌≡◌, ◌/◌, ◌%◌, ◌<◌, length, sym, ap, ◌∙◌, arith, slice_index, common_steps}
+use Rattle.std.specs.Prelude.{nat_eq}
 use Rattle.std.proofs.lemmas.Nat.Bits.{shr_and_one}
 use Rattle.m51_monitor.proofs.FlagBytes.{length_flags, flag_is}
 use Rattle.m51_monitor.proofs.bits.Flags.get.Goals as goal
@@ -9,15 +8,15 @@ pub index-requires : goal.index-requires
 index-requires c =
     let bytes = c.self.inside.bytes.items in
     let flags = rw (← c.self.view_is) at c.requires in
-    let inside : c.args.place / 8 < length bytes = omega (arith, flags, length_flags bytes) in
+    let inside : c.args.index / 8 < length bytes = omega (arith, flags, length_flags bytes) in
     grind (arith, common_steps, inside)
 
 pub returns : goal.returns
 returns c =
     let bytes = c.self.inside.bytes.items in
     let flags = rw (← c.self.view_is) at c.requires in
-    let inside : c.args.place / 8 < length bytes = omega (arith, flags, length_flags bytes) in
-    let byte : c.index.result.now ≡ slice_index bytes (c.args.place / 8) = grind (arith, common_steps, inside) in
+    let inside : c.args.index / 8 < length bytes = omega (arith, flags, length_flags bytes) in
+    let byte : c.index.result.now ≡ slice_index bytes (c.args.index / 8) = grind (arith, common_steps, inside) in
     rw (byte, ← c.self.view_is)
-    (ap (λ bit. nat_eq bit 1) (shr_and_one (slice_index bytes (c.args.place / 8)) (c.args.place % 8))
-    ∙ sym (flag_is bytes c.args.place))
+    (ap (λ bit. nat_eq bit 1) (shr_and_one (slice_index bytes (c.args.index / 8)) (c.args.index % 8))
+    ∙ sym (flag_is bytes c.args.index))

@@ -1,6 +1,4 @@
-use Rattle.std.proofs.Common.{◌≡◌, ◌/◌, ◌<◌, length, arith}
-use Rattle.std.specs.Prelude.{slice_index}
-use Rattle.std.proofs.lemmas.Grind.{common_steps}
+use Rattle.m51_monitor.proofs.Common.{◌≡◌, ◌/◌, ◌<◌, length, arith, slice_index, common_steps}
 use Rattle.m51_monitor.proofs.FlagBytes.{length_flags, bit_set}
 use Rattle.m51_monitor.proofs.bits.Flags.set.Goals as goal
 
@@ -8,22 +6,22 @@ pub index-byte-requires : goal.index-byte-requires
 index-byte-requires c =
     let bytes = c.self.inside.bytes.items in
     let flags = rw (← c.self.view_is) at c.requires in
-    let inside : c.args.place / 8 < length bytes = omega (arith, flags, length_flags bytes) in
+    let inside : c.args.index / 8 < length bytes = omega (arith, flags, length_flags bytes) in
     grind (arith, common_steps, inside)
 
 pub index_mut-requires : goal.index_mut-requires
 index_mut-requires c =
     let bytes = c.self.inside.bytes.items in
     let flags = rw (← c.self.view_is) at c.requires in
-    let inside : c.args.place / 8 < length bytes = omega (arith, flags, length_flags bytes) in
+    let inside : c.args.index / 8 < length bytes = omega (arith, flags, length_flags bytes) in
     grind (arith, common_steps, inside)
 
 pub returns : goal.returns
 returns c =
     let bytes = c.self.inside.bytes.items in
     let flags = rw (← c.self.view_is) at c.requires in
-    let inside : c.args.place / 8 < length bytes = omega (arith, flags, length_flags bytes) in
-    let byte : c.index-byte.result.now ≡ slice_index bytes (c.args.place / 8) = grind (arith, common_steps, inside) in
+    let inside : c.args.index / 8 < length bytes = omega (arith, flags, length_flags bytes) in
+    let byte : c.index-byte.result.now ≡ slice_index bytes (c.args.index / 8) = grind (arith, common_steps, inside) in
     rw (← c.self.view_is)
-    (bit_set bytes c.args.place c.with_flag.result c.args.value inside c.with_flag.ensures.here
+    (bit_set bytes c.args.index c.with_flag.result c.args.value inside c.with_flag.ensures.here
     (rw byte at c.with_flag.ensures.others))

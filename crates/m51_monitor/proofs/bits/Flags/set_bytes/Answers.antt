@@ -1,5 +1,4 @@
-use Rattle.std.proofs.Common.{◌≤◌, length, arith}
-use Rattle.std.proofs.lemmas.Grind.{common_steps}
+use Rattle.m51_monitor.proofs.Common.{◌≤◌, length, arith, common_steps}
 use Rattle.m51_monitor.proofs.FlagBytes.{length_flags, bytes_set}
 use Rattle.m51_monitor.proofs.bits.Flags.set_bytes.Goals as goal
 

@@ -1,5 +1,5 @@
-use Rattle.m51_monitor.specs.Rows.{AreSet}
+use Rattle.m51_monitor.proofs.Common.{AreSet}
 use Rattle.m51_monitor.proofs.bits.Flags.set_each.Given as goal
 
-abbrev pub invariant-loop-place : goal.invariant-loop-place
-invariant-loop-place l = AreSet l.from l.place l.value l.fn.self l.self
+abbrev pub invariant-loop-index : goal.invariant-loop-index
+invariant-loop-index l = AreSet l.from l.index l.value l.fn.self l.self

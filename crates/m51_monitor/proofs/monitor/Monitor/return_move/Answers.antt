@@ -1,4 +1,4 @@
-use Rattle.std.proofs.Common.{sym}
+use Rattle.m51_monitor.proofs.Common.{sym}
 use Rattle.m51_monitor.proofs.Framing.{top_begins}
 use Rattle.m51_monitor.proofs.Topping.{ends_top}
 use Rattle.m51_monitor.proofs.monitor.Monitor.return_move.Goals as goal

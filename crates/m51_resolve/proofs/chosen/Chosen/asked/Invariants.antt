@@ -1,5 +1,4 @@
-use Rattle.std.proofs.Common.{◌++◌, map, take}
-use Rattle.m51_resolve.specs.WorkNames.{AreWanted}
+use Rattle.m51_resolve.proofs.Common.{◌++◌, map, take, AreWanted}
 use Rattle.m51_resolve.proofs.chosen.Chosen.asked.Given as goal
 
 abbrev pub invariant-loop-member : goal.invariant-loop-member

@@ -1,12 +1,14 @@
-use Rattle.std.proofs.Common.{◌≡◌, length, arith, subst, sym}
-use Rattle.m51_resolve.specs.WorkNames.{AreNamed}
+use Rattle.m51_resolve.proofs.Common.{◌≡◌, length, arith, subst, sym, AreNamed}
 use Rattle.m51_resolve.proofs.NamedModules.{named_push}
 use Rattle.m51_resolve.proofs.chosen.Chosen.with.Goals as goal
 
 pub invariant_of-result : goal.invariant_of-result
 invariant_of-result c =
     let count : c.len.result ≡ length c.self.inside.modules.items = omega arith in
-    subst (λ ms. AreNamed ms c.note_publics.new.table.entries c.want_externals.new.names.keys) (sym c.in_ok-push.ensures.items)
-    (named_push c.self.inside.modules.items c.args.member c.self.inside.definitions.entries c.note_publics.new.table.entries
-    c.self.inside.wanted.keys c.want_externals.new.names.keys c.len.result c.publics.result.now c.externals.result.now c.self.invariant count
+    subst (λ ms. AreNamed ms c.note_publics.new.table.entries c.want_externals.new.names.keys)
+    (sym c.in_ok-push.ensures.items)
+    (named_push c.self.inside.modules.items c.args.member c.self.inside.definitions.entries
+    c.note_publics.new.table.entries
+    c.self.inside.wanted.keys c.want_externals.new.names.keys c.len.result c.publics.result.now c.externals.result.now
+    c.self.invariant count
     c.in_ok-note_publics.ensures c.publics.ensures.list c.in_ok-want_externals.ensures c.externals.ensures.list)

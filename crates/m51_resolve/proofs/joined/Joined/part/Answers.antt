@@ -1,37 +1,51 @@
-use Rattle.std.proofs.Common.{ap, ◌∙◌, arith}
-use Rattle.m51_resolve.specs.declared.joining.SegmentPart.{SegmentPart}
+use Rattle.m51_resolve.proofs.Common.{ap, ◌∙◌, arith, SegmentPart}
 use Rattle.m51_resolve.proofs.Entries.{begin, part_entry, reads, stands}
 use Rattle.m51_resolve.proofs.joined.Joined.part.Goals as goal
 
 pub index-start-requires : goal.index-start-requires
 index-start-requires c =
-    let e = part_entry _ _ _ _ _ _ c.args.module c.args.segment c.self.invariant (rw (← c.self.view_is) at c.requires) in
+    let e = part_entry _ _ _ _ _ _ c.args.module c.args.segment c.self.invariant
+    (rw (← c.self.view_is) at c.requires) in
     omega (arith, e.entry.inside, c.from.ensures)
 
 pub overflow_add-start : goal.overflow_add-start
 overflow_add-start c =
-    let e = part_entry _ _ _ _ _ _ c.args.module c.args.segment c.self.invariant (rw (← c.self.view_is) at c.requires) in
-    omega (arith, begin _ _ _ _ _ _ _ e.entry c.index-start.ensures c.from.ensures, e.entry.within, e.entry.number, c.from-2.ensures)
+    let e = part_entry _ _ _ _ _ _ c.args.module c.args.segment c.self.invariant
+    (rw (← c.self.view_is) at c.requires) in
+    omega (
+      arith,
+      begin _ _ _ _ _ _ _ e.entry c.index-start.ensures c.from.ensures,
+      e.entry.within,
+      e.entry.number,
+      c.from-2.ensures,
+    )
 
 pub index-part-requires : goal.index-part-requires
 index-part-requires c =
-    let e = part_entry _ _ _ _ _ _ c.args.module c.args.segment c.self.invariant (rw (← c.self.view_is) at c.requires) in
+    let e = part_entry _ _ _ _ _ _ c.args.module c.args.segment c.self.invariant
+    (rw (← c.self.view_is) at c.requires) in
     omega (arith, stands _ _ _ _ _ _ _ _ e.entry c.index-start.ensures c.from.ensures c.from-2.ensures, e.entry.within)
 
 pub overflow_cast-result : goal.overflow_cast-result
 overflow_cast-result c =
-    let e = part_entry _ _ _ _ _ _ c.args.module c.args.segment c.self.invariant (rw (← c.self.view_is) at c.requires) in
-    let is = reads _ _ _ _ _ _ _ _ _ e.entry c.index-start.ensures c.from.ensures c.from-2.ensures c.index-part.ensures in
+    let e = part_entry _ _ _ _ _ _ c.args.module c.args.segment c.self.invariant
+    (rw (← c.self.view_is) at c.requires) in
+    let is = reads _ _ _ _ _ _ _ _ _ e.entry c.index-start.ensures c.from.ensures c.from-2.ensures c.index-part.ensures
+    in
     omega (arith, e.number, ap (λ (x : SegmentPart). x.number) is)
 
 pub overflow_cast-result-2 : goal.overflow_cast-result-2
 overflow_cast-result-2 c =
-    let e = part_entry _ _ _ _ _ _ c.args.module c.args.segment c.self.invariant (rw (← c.self.view_is) at c.requires) in
-    let is = reads _ _ _ _ _ _ _ _ _ e.entry c.index-start.ensures c.from.ensures c.from-2.ensures c.index-part.ensures in
+    let e = part_entry _ _ _ _ _ _ c.args.module c.args.segment c.self.invariant
+    (rw (← c.self.view_is) at c.requires) in
+    let is = reads _ _ _ _ _ _ _ _ _ e.entry c.index-start.ensures c.from.ensures c.from-2.ensures c.index-part.ensures
+    in
     omega (arith, e.offset, ap (λ (x : SegmentPart). x.offset) is)
 
 pub returns : goal.returns
 returns c =
-    let e = part_entry _ _ _ _ _ _ c.args.module c.args.segment c.self.invariant (rw (← c.self.view_is) at c.requires) in
-    let is = reads _ _ _ _ _ _ _ _ _ e.entry c.index-start.ensures c.from.ensures c.from-2.ensures c.index-part.ensures in
+    let e = part_entry _ _ _ _ _ _ c.args.module c.args.segment c.self.invariant
+    (rw (← c.self.view_is) at c.requires) in
+    let is = reads _ _ _ _ _ _ _ _ _ e.entry c.index-start.ensures c.from.ensures c.from-2.ensures c.index-part.ensures
+    in
     rw (← c.self.view_is) (ap (λ (x : SegmentPart). (x.number, x.offset)) is ∙ e.value)

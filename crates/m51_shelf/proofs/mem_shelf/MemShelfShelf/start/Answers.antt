@@ -7,6 +7,8 @@ use Rattle.m51_shelf.proofs.mem_shelf.MemShelfShelf.start.Goals as goal
 
 pub returns-in-Err-clause-failed : goal.returns-in-Err-clause-failed
 returns-in-Err-clause-failed c =
-    let fact : Contains c.self.inside.fails.items (Start, one_more c.self.inside.starts) ⊎ (file_of c.self.inside.files.items (string_bytes c.args.name) ≡ None) =
-    rw (c.saturating_add-number.ensures, c.deref.ensures.value, c.deref-2.ensures.value, c.as_bytes.ensures.value) at (c.in-Err.ensures.0 refl) in
+    let fact : Contains c.self.inside.fails.items (Start, one_more c.self.inside.starts)
+    ⊎ (file_of c.self.inside.files.items (string_bytes c.args.name) ≡ None) =
+    rw (c.saturating_add-number.ensures, c.deref.ensures.value, c.deref-2.ensures.value, c.as_bytes.ensures.value) at
+    (c.in-Err.ensures.0 refl) in
     (λ h. rw (← c.self.view_is) fact, λ h. refl)

@@ -1,5 +1,4 @@
-use Rattle.std.proofs.Common.{sym, ap}
-use Rattle.m51_sim.specs.Boards.{ChipState}
+use Rattle.m51_sim.proofs.Common.{sym, ap, ChipState}
 use Rattle.m51_sim.proofs.Beginning.{is_started, start_order}
 use Rattle.m51_sim.proofs.board.Board.make.Goals as goal
 

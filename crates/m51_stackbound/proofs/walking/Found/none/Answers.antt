@@ -1,4 +1,4 @@
-use Rattle.std.proofs.Common.{arith}
+use Rattle.m51_stackbound.proofs.Common.{arith}
 use Rattle.m51_stackbound.proofs.Walks.{marked_none}
 use Rattle.m51_stackbound.proofs.walking.Found.none.Goals as goal
 

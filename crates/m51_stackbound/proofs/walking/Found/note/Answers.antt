@@ -1,7 +1,7 @@
-use Rattle.std.proofs.Common.{ℕ, ◌<◌, List, [], ◌∷◌, ◌++◌, true, sym, subst, rules}
+use Rattle.m51_stackbound.proofs.Common.{ℕ, ◌<◌, List, [], ◌∷◌, ◌++◌, true, sym, subst, Contains, GoesOn}
+use Rattle.std.proofs.Common.{rules}
 use Rattle.std.specs.Prelude.{slice_set}
-use Rattle.std.specs.List.{Contains}
-use Rattle.m51_stackbound.specs.Callers.{AreMarked, GoesOn}
+use Rattle.m51_stackbound.specs.Callers.{AreMarked}
 use Rattle.m51_stackbound.proofs.Walks.{goes_nowhere, goes_one, marked_more}
 use Rattle.m51_stackbound.proofs.walking.Found.note.Goals as goal
 

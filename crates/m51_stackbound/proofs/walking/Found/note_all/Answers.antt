@@ -1,6 +1,4 @@
-use Rattle.std.proofs.Common.{List, ℕ, get_or, take, sym, subst}
-use Rattle.std.proofs.lemmas.List.{take_more}
-use Rattle.m51_stackbound.specs.Callers.{GoesOn}
+use Rattle.m51_stackbound.proofs.Common.{List, ℕ, get_or, take, sym, subst, take_more, GoesOn}
 use Rattle.m51_stackbound.proofs.Walks.{goes_more}
 use Rattle.m51_stackbound.proofs.walking.Found.note_all.Goals as goal
 

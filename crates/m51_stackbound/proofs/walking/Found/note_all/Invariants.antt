@@ -1,5 +1,4 @@
-use Rattle.std.proofs.Common.{take}
-use Rattle.m51_stackbound.specs.Callers.{GoesOn}
+use Rattle.m51_stackbound.proofs.Common.{take, GoesOn}
 use Rattle.m51_stackbound.proofs.walking.Found.note_all.Given as goal
 
 abbrev pub invariant-loop-start : goal.invariant-loop-start

@@ -3,12 +3,12 @@ use Rattle.std.proofs.Common.{◌≡◌, ◌+◌, ◌%◌, ◌<◌, sym, subst, 
 use Rattle.std.specs.Prelude.{IfSome}
 use Rattle.m51_isa.specs.Table.{length_of}
 use Rattle.m51_isa.specs.Targets.{target_of as target_by_row}
-use Rattle.m51_disasm.specs.Statements.{target_by, target_of}
+use Rattle.m51_disasm.specs.Statements.{target_by, statement_target}
 use Rattle.m51_disasm.proofs.Leading.{led_by_text}
-use Rattle.m51_disasm.proofs.instructions.target_of.Goals as goal
+use Rattle.m51_disasm.proofs.instructions.statement_target.Goals as goal
 
 pub returns-in-Code : goal.returns-in-Code
-unfolding target_of
+unfolding statement_target
 returns-in-Code c =
     let at = c.args.statement.now.at in
     let instr = c.in-Code.instr in

@@ -1,8 +1,0 @@
-use Rattle.std.proofs.Common.{◌≡◌, drop}
-use Rattle.m51_cells.proofs.ListsAndOptions.{names_before}
-use Rattle.m51_args.specs.Operations.{names_in}
-use Rattle.m51_jobs.specs.Texts.{lent}
-use Rattle.m51_args.proofs.library_words.names_in.Given as goal
-
-abbrev pub invariant-loop-word : goal.invariant-loop-word
-invariant-loop-word l = names_before l.names.items (names_in (lent (drop l.word-index l.words))) ≡ names_in (lent l.words)

@@ -34,14 +34,14 @@ pub fn blank_len(text: &[u8]) -> usize
 /// How many bytes come before the first blank: all bytes where there is none.
 ///
 /// Source: own choice ("Lines").
-pub fn part_len(text: &[u8]) -> usize
+pub fn word_len(text: &[u8]) -> usize
     ensures len { result ≡ position_or_len is_blank text.now }
     ensures within { result ≤ length text.now }
 {
     text.iter().take_while(|byte| !is_blank(**byte)).count()
 }
 
-/// Whether a line is skipped: it is empty, has only blanks, or begins with `;`.
+/// Whether a line of a control file or of a script is skipped: it is empty, has only blanks, or begins with `;`.
 ///
 /// Source: own choice ("Lines").
 pub fn is_skipped(line: &[u8]) -> bool

@@ -3,6 +3,7 @@
 
 mod blanks;
 mod cell;
+mod citing;
 mod cutting;
 mod event;
 mod extent;
@@ -14,8 +15,9 @@ mod list;
 mod memory;
 mod name;
 
-pub use blanks::{are_blanks, blank_len, is_blank, is_skipped, part_len};
+pub use blanks::{are_blanks, blank_len, is_blank, is_skipped, word_len};
 pub use cell::{Cell, Space};
+pub use citing::cite;
 pub use cutting::{first_line, line_count, lines};
 pub use event::{Entry, Event, Why};
 pub use extent::{Extent, cells_of, fits, meets};

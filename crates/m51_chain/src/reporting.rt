@@ -6,7 +6,7 @@ ghost use Rattle.m51_verbs.specs.Outcome.{outcome_of};
 
 use crate::linking::{LinkedFiles, board_of};
 use m51_args::BuildJob;
-use m51_cells::{Bytes, NoMemory};
+use m51_cells::{Bytes, NoMemory, cite};
 use m51_hex::write_hex;
 use m51_linker::Linked;
 use m51_module::Run;
@@ -33,7 +33,7 @@ fn map_and_run(alloc: Global, linked: &Linked) -> Result<Bytes, NoMemory>
     ensures { IfOk result (IsMap linked.now) }
 {
     // For the proof only: reading the units exposes the layout's invariant.
-    let _ = linked.layout.units();
+    cite(linked.layout.units());
     let chains = heaviest(alloc, &linked.layout)?;
     let bytes = filled(linked.written.as_slice());
     let mut text = map_text(

@@ -4,7 +4,7 @@ ghost use Rattle.std.specs.List.{position_or_len};
 ghost use Rattle.m51_control.specs.Parts.{IsOnePart, SplitsInto, is_sign, cut_at, before_last, before_blanks};
 ghost use Rattle.m51_control.specs.Parts.{single_part, word_in};
 
-use m51_cells::{Name, are_blanks, blank_len, part_len};
+use m51_cells::{Name, are_blanks, blank_len, word_len};
 
 // How many bytes come before the first of these signs.
 fn sign_place(sign: u8, text: &[u8]) -> usize
@@ -44,7 +44,7 @@ pub(crate) fn before_last(sign: u8, text: &[u8]) -> Option<&[u8]>
 pub(crate) fn before_blanks(text: &[u8]) -> Option<&[u8]>
     ensures { option_map (λ part. part.now) result ≡ before_blanks text.now }
 {
-    let len = part_len(text);
+    let len = word_len(text);
     if are_blanks(&text[len..]) {
         Some(&text[..len])
     } else {

@@ -9,7 +9,7 @@ ghost use Rattle.m51_disasm.specs.Statements.{statement_target};
 
 use crate::statement::{Content, Statement};
 use m51_isa::{
-    Field, FieldSlot, Instr, Slot, Spelling, decode, length, spelling_of,
+    Field, FieldSlot, Instr, Slot, Spelling, decode, length, next_of, spelling_of,
     target_of as target_of_row,
 };
 
@@ -99,13 +99,6 @@ pub(crate) fn can_stand(end: u32, at: u16, instr: &Instr) -> bool
 {
     let next = u32::from(at) + length_of(instr);
     next <= end && all_inside(next, &spelling_of(instr))
-}
-
-// The address after the instruction there.
-fn next_of(instr: &Instr, at: u16) -> u16
-    ensures { result ≡ (at + length_of instr.now) % 65536 }
-{
-    at.wrapping_add(u16::from(length(instr)))
 }
 
 // The target of an instruction with this next address.

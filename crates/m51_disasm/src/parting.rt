@@ -3,7 +3,7 @@ ghost use Rattle.std.specs.Prelude.{◌≡◌, IfOk, OnOk, All, slice_get};
 ghost use Rattle.m51_disasm.specs.Parts.{placed_range, unit_ranges, parts_below, code_ranges, IsInside};
 
 use crate::part::CodeRange;
-use m51_cells::NoMemory;
+use m51_cells::{NoMemory, cite};
 use m51_module::{Layout, Placed};
 use std::alloc::{AllocError, Global};
 
@@ -39,7 +39,7 @@ fn units_inside(alloc: Global, layout: &Layout) -> Result<Vec<CodeRange>, AllocE
     ensures units { IfOk result (λ units. units.items ≡ unit_ranges layout.now) }
     ensures inside { IfOk result (λ units. All IsInside units.items) }
 {
-    let _ = layout.units();
+    cite(layout.units());
     unit_ranges(alloc, layout)
 }
 

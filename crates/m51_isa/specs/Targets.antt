@@ -7,6 +7,11 @@ use Rattle.m51_isa.specs.declared.instr.Instr.TheVariants.{JbcBitRel, JbBitRel, 
 use Rattle.m51_isa.specs.declared.instr.Instr.TheVariants.{SjmpRel, AjmpAddr11, AcallAddr11, LjmpAddr16, LcallAddr16}
 use Rattle.m51_isa.specs.declared.instr.Instr.TheVariants.{CjneADataRel, CjneADirectRel, CjneAtRiDataRel, CjneRnDataRel}
 use Rattle.m51_isa.specs.declared.instr.Instr.TheVariants.{DjnzDirectRel, DjnzRnRel}
+use Rattle.m51_isa.specs.Table.{length_of}
+
+-- the address after an instruction at this address
+abbrev pub next_of : Instr → ℕ → ℕ
+next_of instr at = (at + length_of instr) % 65536
 
 -- an address and a signed byte
 abbrev pub relative : ℕ → ℕ → ℕ

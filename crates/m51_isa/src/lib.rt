@@ -40,6 +40,6 @@ pub use searching::{has_row, row_for, search};
 pub use slot::{Field, FieldSlot, Slot};
 pub use spelling::{Spelling, spelling_of};
 pub use targets::{
-    bit_address, block_target, distance, fits_byte, in_one_block, is_near, relative_target,
-    target_of,
+    bit_address, block_target, distance, fits_byte, in_one_block, is_near, next_of,
+    relative_target, target_of,
 };

@@ -1,10 +1,20 @@
 //! Where the operand of a jump, a branch or a call leads, which targets it reaches, and which bits have addresses.
 ghost use Rattle.std.specs.Prelude.{◌≡◌};
 ghost use Rattle.m51_isa.specs.Targets.{bit_address, distance, in_one_block, fits_byte, is_near, near, relative};
-ghost use Rattle.m51_isa.specs.Targets.{target_of};
+ghost use Rattle.m51_isa.specs.Targets.{next_of, target_of};
 
+use crate::columns::length;
 use crate::instr::Instr;
 use crate::operand::Address11;
+
+/// The address after an instruction, modulo 65,536.
+///
+/// Source: family manual.
+pub fn next_of(instr: &Instr, at: u16) -> u16
+    ensures { result ≡ next_of instr.now at }
+{
+    at.wrapping_add(u16::from(length(instr)))
+}
 
 /// The target of a relative jump: the address of the next instruction and a signed byte, modulo 65,536.
 ///

@@ -10,7 +10,7 @@ use crate::Linked;
 use crate::filling::content_of;
 use crate::patching::patched;
 use crate::running::runs_of;
-use m51_cells::{Bytes, NoMemory};
+use m51_cells::{Bytes, NoMemory, cite};
 use m51_control::Controls;
 use m51_graph::{Graph, graph};
 use m51_module::{Image, Library, Module, Refusal};
@@ -69,7 +69,7 @@ fn link_graph(
     ensures ready { IfOk result IsReady }
 {
     // For the proof only: reading the modules exposes their invariant.
-    let _modules = joined.modules();
+    cite(joined.modules());
     let placing = place_all(alloc, joined, graph, controls)?;
     let content = content_of(alloc, joined, &placing)?;
     let image = patched(alloc, joined, &placing, &content)?;

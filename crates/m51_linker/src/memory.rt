@@ -4,7 +4,7 @@ ghost use Rattle.m51_fields.specs.Fields.{bytes_of_field};
 ghost use Rattle.m51_linker.specs.Stretches.{stretch_at};
 ghost use Rattle.m51_linker.specs.Memory.{HoldsStretches, AreWritten, IsErasedBut, held_at, image_at};
 
-use m51_cells::NoMemory;
+use m51_cells::{NoMemory, cite};
 use m51_fields::FieldBytes;
 use m51_module::{IMAGE_LEN, Image};
 use std::alloc::{AllocError, Global};
@@ -62,7 +62,7 @@ fn put_bytes(image: &mut Image, at: usize, bytes: &[u8])
     ensures { AreWritten ((record { at = at; bytes = bytes.now }) ∷ []) (image_at image.old) (image_at image.new) }
 {
     // For the proof only: reading the image exposes its length.
-    let _bytes = image.bytes();
+    cite(image.bytes());
     for (index, byte) in bytes.iter().enumerate() {
         image.set((at + index) as u16, *byte);
     }

@@ -9,7 +9,7 @@ ghost use Rattle.m51_module.specs.Sound.{IsSound};
 use crate::rows::{local_rows, owner_rows};
 use crate::tables::{Bits, edge_rows, unit_of, units_at};
 use crate::{LayoutParts, Mark, Placed, Units};
-use m51_cells::NoMemory;
+use m51_cells::{NoMemory, cite};
 use std::alloc::Global;
 use std::marker::Model;
 
@@ -162,7 +162,7 @@ impl Layout {
         ensures some { IfSome result (λ unit. IsRootAt self.now vector unit) }
         ensures only { (unit : ℕ) → IsRootAt self.now vector unit → result ≡ Some unit }
     {
-        let _ = self.units();
+        cite(self.units());
         match self.unit_at(vector) {
             Some(unit) => self.if_root(unit, vector),
             None => None,

@@ -17,7 +17,7 @@ ghost use Rattle.m51_monitor.specs.Turning.{AreTurned, IsOverlaidAmong, IsLocalA
 
 use crate::covering::{is_data, is_over, is_overlaid};
 use crate::shared::SharedRam;
-use m51_cells::{Cell, NoMemory};
+use m51_cells::{Cell, NoMemory, cite};
 use m51_flat::{CellStore, Put};
 use m51_module::{Layout, Placed};
 use std::alloc::Global;
@@ -95,7 +95,7 @@ fn turn_locals(store: &mut SharedRam, layout: &Layout, holders: &[u16], unit: u1
     ensures turned { AreTurned layout.now (IsLocalOf layout.now holders.now unit) (turned_to live) store.old store.new }
     ensures sound { IsSound layout.now }
 {
-    let _sound = layout.placed();
+    cite(layout.placed());
     let locals = layout.locals(unit);
     for index in 0..locals.len() {
         turn_local(store, layout, holders, locals, index, live);
@@ -133,7 +133,7 @@ fn hold(holders: &mut Vec<u16>, layout: &Layout, unit: u16)
     ensures { (units : List ℕ) → AreHolders layout.now units holders.old.items
         → AreHolders layout.now (unit ∷ units) holders.new.items }
 {
-    let _sound = layout.placed();
+    cite(layout.placed());
     count_more(holders, layout.locals(unit));
 }
 
@@ -144,7 +144,7 @@ fn release(holders: &mut Vec<u16>, layout: &Layout, unit: u16)
     ensures { (units : List ℕ) → AreHolders layout.now (unit ∷ units) holders.old.items
         → AreHolders layout.now units holders.new.items }
 {
-    let _sound = layout.placed();
+    cite(layout.placed());
     count_less(holders, layout.locals(unit));
 }
 
@@ -268,7 +268,7 @@ impl Activity {
     pub(crate) fn is_sound(&self)
         ensures { IsSound self.now.layout }
     {
-        let _sound = self.layout.placed();
+        cite(self.layout.placed());
     }
 
     /// The memory.

@@ -7,7 +7,7 @@ ghost use Rattle.m51_flat.specs.States.{ram_cell};
 ghost use Rattle.m51_monitor.specs.Masks.{IsMarked, IsMask, flag_of};
 
 use crate::bits::Flags;
-use m51_cells::{Cell, Extent, NoMemory, Space};
+use m51_cells::{Cell, Extent, NoMemory, Space, cite};
 use std::alloc::Global;
 use std::marker::Model;
 
@@ -82,7 +82,7 @@ impl Mask {
         ensures marked { IsMarked cells value self.old self.new }
         ensures mask { IsMask self.new }
     {
-        let _ram = &self.ram;
+        cite(&self.ram);
         if cells.len > 0 {
             self.mark_some(cells, value);
         }

@@ -18,7 +18,7 @@ use crate::activity::Activity;
 use crate::cause::{Cause, ReturnFrame};
 use crate::shared::SharedRam;
 use crate::step::Move;
-use m51_cells::{Cell, MOST_RETURN_RECORDS, NoMemory};
+use m51_cells::{Cell, MOST_RETURN_RECORDS, NoMemory, cite};
 use m51_flat::{Cpu, Effect, Put};
 use m51_module::Layout;
 use std::alloc::Global;
@@ -189,7 +189,7 @@ impl Monitor {
     fn are_activations(&self)
         ensures { AreActivations self.now.layout self.now.records }
     {
-        let _frames = &self.frames;
+        cite(&self.frames);
     }
 
     // Writes the cells of a put.
@@ -303,7 +303,7 @@ impl Monitor {
             (stores_after self.old.layout self.old.records self.new.records effect.now) self.old self.new }
     {
         self.are_activations();
-        let _top = stack_pointer(&effect.cpu);
+        cite(stack_pointer(&effect.cpu));
         self.put(&effect.first);
         self.put(&effect.second);
         self.change(effect, step);

@@ -11,7 +11,7 @@ ghost use Rattle.m51_monitor.specs.Shared.{shared_cells, shared_barred, cells_pu
 ghost use Rattle.m51_monitor.specs.SharedLaws.{shared_are_cells};
 
 use crate::mask::Mask;
-use m51_cells::{Cell, Extent, NoMemory, Space};
+use m51_cells::{Cell, Extent, NoMemory, Space, cite};
 use m51_flat::{CellStore, FlatRam, Put, Seen};
 use std::alloc::Global;
 use std::marker::Model;
@@ -90,7 +90,7 @@ impl SharedRam {
     pub(crate) fn bars(&self)
         ensures { shared_barred self.now ≡ outside_of (shared_cells self.now) }
     {
-        let _live = &self.live;
+        cite(&self.live);
     }
 
     /// Turns the cells of an extent live and unset, or outside.

@@ -6,7 +6,7 @@ ghost use Rattle.m51_module.specs.Walks.{HasEdge};
 ghost use Rattle.m51_place.specs.Heaviest.{AreBest, AreReached, AreWeights, IsHeaviestFrom, IsLeastOn, IsRising};
 ghost use Rattle.m51_place.specs.Heaviest.{LeadsOn, Lifts, Steps, lesser};
 
-use m51_cells::{Kind, ListOf, NoMemory, Reloc};
+use m51_cells::{Kind, ListOf, NoMemory, Reloc, cite};
 use m51_module::{Chain, Layout, Mark, Placed};
 use std::alloc::Global;
 
@@ -241,7 +241,7 @@ pub fn heaviest(alloc: Global, layout: &Layout) -> Result<Vec<Chain>, NoMemory>
     ensures { IfOk result (λ chains. AreHeaviest layout.now chains.items) }
 {
     // For the proof only: reading the units exposes the layout's invariant.
-    let _units = layout.units();
+    cite(layout.units());
     let weights = weights(alloc, layout)?;
     let best = best_of(alloc, layout, &weights)?;
     chains_at(

@@ -10,7 +10,7 @@ ghost use Rattle.m51_place.specs.Ready.{IsNumbered};
 use crate::Numbered;
 use crate::bases::cells;
 use m51_bases::same_space;
-use m51_cells::{Extent, NoMemory, Space};
+use m51_cells::{Extent, NoMemory, Space, cite};
 use m51_graph::Graph;
 use std::alloc::Global;
 
@@ -21,7 +21,7 @@ fn in_conflict(graph: &Graph, one: u16, two: u16) -> bool
     ensures { result ≡ in_conflict graph.now one two }
 {
     // For the proof only: reading the parts exposes the graph's invariant.
-    let _parts = graph.parts();
+    cite(graph.parts());
     one != two && graph.conflict(one, two)
 }
 

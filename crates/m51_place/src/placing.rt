@@ -17,7 +17,7 @@ use crate::layouts::{indices, parts_of_layout};
 use crate::ordering::order;
 use crate::sharing::check_shared;
 use crate::{Numbered, Ranked};
-use m51_cells::ListOf;
+use m51_cells::{ListOf, cite};
 use m51_control::Controls;
 use m51_graph::Graph;
 use m51_module::{Layout, Mark, Placed, Refusal, Units};
@@ -100,7 +100,7 @@ fn locate(
         (located_of joined.now controls.now graph.now) }
 {
     // For the proof only: reading the modules exposes their invariant.
-    let _modules = joined.modules();
+    cite(joined.modules());
     let fixed = fixed(alloc, joined, controls)?;
     check_shared(&fixed)?;
     let order = order(alloc, graph, controls.lines(), joined.segments())?;
@@ -125,9 +125,9 @@ pub fn place_all(
     ensures indices { IfOk result (λ p. ArePlaces (segments_of joined.now) p) }
 {
     // For the proof only: reading modules, lines and graph exposes their invariants.
-    let _modules = joined.modules();
-    let _lines = controls.lines();
-    let _parts = graph.parts();
+    cite(joined.modules());
+    cite(controls.lines());
+    cite(graph.parts());
     let located = locate(alloc, joined, graph, controls)?;
     let indices = indices(alloc, &located, joined.segments().len())?;
     let parts = parts_of_layout(alloc, graph, &located)?;

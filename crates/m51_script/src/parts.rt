@@ -4,7 +4,7 @@ ghost use Rattle.std.specs.List.{prefix_len};
 ghost use Rattle.m51_cells.specs.Blanks.{is_blank};
 ghost use Rattle.m51_script.specs.Parts.{cut};
 
-use m51_cells::{blank_len, part_len};
+use m51_cells::{blank_len, word_len};
 
 // What follows the blanks that come first.
 fn after_blanks(text: &[u8]) -> &[u8]
@@ -18,7 +18,7 @@ fn after_blanks(text: &[u8]) -> &[u8]
 pub(crate) fn cut(text: &[u8]) -> Option<(&[u8], &[u8])>
     ensures { option_map (λ c. (c.0.now, c.1.now)) result ≡ cut text.now }
 {
-    let len = part_len(text);
+    let len = word_len(text);
     if len < text.len() {
         Some((&text[..len], after_blanks(&text[len..])))
     } else {

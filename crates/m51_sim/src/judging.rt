@@ -26,7 +26,7 @@ ghost use Rattle.m51_monitor.specs.declared.step.Move.TheVariants.{Stay};
 
 use crate::attempt::Attempt;
 use crate::chip::{Chip, idle};
-use m51_cells::{Cell, Event, Why};
+use m51_cells::{Cell, Event, Why, cite};
 use m51_flat::{Cpu, Effect, NoEffect, Source, exec_into};
 use m51_irq::vector_into;
 use m51_isa::{Instr, length};
@@ -39,9 +39,9 @@ pub(crate) fn stand(monitor: &Monitor)
     ensures records { AreActivations monitor.now.layout monitor.now.records }
     ensures sound { IsSound monitor.now.layout }
 {
-    let _store = monitor.store();
-    let _depth = monitor.depth();
-    let _placed = monitor.layout().placed();
+    cite(monitor.store());
+    cite(monitor.depth());
+    cite(monitor.layout().placed());
 }
 
 // Whether the unit covers the address.
@@ -218,7 +218,7 @@ fn idle_step(monitor: &Monitor, cpu: &Cpu, effect: &mut Effect) -> Move
     ensures step { result ≡ Stay }
     ensures may { MayCommit monitor.now cpu.now (record { effect = effect.new; step = result }) }
 {
-    let _monitor = monitor;
+    cite(monitor);
     idle(effect, cpu);
     Move::Stay
 }

@@ -9,18 +9,14 @@ use Rattle.m51_isa.specs.declared.instr.Written.{Written}
 use Rattle.m51_isa.specs.declared.instr.Written.TheVariants.{Direct}
 pub use Rattle.m51_isa.specs.Changes.{is_jump}
 use Rattle.m51_isa.specs.Changes.{stack_of, written_of}
-use Rattle.m51_isa.specs.Table.{decoded, length_of}
-pub use Rattle.m51_isa.specs.Targets.{target_of}
+use Rattle.m51_isa.specs.Table.{decoded}
+pub use Rattle.m51_isa.specs.Targets.{next_of, target_of}
 use Rattle.m51_sfr.specs.declared.addresses.TheConstants.{SP}
 
 -- the instruction that begins at an address; after FFFFH the addresses of its bytes continue with 0
 unfoldable pub instr_at : List ℕ → ℕ → Option Instr
 instr_at image at =
     decoded (slice_index image at ∷ slice_index image ((at + 1) % 65536) ∷ slice_index image ((at + 2) % 65536) ∷ [])
-
--- the address after an instruction
-abbrev pub next_of : Instr → ℕ → ℕ
-next_of instr at = (at + length_of instr) % 65536
 
 -- it writes SP by an operand
 abbrev pub is_at_sp : Written → Bool

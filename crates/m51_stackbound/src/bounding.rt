@@ -22,7 +22,7 @@ use crate::point::{Point, ReachedAddress};
 use crate::searching::points_of;
 use crate::totals::total_of;
 use crate::units::handlers;
-use m51_cells::{ListOf, NoMemory};
+use m51_cells::{ListOf, NoMemory, cite};
 use m51_module::{Image, Layout, StackBound, StackError};
 use std::alloc::Global;
 
@@ -240,7 +240,7 @@ pub fn bound(alloc: Global, layout: &Layout, image: &Image) -> Result<StackBound
     requires { (unit : ℕ) × IsRootAt layout.now 0 unit }
     ensures { Answers layout.now image.now result }
 {
-    let _ = layout.units();
+    cite(layout.units());
     let found = points_of(alloc, layout, image)?;
     match found {
         Some(points) => judged(alloc, layout, image, points.as_slice()),

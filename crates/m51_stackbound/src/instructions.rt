@@ -1,10 +1,10 @@
 //! What an instruction does with SP and with control.
 ghost use Rattle.std.specs.Prelude.{◌≡◌};
-ghost use Rattle.m51_stackbound.specs.Instructions.{instr_at, next_of, writes_sp, sets_sp, is_push, is_pop, is_call};
+ghost use Rattle.m51_stackbound.specs.Instructions.{instr_at, writes_sp, sets_sp, is_push, is_pop, is_call};
 ghost use Rattle.m51_stackbound.specs.Instructions.{is_return, is_computed};
 
-pub(crate) use m51_isa::{is_jump, target_of};
-use m51_isa::{Instr, Stack, Written, decode, length, stack_of, written_of};
+pub(crate) use m51_isa::{is_jump, next_of, target_of};
+use m51_isa::{Instr, Stack, Written, decode, stack_of, written_of};
 use m51_module::Image;
 use m51_sfr::addresses::SP;
 
@@ -19,13 +19,6 @@ pub(crate) fn instr_at(image: &Image, at: u16) -> Option<Instr>
         bytes[usize::from(at.wrapping_add(1))],
         bytes[usize::from(at.wrapping_add(2))],
     ])
-}
-
-/// The address after the instruction.
-pub(crate) fn next_of(instr: &Instr, at: u16) -> u16
-    ensures { result ≡ next_of instr.now at }
-{
-    at.wrapping_add(u16::from(length(instr)))
 }
 
 /// Whether the instruction writes SP by an operand.

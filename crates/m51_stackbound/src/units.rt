@@ -5,7 +5,7 @@ ghost use Rattle.m51_module.specs.Plan.{IsRootAt, IsUnitAt};
 ghost use Rattle.m51_module.specs.Roots.{vectors};
 ghost use Rattle.m51_stackbound.specs.Units.{unit_of, root_of, in_one_unit, counts, lie_inside, handlers, interrupts};
 
-use m51_cells::NoMemory;
+use m51_cells::{NoMemory, cite};
 use m51_module::Layout;
 use std::alloc::Global;
 
@@ -15,7 +15,7 @@ pub(crate) fn unit_at(layout: &Layout, address: u16) -> Option<u16>
     ensures value { result ≡ unit_of layout.now address }
     ensures below { IfSome result (λ unit. unit < length layout.now.units) }
 {
-    let _ = layout.units();
+    cite(layout.units());
     layout.unit_at(address)
 }
 
@@ -24,7 +24,7 @@ pub(crate) fn unit_at(layout: &Layout, address: u16) -> Option<u16>
 pub(crate) fn root_at(layout: &Layout, vector: u16) -> Option<u16>
     ensures { Contains vectors vector → result ≡ root_of layout.now vector }
 {
-    let _ = layout.units();
+    cite(layout.units());
     layout.root(vector)
 }
 

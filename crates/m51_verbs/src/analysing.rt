@@ -8,7 +8,7 @@ ghost use Rattle.m51_verbs.specs.Outcome.{Comes, outcome_of, refused, stopped};
 
 use crate::link_refusing::refuse_link;
 use crate::work::{Finished, Reason, Stop, text_alone};
-use m51_cells::{Bytes, NoMemory};
+use m51_cells::{Bytes, NoMemory, cite};
 use m51_disasm::{DisError, disassemble};
 use m51_module::{Image, Layout, Refusal, StackBound, StackError};
 use m51_print::{stack_refusal_text, stack_text};
@@ -73,7 +73,7 @@ pub fn stack_bound(alloc: Global, layout: &Layout, image: &Image) -> Result<Fini
     ensures { Comes (IsBounded layout.now image.now) result }
 {
     // For the proof only: reading the units exposes the layout's invariant.
-    let _ = layout.units();
+    cite(layout.units());
     match bound(alloc, layout, image) {
         Ok(bound) => Ok(bound_text(alloc, layout, &bound)?),
         Err(StackError::Memory) => Err(Stop::Memory),

@@ -18,7 +18,7 @@ use crate::refusing::bytes_of;
 use crate::script_refusing::refuse_script;
 use crate::work::{Finish, Finished, Stop};
 use m51_args::FlatJob;
-use m51_cells::{Bytes, NoMemory};
+use m51_cells::{Bytes, NoMemory, cite};
 use m51_hex::{HexError, read_hex};
 use m51_module::Image;
 use m51_script::{Script, ScriptError, read_script};
@@ -120,7 +120,7 @@ fn run_file(
     match read_hex(alloc, file.as_slice()) {
         Ok(image) => {
             // For the proof only: reading the bytes exposes the image's invariant.
-            let _ = image.bytes();
+            cite(image.bytes());
             run_image(alloc, job, image, script)
         }
         Err(error) => Err(refuse_hex(alloc, job.file.as_str(), &error)?),

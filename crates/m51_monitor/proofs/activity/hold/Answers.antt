@@ -6,7 +6,7 @@ use Rattle.m51_monitor.proofs.activity.hold.Goals as goal
 pub count_more-requires-clause-inside : goal.count_more-requires-clause-inside
 count_more-requires-clause-inside c = λ t h.
     rw (c.deref_mut.ensures.value, c.requires.some.1.len)
-    (below c.args.layout.now c.locals.result.now c.args.unit c.placed-sound.ensures.sound c.locals.ensures t h)
+    (below c.args.layout.now c.locals.result.now c.args.unit c.placed.ensures.sound c.locals.ensures t h)
 
 pub count_more-requires-clause-room : goal.count_more-requires-clause-room
 count_more-requires-clause-room c =

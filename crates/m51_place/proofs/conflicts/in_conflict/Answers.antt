@@ -3,5 +3,5 @@ use Rattle.m51_place.proofs.conflicts.in_conflict.Goals as goal
 
 pub returns-then-one-two : goal.returns-then-one-two
 returns-then-one-two c =
-    conflict_is c.args.graph.now c.parts-parts.ensures.kept.units c.args.one c.args.two c.conflict.result
+    conflict_is c.args.graph.now c.parts.ensures.kept.units c.args.one c.args.two c.conflict.result
     c.if-one-two.true c.conflict.ensures

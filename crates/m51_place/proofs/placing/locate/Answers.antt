@@ -12,7 +12,7 @@ place_after-requires-clause-order c =
     let g = c.args.graph.now in
     let segments : List JoinedSegment = segments_of c.args.joined.now in
     let is = graph_is c.args.joined.now c.args.controls.now g c.requires in
-    let joined = all_joined c.args.joined.now c.modules-modules.ensures.valid in
+    let joined = all_joined c.args.joined.now c.modules.ensures.valid in
     let order : c.deref-2.result.now ≡ order_of g c.args.controls.now segments =
     c.deref-2.ensures.value ∙ c.in_ok-order.ensures
     ∙ ap (λ (cs : List (ℕ × Control)). order_of g cs c.segments.result.now) c.lines.ensures.list
@@ -30,6 +30,6 @@ place_after-requires-clause-earlier c =
     let is = graph_is modules controls g c.requires in
     let spots =
     fixed_spots g modules controls segments is
-    (all_joined modules c.modules-modules.ensures.valid) c.lines.ensures.kept.each in
+    (all_joined modules c.modules.ensures.valid) c.lines.ensures.kept.each in
     subst (λ (es : List Numbered). All (IsNumbered g) es) (sym c.in_ok-fixed.ensures)
     (numbered segments controls g (fixed_of modules controls segments) is spots)

@@ -13,7 +13,7 @@ pub indices-requires-clause-few : goal.indices-requires-clause-few
 indices-requires-clause-few c =
     let all =
     placed_whole c.args.joined.now c.args.controls.now c.args.graph.now c.in_ok-located.located.items c.requires
-    c.modules-modules.ensures.valid c.modules-modules.ensures.resolved c.lines-lines.ensures.kept
+    c.modules.ensures.valid c.modules.ensures.resolved c.lines.ensures.kept
     c.in_ok-located.ensures in
     omega (arith, ap (λ (xs : List Numbered). length xs) c.deref.ensures.value, all.few)
 
@@ -21,7 +21,7 @@ pub parts_of_layout-requires-clause-few : goal.parts_of_layout-requires-clause-f
 parts_of_layout-requires-clause-few c =
     let all =
     placed_whole c.args.joined.now c.args.controls.now c.args.graph.now c.in_ok-located.located.items c.requires
-    c.modules-modules.ensures.valid c.modules-modules.ensures.resolved c.lines-lines.ensures.kept
+    c.modules.ensures.valid c.modules.ensures.resolved c.lines.ensures.kept
     c.in_ok-located.ensures in
     omega (arith, ap (λ (xs : List Numbered). length xs) c.deref-2.ensures.value, all.few)
 
@@ -31,7 +31,7 @@ parts_of_layout-requires-clause-numbered c =
     let modules = c.args.joined.now in
     let located = c.in_ok-located.located.items in
     let all = placed_whole modules c.args.controls.now g located c.requires
-    c.modules-modules.ensures.valid c.modules-modules.ensures.resolved c.lines-lines.ensures.kept
+    c.modules.ensures.valid c.modules.ensures.resolved c.lines.ensures.kept
     c.in_ok-located.ensures in
     subst (λ (xs : List Numbered). All (IsNumbered g) xs) (sym c.deref-2.ensures.value)
     (numbered (segments_of modules) c.args.controls.now g located
@@ -44,13 +44,13 @@ make-requires c =
     let controls = c.args.controls.now in
     let located = c.in_ok-located.located.items in
     let all = placed_whole modules controls g located c.requires
-    c.modules-modules.ensures.valid c.modules-modules.ensures.resolved c.lines-lines.ensures.kept
+    c.modules.ensures.valid c.modules.ensures.resolved c.lines.ensures.kept
     c.in_ok-located.ensures in
     let parts : c.in_ok-parts.parts ≡ parts_of_layout g located = c.in_ok-parts.ensures
     ∙ ap (parts_of_layout g) c.deref-2.ensures.value in
     subst (λ (l : LayoutParts). IsSound l) (sym parts)
     (sound (segments_of modules) controls g
-    (graph_is modules controls g c.requires) c.parts-parts.ensures.kept located all)
+    (graph_is modules controls g c.requires) c.parts.ensures.kept located all)
 
 pub returns-clause-indices : goal.returns-clause-indices
 returns-clause-indices c =
@@ -60,7 +60,7 @@ returns-clause-indices c =
     let segments : List JoinedSegment = segments_of modules in
     let located : List Numbered = c.in_ok-located.located.items in
     let all = placed_whole modules controls g located c.requires
-    c.modules-modules.ensures.valid c.modules-modules.ensures.resolved c.lines-lines.ensures.kept
+    c.modules.ensures.valid c.modules.ensures.resolved c.lines.ensures.kept
     c.in_ok-located.ensures in
     let layout : c.in_ok-layout.layout ≡ parts_of_layout g located =
     c.in_ok-layout.ensures ∙ c.in_ok-parts.ensures ∙ ap (parts_of_layout g) c.deref-2.ensures.value in

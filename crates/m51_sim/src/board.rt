@@ -18,7 +18,7 @@ ghost use Rattle.m51_sim.specs.SeparateMachine.{separate_machine};
 
 use crate::chip::{Chip, blank_effect};
 use crate::cycles::Timed;
-use crate::judging::{commit, judge, stand};
+use crate::judging::{cite_stores, commit, judge};
 use crate::runs::{Entries, RunEnd, Runnable, Step, Told, count_run, run};
 use m51_cells::{Event, NoMemory};
 use m51_flat::Effect;
@@ -66,7 +66,7 @@ impl Board {
         ensures { IfOk result (IsStarted layout image script) }
     {
         let monitor = Monitor::start(alloc, layout, script.fill())?;
-        stand(&monitor);
+        cite_stores(&monitor);
         let chip = Chip::make(alloc, image, script)?;
         Ok(Board {
             chip,
@@ -177,7 +177,7 @@ impl Board {
         ensures state { StandsForState self.now }
         ensures one { OneLive self.now.monitor.layout (live_in self.now.monitor.layout self.now.monitor.records) }
     {
-        stand(&self.monitor);
+        cite_stores(&self.monitor);
     }
 }
 
@@ -227,7 +227,7 @@ fn advance(
         (state_with chip.old (held_memory monitor.old)) (state_with chip.new (held_memory monitor.new)) }
     ensures text { IfErr result (HasText (length monitor.old.layout.placed)) }
 {
-    stand(monitor);
+    cite_stores(monitor);
     match judge(monitor, chip, effect) {
         Ok(step) => {
             commit(monitor, effect, step);

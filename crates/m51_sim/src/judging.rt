@@ -33,8 +33,9 @@ use m51_isa::{Instr, length};
 use m51_module::Layout;
 use m51_monitor::{Monitor, Move};
 
-// The memory of a monitor represents the stores that are read off it.
-pub(crate) fn stand(monitor: &Monitor)
+// Cites what holds of a monitor: its memory represents the stores that are read off it, its records are activations,
+// and its layout is sound.
+pub(crate) fn cite_stores(monitor: &Monitor)
     ensures stores { MonitorStandsFor monitor.now (stores_read monitor.now) }
     ensures records { AreActivations monitor.now.layout monitor.now.records }
     ensures sound { IsSound monitor.now.layout }
@@ -127,7 +128,7 @@ fn instr_outcome(
         chip.now.image ((inputs_of chip.now.script).pins chip.now.cycle) }
     ensures ready { IsOutcomePrepared monitor.now chip.now.cpu (outcome_by result effect.new) }
 {
-    stand(monitor);
+    cite_stores(monitor);
     exec_into(
         chip.cpu(),
         monitor.store(),
@@ -176,7 +177,7 @@ fn vector_outcome(
         ≡ vectored cpu.now (outside_of (cells_of monitor.now.layout (held_memory monitor.now))) source }
     ensures ready { IsOutcomePrepared monitor.now cpu.now (outcome_by result effect.new) }
 {
-    stand(monitor);
+    cite_stores(monitor);
     vector_into(cpu, monitor.store(), source, effect)
 }
 
@@ -253,7 +254,7 @@ pub(crate) fn commit(monitor: &mut Monitor, effect: &Effect, step: Move)
     ensures memory { held_memory monitor.new
         ≡ memory_after monitor.old.layout (held_memory monitor.old) (record { effect = effect.now; step = step }) }
 {
-    stand(monitor);
+    cite_stores(monitor);
     monitor.commit(effect, step);
-    stand(monitor);
+    cite_stores(monitor);
 }

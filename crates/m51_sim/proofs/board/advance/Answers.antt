@@ -22,7 +22,7 @@ returns-in-Ok-clause-order c =
     let passed : IsPassed inputs c.args.chip.now c.pass.new.self allowed.effect c.pass.result =
     record { port = c.pass.ensures.port; passed = c.pass.ensures.passed } in
     order_after c.args.monitor.now c.commit.new.monitor c.args.chip.now.cpu c.pass.new.self.cpu allowed
-    c.stand.ensures.sound c.stand.ensures.records c.requires.order c.in-Ok.ensures.may
+    c.cite_stores.ensures.sound c.cite_stores.ensures.records c.requires.order c.in-Ok.ensures.may
     c.commit.ensures.layout (ap (λ (m : Separate). m.records) c.commit.ensures.memory)
     (passed_keeps inputs c.args.chip.now c.pass.new.self allowed.effect c.pass.result passed)
 

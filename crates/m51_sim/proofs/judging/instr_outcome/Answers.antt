@@ -11,7 +11,7 @@ returns-clause-value c =
       c.bytes.ensures.list,
       c.pins.ensures,
       c.store.ensures.barred,
-      c.store.ensures.answers (stores_read c.args.monitor.now) c.stand.ensures.stores,
+      c.store.ensures.answers (stores_read c.args.monitor.now) c.cite_stores.ensures.stores,
     ) at c.exec_into.ensures.outcome
 
 pub returns-clause-ready : goal.returns-clause-ready

@@ -1,5 +1,5 @@
 use Rattle.m51_sim.proofs.StoresRead.{read_stands}
-use Rattle.m51_sim.proofs.judging.stand.Goals as goal
+use Rattle.m51_sim.proofs.judging.cite_stores.Goals as goal
 
 pub returns-clause-stores : goal.returns-clause-stores
 returns-clause-stores c = read_stands c.args.monitor.now (rw c.layout.ensures at c.placed.ensures.sound)

@@ -6,7 +6,10 @@ use Rattle.m51_sim.proofs.judging.vector_outcome.Goals as goal
 
 pub returns-clause-value : goal.returns-clause-value
 returns-clause-value c =
-    rw (c.store.ensures.barred, c.store.ensures.answers (stores_read c.args.monitor.now) c.cite_stores.ensures.stores) at
+    rw (
+      c.store.ensures.barred,
+      c.store.ensures.answers (stores_read c.args.monitor.now) c.cite_stores.ensures.stores,
+    ) at
     c.vector_into.ensures.outcome
 
 pub returns-clause-ready : goal.returns-clause-ready

@@ -4,7 +4,11 @@ use Rattle.m51_sim.proofs.board.Board.stands.Goals as goal
 pub returns-clause-state : goal.returns-clause-state
 returns-clause-state c =
     rw (← c.self.view_is)
-    (record { stores = c.cite_stores.ensures.stores; records = c.cite_stores.ensures.records; order = c.self.invariant })
+    (record {
+      stores = c.cite_stores.ensures.stores;
+      records = c.cite_stores.ensures.records;
+      order = c.self.invariant;
+    })
 
 pub returns-clause-one : goal.returns-clause-one
 returns-clause-one c =

@@ -27,7 +27,7 @@ use Rattle.m51_sim.proofs.Sums.{appended, record_sum}
 use Rattle.m51_jobs.specs.declared.job.FlatJob.{FlatJob}
 use Rattle.m51_jobs.specs.declared.job.Job.TheVariants.{Flat}
 use Rattle.m51_verbs.specs.FlatRuns as flats
-use Rattle.m51_verbs.specs.FlatRuns.{Ran, Read, flat_report}
+use Rattle.m51_verbs.specs.FlatRuns.{HexRead, Ran, flat_report}
 use Rattle.m51_verbs.specs.Optional.{content_if}
 use Rattle.m51_chain.specs.Verbs.{IsOutcome}
 use Rattle.m51_chain.proofs.Accepted.{on_value, script_is}
@@ -169,7 +169,7 @@ module _ (job : BuildJob) (contents : List (List ℕ)) (outcome : Outcome) (scri
       → FlatGives flat (kept ∷ others) r.event r.text
   one_outcome_is r same =
       let one : IsOutcome (Flat flat) (kept ∷ others) (flat_report linked.image script flat.steps) =
-      Read linked.image b.linked_is.image.len alike.read (Ran script read_script refl) in
+      HexRead linked.image b.linked_is.image.len alike.read (Ran script read_script refl) in
       let is : flat_report linked.image script flat.steps ≡ answer_by r = flat_is linked.image script flat.steps
       ∙ same in
       let here : IsOutcome (Flat flat) (kept ∷ others) (answer_by r) =

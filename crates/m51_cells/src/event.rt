@@ -33,9 +33,11 @@ pub enum Why {
 pub enum Event {
     /// V1: an undeclared transfer of control between two program addresses.
     Transfer { why: Why, from: u16, to: u16 },
-    /// V2: a read or a write outside the live segments, by the instruction at this address.
+    /// V2: a read or a write of a cell that overlaid segments cover, none of which is live, by the instruction at this
+    /// address.
     Outside { cell: Cell, at: u16 },
-    /// V3: a read of a local that its activation has not written. The segment is its index among the placed ones.
+    /// V3: a read of a cell of a live overlaid segment that was not written since the segment became live. The segment
+    /// is its index among the placed ones.
     Unwritten { cell: Cell, segment: u16, at: u16 },
     /// V4: the reserved opcode A5H.
     Reserved { at: u16 },

@@ -137,20 +137,20 @@ one_memory a b one two same = ext_get_or 0xFF a b (one ∙ sym two) (λ at below
 
 one_scripted : (job : FlatJob) (image : List ℕ) (script : Option (List ℕ)) (a b : Outcome)
     → IsScripted job image script a → IsScripted job image script b → a ≡ b
-one_scripted job image script a b (flats.Unscripted e is one) (flats.Unscripted f also two) =
+one_scripted job image script a b (flats.ScriptRefused e is one) (flats.ScriptRefused f also two) =
     one ∙ ap script_outcome (err_same _ e f is also) ∙ sym two
-one_scripted job image script a b (flats.Unscripted e is one) (flats.Ran with also two) = absurd (cc (is, also))
-one_scripted job image script a b (flats.Ran with is one) (flats.Unscripted e also two) = absurd (cc (is, also))
+one_scripted job image script a b (flats.ScriptRefused e is one) (flats.Ran with also two) = absurd (cc (is, also))
+one_scripted job image script a b (flats.Ran with is one) (flats.ScriptRefused e also two) = absurd (cc (is, also))
 one_scripted job image script a b (flats.Ran with is one) (flats.Ran other also two) =
     one ∙ ap (λ s. flat_report image s job.steps) (ok_same _ with other is also) ∙ sym two
 
 one_flat : (job : FlatJob) (file : List ℕ) (script : Option (List ℕ)) (a b : Outcome) → IsFlatWork job file script a
     → IsFlatWork job file script b → a ≡ b
-one_flat job file script a b (flats.Refused e is one) (flats.Refused f also two) =
+one_flat job file script a b (flats.HexRefused e is one) (flats.HexRefused f also two) =
     one ∙ ap (hex_outcome job.file) (err_same _ e f is also) ∙ sym two
-one_flat job file script a b (flats.Refused e is one) (flats.Read image whole also two) = absurd (cc (is, also))
-one_flat job file script a b (flats.Read image whole is one) (flats.Refused e also two) = absurd (cc (is, also))
-one_flat job file script a b (flats.Read image whole is one) (flats.Read other all also two) =
+one_flat job file script a b (flats.HexRefused e is one) (flats.HexRead image whole also two) = absurd (cc (is, also))
+one_flat job file script a b (flats.HexRead image whole is one) (flats.HexRefused e also two) = absurd (cc (is, also))
+one_flat job file script a b (flats.HexRead image whole is one) (flats.HexRead other all also two) =
     let same = one_memory image other whole all (ok_same _ (memory_in image) (memory_in other) is also) in
     one_scripted job other script a b (subst (λ i. IsScripted job i script a) same one) two
 

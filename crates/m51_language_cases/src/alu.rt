@@ -1,4 +1,4 @@
-//! The family manual's own examples.
+//! The family manual's examples, and this project's own where it has none: a quotient by 0, and a parity.
 use m51_alu::{Sum, add, da, div, mul, parity, subb};
 
 // A sum or difference with overflow and without an auxiliary carry.
@@ -39,7 +39,7 @@ fn sums_and_differences_are_the_manuals(rt: HostRuntime) {
 }
 
 #[test]
-fn products_and_quotients_are_the_manuals(rt: HostRuntime) {
+fn products_quotients_and_a_parity(rt: HostRuntime) {
     let products = products();
     assert!(rt;
         products == [(0x00, 0x32, true), (0x0D, 0x11, false), (0xFB, 0, true)],

@@ -30,7 +30,7 @@ more_owner (p ∷ ps) pair s e =
       | inr other ↦ rw other.0 (more_owner ps pair s e)
     ]
 
--- and none of another
+-- and no owner of another segment
 same_owners : (pairs : List (ℕ × ℕ)) (pair : ℕ × ℕ) (s : ℕ) → pair.0 ≢ s → owners_of (pairs ++ pair ∷ []) s
     ≡ owners_of pairs s
 same_owners [] pair s ne = elim (eqb_tells pair.0 s) as (λ _. owners_of (pair ∷ []) s ≡ []) [
@@ -155,7 +155,7 @@ segment_passed rows unit count segments h without = record {
   ];
 }
 
--- it does
+-- the unit is in the next row, so that segment is one more of its own
 segment_found : (rows : List (List ℕ)) (unit count : ℕ) (segments : List ℕ) → AreSegmentsOf rows unit count segments
     → Contains (slice_index_or rows count []) unit → AreSegmentsOf rows unit (count + 1) (segments ++ count ∷ [])
 segment_found rows unit count segments h within = record {
@@ -205,7 +205,7 @@ pub owners_of_row : (owners : List (ℕ × ℕ)) (count : ℕ) (rows : List (Lis
 owners_of_row owners count rows segment row kept below is =
     sym (row_is rows segment row (omega (arith, kept.len, below)) is) ∙ kept.each segment below
 
--- the row of a unit is its locals
+-- the row of a unit lists the overlaid segments that it owns
 pub locals_of_row : (l : LayoutParts) (owner_rows local_rows : List (List ℕ)) (unit : ℕ) (row : List ℕ) → IsSound l
     → AreOwnerRows l.owners (length l.placed) owner_rows
     → AreLocalRows owner_rows (length l.units) (length owner_rows) local_rows → unit < length l.units

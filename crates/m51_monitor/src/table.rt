@@ -81,7 +81,7 @@ impl Monitor {
 
     // The table, where the unit at the target and the root are known.
     #[inline(always)]
-    fn judged_as(
+    fn judged(
         &self,
         cpu: &Cpu,
         effect: &Effect,
@@ -115,9 +115,9 @@ impl Monitor {
         }
     }
 
-    // What the table says.
+    // What the table says, with the unit at the target and the root looked up.
     #[inline(always)]
-    fn judged(&self, cpu: &Cpu, effect: &Effect) -> Result<Move, Why>
+    fn answer(&self, cpu: &Cpu, effect: &Effect) -> Result<Move, Why>
         ensures value { result
             ≡ judged self.now.layout self.now.records cpu.now effect.now
             (unit_found self.now.layout effect.now.cpu.pc) (root_found self.now.layout effect.now.transfer) }
@@ -125,15 +125,15 @@ impl Monitor {
     {
         let at = unit_found(self.layout(), effect.cpu.pc);
         let root = root_wanted(self.layout(), effect.transfer);
-        self.judged_as(cpu, effect, at, root)
+        self.judged(cpu, effect, at, root)
     }
 
     /// How a step with this effect changes the records, from the processor before it.
     ///
-    /// Transfer: the transfer of control is undeclared; it has the first cause that holds, PC and the target. The
-    /// causes are, in their order: PastEnd, SpBelow to the next instruction; NoUnit, NoEdge, SpBelow of a jump or a
-    /// call; NotCalled, SpMoved, WrongAddress, PastEnd of RET and RETI; NoHandler, RootBusy, SpBelow of a vectoring.
-    /// Whether the instruction's own bytes lie in the current unit is not tested here.
+    /// Transfer: the transfer of control is undeclared; it names the first cause that holds, PC before the step, and the
+    /// target. The causes are, in their order: PastEnd, SpBelow to the next instruction; NoUnit, NoEdge, SpBelow of a
+    /// jump or a call; NotCalled, SpMoved, WrongAddress, PastEnd of RET and RETI; NoHandler, RootBusy, SpBelow of a
+    /// vectoring. Whether the instruction's own bytes lie in the current unit is not tested here.
     ///
     /// Source: own choice ("Activations").
     #[inline(always)]
@@ -141,7 +141,7 @@ impl Monitor {
         ensures value { result ≡ judge_of self.now.layout self.now.records cpu.now effect.now }
         ensures answers { IsMoveOrEvent self.now.layout self.now.records cpu.now effect.now result }
     {
-        match self.judged(cpu, effect) {
+        match self.answer(cpu, effect) {
             Ok(step) => Ok(step),
             Err(why) => Err(Event::Transfer {
                 why,

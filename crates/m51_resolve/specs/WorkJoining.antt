@@ -17,7 +17,8 @@ growing_of before s = record { first = s; end = end_after 0 (parts_with before s
 abbrev pub all_growing : List Segment → List Growing
 all_growing before = map (growing_of before) (firsts before)
 
--- the names of these joined segments with their numbers, of which the first is that; absolute ones have none
+-- the name and the number of each relocatable one, where the first of the list has this number; absolute ones count,
+-- but are left out
 abbrev pub numbers_from : ℕ → List Growing → List (List ℕ × ℕ)
 numbers_from number [] = []
 numbers_from number (g ∷ more) =
@@ -50,10 +51,11 @@ JoinsAt old s (Some number) part new =
 abbrev pub Joins : List Growing → Segment → SegmentPart → List Growing → Type 0
 Joins old s part new = JoinsAt old s (joined_with old s) part new
 
--- it is too large, and it is a unit
+-- it is larger than its kind and its type allow
 abbrev pub is_large : Growing → Bool
 is_large g = nat_lt (most_of g.first.kind g.first.reloc) g.end
 
+-- it is a unit
 abbrev pub is_unit : Growing → Bool
 is_unit g = is_code g.first.kind
 

@@ -14,7 +14,8 @@ use std::io::{ErrorKind, Read};
 use std::marker::Model;
 use std::rt::Files;
 
-/// The files of the system, by their paths from the folder of the call. Contracts do not see what they hold.
+/// The files of the system, by their paths; relative ones begin at the current folder. Contracts do not see what they
+/// hold.
 ///
 /// Source: own choice ("The outside").
 #[derive(Drop)]
@@ -63,8 +64,9 @@ impl<R: Files> DirShelf<R> {
     }
 }
 
-// Reads until the slice is full, the file ends or a read fails. Bytes that came before a failure are answered, and the
-// next call meets it. A read that a signal interrupts is made again, `MOST_TRIES` times at most in a call.
+// Reads until the slice is full, the file ends or a read fails. Bytes that were read before a failure are returned, and
+// the next call continues after them: it fails if the failure persists. A read that a signal interrupts is made again,
+// `MOST_TRIES` times at most in a call.
 fn fill<R: Read>(file: &mut R, into: &mut [u8]) -> Result<usize, Failed>
     ensures bound { IfOk result (λ count. count ≤ length into.new) }
     ensures bytes { ReadConsumes (R.remaining file.old) (R.remaining file.new) result into.new }

@@ -1,4 +1,5 @@
-//! Keeping a file of the system: it is written beside, and then put in its place.
+//! Keeping a file of the system: a plain or new file is written beside its place and then put there; a link to a file
+//! or a device is written over.
 ghost use Rattle.std.specs.Prelude.{◌≡◌, ◌≤◌, ◌++◌, IfOk, OnErr, OnOk, length, take};
 ghost use Rattle.std.specs.Io.KnownBytes.{Appends};
 ghost use Rattle.m51_shelf.specs.Stored.{part_suffix};

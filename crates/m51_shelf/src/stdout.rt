@@ -62,8 +62,9 @@ fn write_on<P: Print>(rt: &P, piece: &[u8]) -> usize
 impl<P: Print> Sink for StdSink<P> {
     ghost state = { λ sink. record { text = None; faults = sink } };
 
-    /// Writes until the piece is taken or a write fails. Bytes that were taken before a failure are answered, and the
-    /// next call meets it. A write that a signal interrupts is made again, `MOST_TRIES` times at most in a call.
+    /// Writes until the piece is taken or a write fails. The number of bytes that were taken before a failure is
+    /// returned, and the next call fails if the failure persists. A write that a signal interrupts is made again,
+    /// `MOST_TRIES` times at most in a call.
     ///
     /// Failed: standard output has failed, or has taken nothing, before a byte of the piece was taken.
     ///

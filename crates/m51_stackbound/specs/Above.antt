@@ -18,12 +18,12 @@ use Rattle.m51_stackbound.specs.Units.{handlers}
 abbrev pub AreLow : List ℕ → Type 0
 AreLow depths = (start : Start) → depth_in depths start ≤ 255
 
--- K6 by one instruction or by one depth, or neither
+-- K6 holds; or no PUSH is after 255 bytes and no depth is above 255, so that only a total may be
 abbrev pub IsAbove : LayoutParts → List ℕ → List ℕ → Bool → Type 0
 IsAbove l image depths true = IsTooDeep l image
 IsAbove l image depths false = Keeps l image PushesAbove × AreLow depths
 
--- K4 or K5, or neither
+-- K1 to K5 are kept; or a refusal that is right
 abbrev pub IsTangle : LayoutParts → List ℕ → Option StackError → Type 0
 IsTangle l image None = KeepsHeights l image
 IsTangle l image (Some error) = Answers l image (Err error)

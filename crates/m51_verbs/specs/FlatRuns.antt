@@ -29,16 +29,16 @@ script_in (Some bytes) = script_of bytes
 
 -- The script is refused, or the image is run with it.
 pub data IsScripted (job : FlatJob) (image : List ℕ) (script : Option (List ℕ)) (outcome : Outcome) : Type 0 where
-  Unscripted : (error : ScriptError) → script_in script ≡ Err error → outcome ≡ script_outcome error
+  ScriptRefused : (error : ScriptError) → script_in script ≡ Err error → outcome ≡ script_outcome error
       → IsScripted job image script outcome
   Ran : (with : Script) → script_in script ≡ Ok with → outcome ≡ flat_report image with job.steps
       → IsScripted job image script outcome
 
--- Its HEX file is refused, or fills an image.
+-- The HEX file is refused; or it is read as an image, and the script decides.
 pub data IsFlatWork (job : FlatJob) (file : List ℕ) (script : Option (List ℕ)) (outcome : Outcome) : Type 0 where
-  Refused : (error : HexError) → memory_from file ≡ Err error → outcome ≡ hex_outcome job.file error
+  HexRefused : (error : HexError) → memory_from file ≡ Err error → outcome ≡ hex_outcome job.file error
       → IsFlatWork job file script outcome
-  Read : (image : List ℕ) → length image ≡ IMAGE_LEN → memory_from file ≡ Ok (memory_in image)
+  HexRead : (image : List ℕ) → length image ≡ IMAGE_LEN → memory_from file ≡ Ok (memory_in image)
       → IsScripted job image script outcome → IsFlatWork job file script outcome
 
 -- what flat makes of the contents of its files, of which the HEX file is the first

@@ -130,9 +130,9 @@ impl Monitor {
 
     /// How a step with this effect changes the records, from the processor before it.
     ///
-    /// Transfer: the transfer of control is undeclared; it names the first cause that holds, PC before the step, and the
-    /// target. The causes are, in their order: PastEnd, SpBelow to the next instruction; NoUnit, NoEdge, SpBelow of a
-    /// jump or a call; NotCalled, SpMoved, WrongAddress, PastEnd of RET and RETI; NoHandler, RootBusy, SpBelow of a
+    /// Transfer: the transfer of control is undeclared; it names the first cause that holds, PC before the step, and
+    /// the target. The causes are, in their order: PastEnd, SpBelow to the next instruction; NoUnit, NoEdge, SpBelow of
+    /// a jump or a call; NotCalled, SpMoved, WrongAddress, PastEnd of RET and RETI; NoHandler, RootBusy, SpBelow of a
     /// vectoring. Whether the instruction's own bytes lie in the current unit is not tested here.
     ///
     /// Source: own choice ("Activations").

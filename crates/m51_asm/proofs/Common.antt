@@ -32,7 +32,7 @@ pub use Rattle.m51_expr.specs.Located.{located_value}
 pub use Rattle.m51_asm.specs.Naming.{with_front}
 pub use Rattle.m51_asm.specs.Numbering.{IsNumberedTo, number_at}
 pub use Rattle.m51_asm.specs.ObjectNames.{AreNamesAt, IsAssignedText}
-pub use Rattle.m51_asm.specs.ObjectSegments.{Kept, declared_or, from_one, kept_by, object_segments, place_in}
+pub use Rattle.m51_asm.specs.ObjectSegments.{Kept, declared_or, from_one, kept_by, object_segments, index_in}
 pub use Rattle.m51_asm.specs.ObjectSegments.{segment_number, segment_of, size_of}
 pub use Rattle.m51_asm.specs.OpenSegments.{text_segment}
 pub use Rattle.m51_asm.specs.Parts.{external, externals, name_in}

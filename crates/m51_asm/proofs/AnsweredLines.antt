@@ -1,14 +1,16 @@
 -- The answer of a text whose lines are placed: its faults, or its module and rows.
 use Rattle.m51_asm.proofs.Common.{◌≡◌, ℕ, suc, ◌≤◌, ◌==◌, false, List, [], ◌∷◌, ◌++◌, drop, take, length, Result, Ok}
 use Rattle.m51_asm.proofs.Common.{Err, refl, ap, sym, ◌∙◌, arith, length-take, Fault, Row, SourceFile, StmtTree}
-use Rattle.m51_asm.proofs.Common.{TextLine, faults_of, LineTree, with_statement, statements_of, Assignment, Faults}
+use Rattle.m51_asm.proofs.Common.{LineTree, Assignment, Faults}
 use Rattle.m51_asm.proofs.Common.{content_or_faults, rows_from, rows, faults_from, content_faults, IsGivenTo, AreFree}
 use Rattle.m51_asm.proofs.Common.{IsText}
+use Rattle.m51_text.specs.Faults.{faults_of}
+use Rattle.m51_text.specs.Answer.{statements_of, with_statement}
 use Rattle.std.proofs.Common.{IfOk}
 use Rattle.std.proofs.lemmas.List.{append-nil}
 use Rattle.m51_module.specs.declared.parts.ModuleParts.{ModuleParts}
 use Rattle.m51_text.specs.Said.{said}
-use Rattle.m51_text.specs.Text.{file_lines, text_lines}
+use Rattle.m51_text.specs.Text.{file_lines, text_lines, TextLine}
 use Rattle.m51_asm.specs.declared.contents.Contents.{Contents}
 use Rattle.m51_asm.specs.Answer.{Gives, answer_of_lines}
 use Rattle.m51_asm.specs.ContentFaults.{content_fault}

@@ -2,9 +2,9 @@
 -- value
 -- of each expression.
 use Rattle.m51_asm.proofs.Common.{◌≡◌, ℕ, ◌-◌, ◌/◌, ◌%◌, nat_lt, Bool, true, false, not, ◌&&◌, ◌||◌, cond, List, Option}
-use Rattle.m51_asm.proofs.Common.{Some, None, Ok, Err, refl, subst, arith, ltb-false, Base, Kind, and_then, Part, Whole}
-use Rattle.m51_asm.proofs.Common.{High, Low, Value, Tree, Name, Here, One, Two, Valued, plain, is_whole, Meanings}
-use Rattle.m51_asm.proofs.Common.{unary, applied}
+use Rattle.m51_asm.proofs.Common.{Some, None, Ok, Err, refl, subst, arith, ltb-false, Base, Kind, Part, Whole}
+use Rattle.m51_asm.proofs.Common.{High, Low, Value, Tree, Valued, plain, is_whole, Meanings}
+use Rattle.m51_cells.specs.Outcome.{and_then}
 use Rattle.m51_cells.specs.declared.kind.Base.TheVariants as base
 use Rattle.m51_cells.specs.declared.kind.Kind.TheVariants as kind
 use Rattle.m51_expr.specs.declared.fault.ExprError.{ExprError}
@@ -13,13 +13,13 @@ use Rattle.m51_expr.specs.declared.tree.Unary.{Unary}
 use Rattle.m51_expr.specs.declared.tree.Unary.TheVariants as op1
 use Rattle.m51_expr.specs.declared.tree.Binary.{Binary}
 use Rattle.m51_expr.specs.declared.tree.Binary.TheVariants as op2
-use Rattle.m51_expr.specs.Tree.{Number}
+use Rattle.m51_expr.specs.Tree.{Number, Here, Name, One, Two}
 use Rattle.m51_expr.specs.Value.{fault, bit_address, counted}
 use Rattle.m51_expr.specs.Meanings.{is_absolute_base, is_unplaced, as_number}
-use Rattle.m51_expr.specs.Operators.{under, kept_under, or_number, settled, beside, same_base, arithmetic}
+use Rattle.m51_expr.specs.Operators.{under, kept_under, or_number, settled, beside, same_base, arithmetic, unary}
 use Rattle.m51_expr.specs.Operators.{class_of, base_of, on_base, of_numbers, of_wholes, binary}
 use Rattle.m51_expr.specs.Bits.{has_bits, keeps_base, with_bit, placed_bit, dotted_bit, dot}
-use Rattle.m51_expr.specs.Evaluation.{is_dot, or_unknown, value_of}
+use Rattle.m51_expr.specs.Evaluation.{is_dot, or_unknown, value_of, applied}
 use Rattle.m51_encode.specs.FieldLaws.{IsBitOf}
 
 -- a value of such a base, under no bit above 7

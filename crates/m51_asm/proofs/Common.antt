@@ -2,13 +2,13 @@
 pub use Rattle.std.proofs.Common.{◌%◌, ◌&&◌, ◌++◌, ◌+◌, ◌-◌, ◌/◌, ◌<◌, ◌==◌, ◌||◌, ◌∙◌, ◌∷◌, ◌≡◌, ◌≢◌, ◌≤◌, ◌⊎◌, Bool}
 pub use Rattle.std.proofs.Common.{Err, List, None, Ok, Option, Result, Some, [], add-one, add-zero, ap, arith, cond}
 pub use Rattle.std.proofs.Common.{drop, eq-eqb, false, filter, get_or, inl, inr, is_some, length, length-append, map}
-pub use Rattle.std.proofs.Common.{min, nat_lt, not, option_map, refl, rules, slice_get, subst, suc, sym, take, true}
+pub use Rattle.std.proofs.Common.{min, nat_lt, not, option_map, refl, slice_get, subst, suc, sym, take, true}
 pub use Rattle.std.proofs.Common.{zero, ℕ}
-pub use Rattle.std.proofs.lemmas.Bool.{and_from, and_parts, eqb-false, eqb-true, ltb-false, ltb-true, ne_eqb, or_parts}
+pub use Rattle.std.proofs.lemmas.Bool.{and_parts, eqb-false, eqb-true, ltb-false, ltb-true, ne_eqb, or_parts}
 pub use Rattle.std.proofs.lemmas.List.{length-map, length-take, take_all}
 pub use Rattle.std.proofs.lemmas.Slice.Eq.{bytes_eq-Decides}
 pub use Rattle.std.specs.Global.{Vec}
-pub use Rattle.std.specs.List.{flat_map, list_all, list_any, range_with_len}
+pub use Rattle.std.specs.List.{flat_map, list_any, range_with_len}
 pub use Rattle.std.specs.Map.{lookup}
 pub use Rattle.std.specs.Str.{bytes_eq}
 pub use Rattle.m51_asm.specs.Above.{Valuation, kept_meanings, value_in}
@@ -28,12 +28,11 @@ pub use Rattle.m51_asm.specs.Fitting.{Fits, bank_by, externals_in, form_by, is_a
 pub use Rattle.m51_asm.specs.Fitting.{register_or_predefined, segment_by, set_by, size_by, value_by}
 pub use Rattle.m51_asm.specs.Gathering.{IsText, gathered_before, nothing_gathered}
 pub use Rattle.m51_asm.specs.GivenValues.{expression_given, given_or}
-pub use Rattle.m51_asm.specs.Located.{IsEnough, base_ids, ids_in, located_value}
+pub use Rattle.m51_expr.specs.Located.{located_value}
 pub use Rattle.m51_asm.specs.Naming.{with_front}
 pub use Rattle.m51_asm.specs.Numbering.{IsNumberedTo, number_at}
-pub use Rattle.m51_asm.specs.ObjectMeanings.{object_base, object_value}
 pub use Rattle.m51_asm.specs.ObjectNames.{AreNamesAt, IsAssignedText}
-pub use Rattle.m51_asm.specs.ObjectSegments.{Kept, declared_or, from_one, kept_by, object_segments, place_in}
+pub use Rattle.m51_asm.specs.ObjectSegments.{Kept, declared_or, from_one, kept_by, object_segments, index_in}
 pub use Rattle.m51_asm.specs.ObjectSegments.{segment_number, segment_of, size_of}
 pub use Rattle.m51_asm.specs.OpenSegments.{text_segment}
 pub use Rattle.m51_asm.specs.Parts.{external, externals, name_in}
@@ -51,11 +50,10 @@ pub use Rattle.m51_asm.specs.declared.names.FirstDefinition.{FirstDefinition}
 pub use Rattle.m51_asm.specs.declared.object_names.PlacedText.{PlacedText}
 pub use Rattle.m51_asm.specs.declared.placing.PassOneState.{PassOneState}
 pub use Rattle.m51_asm.specs.declared.stepping.LinePlace.{LinePlace}
-pub use Rattle.m51_asm.specs.declared.values.Located.{Located}
+pub use Rattle.m51_expr.specs.declared.located.Located.{Located}
 pub use Rattle.m51_cells.proofs.KindLaws.{kind_same}
 pub use Rattle.m51_cells.specs.Kinds.{is_absolute, same_kind}
-pub use Rattle.m51_cells.specs.Name.{IsWritten, is_name_byte, name_of}
-pub use Rattle.m51_cells.specs.Outcome.{and_then}
+pub use Rattle.m51_cells.specs.Name.{IsWritten, is_name_byte}
 pub use Rattle.m51_cells.specs.declared.kind.Base.{Base}
 pub use Rattle.m51_cells.specs.declared.kind.Kind.{Kind}
 pub use Rattle.m51_cells.specs.declared.kind.Reloc.{Reloc}
@@ -69,10 +67,8 @@ pub use Rattle.m51_encode.specs.declared.outcome.OperandOutcome.TheVariants.{Fau
 pub use Rattle.m51_encode.specs.declared.reference.FieldValue.{FieldValue}
 pub use Rattle.m51_encode.specs.declared.reference.FieldValue.TheVariants.{Linked, Number}
 pub use Rattle.m51_encode.specs.declared.reference.Reference.{Reference}
-pub use Rattle.m51_expr.specs.Evaluation.{applied}
 pub use Rattle.m51_expr.specs.Meanings.{Meanings}
-pub use Rattle.m51_expr.specs.Operators.{unary}
-pub use Rattle.m51_expr.specs.Tree.{Here, Name, One, Tree, Two}
+pub use Rattle.m51_expr.specs.Tree.{Tree}
 pub use Rattle.m51_expr.specs.Value.{Valued, is_whole, plain}
 pub use Rattle.m51_expr.specs.declared.value.Part.{Part}
 pub use Rattle.m51_expr.specs.declared.value.Part.TheVariants.{High, Low, Whole}
@@ -91,6 +87,4 @@ pub use Rattle.m51_module.specs.declared.source.SourceFile.{SourceFile}
 pub use Rattle.m51_predefined.specs.Predefined.{absolute_register_of}
 pub use Rattle.m51_stmt.proofs.ListWords.{Each}
 pub use Rattle.m51_stmt.specs.Statement.{Address, BodyTree, Equ, Set, StmtTree}
-pub use Rattle.m51_text.specs.Answer.{LineTree, Lines, line_tree, statements_of, text_of, with_statement}
-pub use Rattle.m51_text.specs.Faults.{faults_of}
-pub use Rattle.m51_text.specs.Text.{TextLine}
+pub use Rattle.m51_text.specs.Answer.{LineTree, Lines, line_tree, text_of}

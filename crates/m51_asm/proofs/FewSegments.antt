@@ -2,10 +2,10 @@
 use Rattle.m51_asm.proofs.Common.{◌≡◌, ◌≢◌, ◌⊎◌, inl, inr, ℕ, zero, suc, ◌+◌, ◌<◌, ◌≤◌, ◌==◌, nat_lt, Bool, true, false}
 use Rattle.m51_asm.proofs.Common.{not, ◌&&◌, cond, List, [], ◌∷◌, ◌++◌, length, ◌-◌, refl, sym, ap, subst, ◌∙◌, arith}
 use Rattle.m51_asm.proofs.Common.{add-zero, length-append, eq-eqb, length-map, ltb-true, ltb-false, eqb-true, eqb-false}
-use Rattle.m51_asm.proofs.Common.{ne_eqb, or_parts, and_from, Kind, Reloc, is_absolute, BodyTree, LineTree, TextSegment}
+use Rattle.m51_asm.proofs.Common.{ne_eqb, or_parts, Kind, Reloc, is_absolute, BodyTree, LineTree, TextSegment}
 use Rattle.m51_asm.proofs.Common.{Assignment, body_at, size_by, externals_in, Kept, kept_by, segment_of, external}
 use Rattle.m51_asm.proofs.Common.{externals}
-use Rattle.std.proofs.lemmas.Bool.{lt-ltb, le-ltb}
+use Rattle.std.proofs.lemmas.Bool.{lt-ltb, le-ltb, and_from}
 use Rattle.std.proofs.lemmas.Bool.{cases_Bool}
 use Rattle.m51_cells.specs.declared.kind.Reloc.TheVariants as reloc
 use Rattle.m51_cells.proofs.KindLaws.{absolute_is}

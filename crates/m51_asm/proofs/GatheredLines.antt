@@ -3,7 +3,7 @@ use Rattle.m51_asm.proofs.Common.{◌≡◌, ◌≢◌, inl, inr, ℕ, zero, suc
 use Rattle.m51_asm.proofs.Common.{List, [], ◌∷◌, ◌++◌, map, length, Option, Some, None, option_map, Result, Ok, Err}
 use Rattle.m51_asm.proofs.Common.{refl, ap, sym, ◌∙◌, slice_get, get_or, arith, eq-eqb, flat_map, eqb-true, ne_eqb}
 use Rattle.m51_asm.proofs.Common.{length-map, Fixup, Piece, Segment, LineTree, with_line, Assignment, body_at, Kept}
-use Rattle.m51_asm.proofs.Common.{object_segments, from_one, place_in, segment_number, Run, if_bytes, pieces_of_run}
+use Rattle.m51_asm.proofs.Common.{object_segments, from_one, index_in, segment_number, Run, if_bytes, pieces_of_run}
 use Rattle.m51_asm.proofs.Common.{offset_at, pieces, fixups, nothing_gathered, gathered_before, IsText, IsAssignedText}
 use Rattle.m51_asm.proofs.Common.{PlacedText}
 use Rattle.std.proofs.Common.{append_assoc}
@@ -87,19 +87,19 @@ module _ (F G : Kept → Gathered) (change : Gathered → Gathered) (id : ℕ)
   changed_later x ys (Some n) = refl
 
   changed_by : (x : Kept) (xs : List Kept) (b : Bool) → (x.id == id) ≡ b → ((s : Kept) → In s xs → x.id < s.id)
-      → changed_element change (from_one (place_in (ids xs) id)) (map F xs) ≡ map G xs
-      → changed_element change (from_one (cond b (Some 0) (option_map (λ n. suc n) (place_in (ids xs) id))))
+      → changed_element change (from_one (index_in (ids xs) id)) (map F xs) ≡ map G xs
+      → changed_element change (from_one (cond b (Some 0) (option_map (λ n. suc n) (index_in (ids xs) id))))
       (F x ∷ map F xs)
       ≡ G x ∷ map G xs
   changed_by x xs true test less go =
       let e : x.id ≡ id = eqb-true x.id id test in
       λ i. same x e i ∷ others xs (λ s j f. let l = less s j in absurd (omega (arith, l, e, f))) i
   changed_by x xs false test less go =
-      changed_later (F x) (map F xs) (place_in (ids xs) id)
+      changed_later (F x) (map F xs) (index_in (ids xs) id)
       ∙ (λ i. other x (λ e. absurd (cc (test, eq-eqb x.id id e))) i ∷ go i)
 
   -- a change of the segment of one id, by its number
-  pub changed_is : (xs : List Kept) → Ascend xs → changed_element change (from_one (place_in (ids xs) id)) (map F xs)
+  pub changed_is : (xs : List Kept) → Ascend xs → changed_element change (from_one (index_in (ids xs) id)) (map F xs)
       ≡ map G xs
   unfolding Pairs Every
   changed_is [] order = refl
@@ -280,16 +280,16 @@ nothing_and n (suc m) =
     ∙ ap nothing_gathered (moved n m)
 
 -- the number of a segment is its index, counted from 1
-index_is : (xs : List Kept) → Ascend xs → (j : ℕ) (s : Kept) → slice_get xs j ≡ Some s → place_in (ids xs) s.id ≡ Some j
+index_is : (xs : List Kept) → Ascend xs → (j : ℕ) (s : Kept) → slice_get xs j ≡ Some s → index_in (ids xs) s.id ≡ Some j
 unfolding Pairs Every
 index_is [] order j s e = absurd (cc e)
 index_is (x ∷ xs) order zero s e =
     let same : x ≡ s = cc e in
-    ap (λ b. cond b (Some 0) (option_map (λ n. suc n) (place_in (ids xs) s.id)))
+    ap (λ b. cond b (Some 0) (option_map (λ n. suc n) (index_in (ids xs) s.id)))
     (eq-eqb x.id s.id (ap (λ (k : Kept). k.id) same))
 index_is (x ∷ xs) order (suc j) s e =
     let less : x.id < s.id = order.0 s (got_in xs j s e) in
-    ap (λ b. cond b (Some 0) (option_map (λ n. suc n) (place_in (ids xs) s.id)))
+    ap (λ b. cond b (Some 0) (option_map (λ n. suc n) (index_in (ids xs) s.id)))
     (ne_eqb x.id s.id (omega (arith, less)))
     ∙ ap (option_map (λ n. suc n)) (index_is xs order.1 j s e)
 

@@ -14,9 +14,9 @@ use Rattle.m51_asm.specs.GivenValues.{given_by, HaveNumbers}
 
 module _ (lines : List LineTree) (a : Assignment) (k : ℕ) (g : Giving) (here : located_value g.here ≡ here_at a k)
     (line : g.line ≡ k)
-    (externals : g.externals ≡ externals_before lines k) (name : List ℕ) (kept : Option Located) where
+    (externals : g.externals ≡ externals_before lines k) (name : List ℕ) (kept : Option (Located ℕ)) where
   -- one more definition, which is first
-  first_given : (b : Bool) (d : Definition) (f : Option Definition) (later : Option Located)
+  first_given : (b : Bool) (d : Definition) (f : Option Definition) (later : Option (Located ℕ))
       → option_map located_value (given_by g (how_of d)) ≡ line_value lines a k d
       → option_map located_value later ≡ or_kept lines a k f (option_map located_value kept)
       → option_map located_value (cond b (given_by g (how_of d)) later)
@@ -65,7 +65,7 @@ module _ (lines : List LineTree) (a : Assignment) (k : ℕ) (g : Giving) (here :
 -- after a line a name has the value that its definition there gives it, or else the one that it had
 pub given : (lines : List LineTree) (a : Assignment) (k : ℕ) (g : Giving) → located_value g.here ≡ here_at a k
     → g.line ≡ k
-    → g.externals ≡ externals_before lines k → (name : List ℕ) (kept : Option Located) (stmt : StmtTree)
+    → g.externals ≡ externals_before lines k → (name : List ℕ) (kept : Option (Located ℕ)) (stmt : StmtTree)
     → option_map located_value g.expression ≡ expression_given (above lines a k) stmt.body
     → option_map located_value (given_or g (map brief (definitions_in stmt)) name kept)
     ≡ or_kept lines a k (found_in (definitions_in stmt) name) (option_map located_value kept)

@@ -1,11 +1,12 @@
 -- What lines of a text say, as far as modules ask for it, and that no line of a text without faults has one.
 use Rattle.m51_asm.proofs.Common.{◌≡◌, ◌≢◌, inl, inr, ℕ, zero, suc, ◌+◌, ◌<◌, nat_lt, Bool, true, false, cond, List, []}
 use Rattle.m51_asm.proofs.Common.{◌∷◌, length, Option, Some, None, Result, Ok, Err, refl, ap, subst, ◌∙◌, arith}
-use Rattle.m51_asm.proofs.Common.{add-zero, list_all, and_parts, Kind, Reloc, IsWritten, Fault, SourceFile, BodyTree}
-use Rattle.m51_asm.proofs.Common.{StmtTree, Each, TextLine, faults_of, LineTree, Lines, with_statement, statements_of}
+use Rattle.m51_asm.proofs.Common.{add-zero, and_parts, Kind, Reloc, IsWritten, Fault, SourceFile, BodyTree}
+use Rattle.m51_asm.proofs.Common.{StmtTree, Each, LineTree, Lines}
 use Rattle.m51_asm.proofs.Common.{text_of, Assignment, body_at, Fits, is_misplaced, operand_fault, if_fault}
 use Rattle.m51_asm.proofs.Common.{faults_from, content_faults, AreFree, first_fault}
-use Rattle.std.specs.List.{AllByRecursion}
+use Rattle.m51_text.specs.Faults.{faults_of}
+use Rattle.std.specs.List.{AllByRecursion, list_all}
 use Rattle.std.proofs.lemmas.Bool.Decides.{nat_tests}
 use Rattle.std.proofs.lemmas.List.Elements.{All-from_recursion}
 use Rattle.m51_cells.specs.declared.kind.Kind.TheVariants as kind
@@ -26,8 +27,8 @@ use Rattle.m51_stmt.proofs.PrintedBodies.{IsSelected, IsBody}
 use Rattle.m51_stmt.proofs.PrintedStatements.{IsControl, IsLine}
 use Rattle.m51_stmt.proofs.ReadStatements.{written_is_good}
 use Rattle.m51_text.specs.Said.{is_character, said}
-use Rattle.m51_text.specs.Text.{text_lines}
-use Rattle.m51_text.specs.Answer.{faults_or_lines}
+use Rattle.m51_text.specs.Text.{text_lines, TextLine}
+use Rattle.m51_text.specs.Answer.{faults_or_lines, statements_of, with_statement}
 use Rattle.m51_asm.specs.Assignment.{above}
 use Rattle.m51_asm.specs.Repeats.{is_repeated}
 use Rattle.m51_asm.specs.PlacedFaults.{is_past, is_too_many, placed_fault}

@@ -14,14 +14,14 @@ use Rattle.m51_asm.specs.Above.{valuation_of, known, value_seen, IsKeptOf, Puts}
 use Rattle.m51_asm.proofs.SeenValues.{below, front_of_text, seen}
 
 -- the map's entry of a name
-pub lookup_value : (name : List ℕ) (entries : List (Vec ℕ × Option Located))
+pub lookup_value : (name : List ℕ) (entries : List (Vec ℕ × Option (Located ℕ)))
     → known (lookup (λ (k : Vec ℕ). bytes_eq name k.items) entries) ≡ value_in (valuation_of entries) name
 lookup_value name [] = refl
 lookup_value name (e ∷ es) =
     known_if (bytes_eq name e.0.items) e.1 (lookup (λ (k : Vec ℕ). bytes_eq name k.items) es)
     ∙ ap (λ o. cond (bytes_eq name e.0.items) e.1 o) (lookup_value name es)
   where
-    known_if : (b : Bool) (v : Option Located) (o : Option (Option Located))
+    known_if : (b : Bool) (v : Option (Located ℕ)) (o : Option (Option (Located ℕ)))
         → known (cond b (Some v) o) ≡ cond b v (known o)
     known_if true v o = refl
     known_if false v o = refl
@@ -30,18 +30,18 @@ twice : {A : Type 0} (b : Bool) (x y : A) → cond b x y ≡ cond b x (cond b y 
 twice true x y = refl
 twice false x y = refl
 
-in_place : (b : Bool) (v w o : Option Located) → cond b v o ≡ cond b v (cond b w o)
+in_place : (b : Bool) (v w o : Option (Located ℕ)) → cond b v o ≡ cond b v (cond b w o)
 in_place true v w o = refl
 in_place false v w o = refl
 
-exchanged : (b c : Bool) (v w o : Option Located) → (b ≡ true → c ≡ true → ⊥)
+exchanged : (b c : Bool) (v w o : Option (Located ℕ)) → (b ≡ true → c ≡ true → ⊥)
     → cond b w (cond c v o) ≡ cond c v (cond b w o)
 exchanged true true v w o h = absurd (h refl refl)
 exchanged true false v w o h = refl
 exchanged false c v w o h = refl
 
-put_step : (b : Bool) (e : Vec ℕ × Option Located) (es rest : List (Vec ℕ × Option Located)) (key : Vec ℕ)
-    (v : Option Located) (other : List ℕ) → bytes_eq key.items e.0.items ≡ b
+put_step : (b : Bool) (e : Vec ℕ × Option (Located ℕ)) (es rest : List (Vec ℕ × Option (Located ℕ))) (key : Vec ℕ)
+    (v : Option (Located ℕ)) (other : List ℕ) → bytes_eq key.items e.0.items ≡ b
     → value_in (valuation_of rest) other ≡ cond (bytes_eq other key.items) v (value_in (valuation_of es) other)
     → value_in (valuation_of (cond b ((e.0, v) ∷ es) (e ∷ rest))) other
     ≡ cond (bytes_eq other key.items) v (cond (bytes_eq other e.0.items) e.1 (value_in (valuation_of es) other))
@@ -58,7 +58,7 @@ put_step false e es rest key v other h k =
     apart p = cc p
 
 -- a value that is put in
-pub put_value : (entries : List (Vec ℕ × Option Located)) (key : Vec ℕ) (v : Option Located)
+pub put_value : (entries : List (Vec ℕ × Option (Located ℕ))) (key : Vec ℕ) (v : Option (Located ℕ))
     → Puts (valuation_of entries)
     (valuation_of (insert_entry (λ (a b : Vec ℕ). bytes_eq a.items b.items) entries key v)) key.items v
 put_value [] key v other = refl
@@ -95,7 +95,7 @@ module _ (lines : List LineTree) (a : Assignment) (k : ℕ) (name : List ℕ) (u
       (sym (front_of_text lines k name))
 
 pub means : (lines : List LineTree) (a : Assignment) → Fits lines a
-    → (k : ℕ) (table : Table) (values : Valuation) (predefines : Bool) (bank : ℕ) (here : Located)
+    → (k : ℕ) (table : Table) (values : Valuation) (predefines : Bool) (bank : ℕ) (here : Located ℕ)
     → IsKeptOf lines a k table values predefines bank here → kept_meanings lines table values predefines bank here
     ≡ above lines a k
 unfolding above undefined_value

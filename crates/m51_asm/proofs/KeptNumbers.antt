@@ -1,7 +1,7 @@
 -- The numbers of segments in a module: each counts from 1 in the order of ids, and leads to the segment.
 use Rattle.m51_asm.proofs.Common.{◌≡◌, ◌≢◌, inl, inr, ℕ, suc, ◌<◌, ◌==◌, Bool, true, false, cond, List, [], ◌∷◌, map}
 use Rattle.m51_asm.proofs.Common.{Option, Some, None, option_map, refl, sym, ap, ◌∙◌, arith, eq-eqb, eqb-true, ne_eqb}
-use Rattle.m51_asm.proofs.Common.{numbered, Kept, from_one, place_in}
+use Rattle.m51_asm.proofs.Common.{numbered, Kept, from_one, index_in}
 use Rattle.std.specs.Prelude.{slice_get}
 use Rattle.std.proofs.lemmas.Option.{slice_get-map}
 use Rattle.m51_asm.specs.ObjectSegments.{number_in}
@@ -17,27 +17,27 @@ Ascend xs = Pairs (λ s t. s.id < t.id) xs
 -- a segment is at the index that its number gives
 pub record StandsAt (xs : List Kept) (s : Kept) : Type 0 where
   pub index : ℕ
-  pub found : place_in (ids xs) s.id ≡ Some index
+  pub found : index_in (ids xs) s.id ≡ Some index
   pub got : slice_get xs index ≡ Some s
 
-later_place : (x : Kept) (xs : List Kept) (id : ℕ) → x.id ≢ id
-    → place_in (ids (x ∷ xs)) id ≡ option_map (λ n. suc n) (place_in (ids xs) id)
-later_place x xs id ne = ap (λ b. cond b (Some 0) (option_map (λ n. suc n) (place_in (ids xs) id))) (ne_eqb x.id id ne)
+later_index : (x : Kept) (xs : List Kept) (id : ℕ) → x.id ≢ id
+    → index_in (ids (x ∷ xs)) id ≡ option_map (λ n. suc n) (index_in (ids xs) id)
+later_index x xs id ne = ap (λ b. cond b (Some 0) (option_map (λ n. suc n) (index_in (ids xs) id))) (ne_eqb x.id id ne)
 
-first_place : (x : Kept) (xs : List Kept) (id : ℕ) → x.id ≡ id → place_in (ids (x ∷ xs)) id ≡ Some 0
-first_place x xs id e = ap (λ b. cond b (Some 0) (option_map (λ n. suc n) (place_in (ids xs) id))) (eq-eqb x.id id e)
+first_index : (x : Kept) (xs : List Kept) (id : ℕ) → x.id ≡ id → index_in (ids (x ∷ xs)) id ≡ Some 0
+first_index x xs id e = ap (λ b. cond b (Some 0) (option_map (λ n. suc n) (index_in (ids xs) id))) (eq-eqb x.id id e)
 
 pub stands : (xs : List Kept) → Ascend xs → (s : Kept) → In s xs → StandsAt xs s
 unfolding Pairs Every
 stands [] h s i = absurd (no_element s i)
 stands (x ∷ xs) h s i = elim (in_cons s x xs i) [
-  | inl e ↦ record { index = 0; found = first_place x xs s.id (ap (λ (k : Kept). k.id) e); got = ap (λ y. Some y) e }
+  | inl e ↦ record { index = 0; found = first_index x xs s.id (ap (λ (k : Kept). k.id) e); got = ap (λ y. Some y) e }
   | inr j ↦
       let r = stands xs h.1 s j in
       let less : x.id < s.id = h.0 s j in
       record {
         index = suc r.index;
-        found = later_place x xs s.id (omega (arith, less)) ∙ ap (option_map (λ n. suc n)) r.found;
+        found = later_index x xs s.id (omega (arith, less)) ∙ ap (option_map (λ n. suc n)) r.found;
         got = r.got;
       }
 ]
@@ -61,27 +61,27 @@ pub record IsNumbered (xs : List Kept) (id : ℕ) : Type 0 where
   pub id_is : kept.id ≡ id
 
 found_by : (x : Kept) (xs : List Kept) (id n : ℕ) (b : Bool) → (x.id == id) ≡ b
-    → ((m : ℕ) → place_in (ids xs) id ≡ Some m → IsNumbered xs id)
-    → cond b (Some 0) (option_map (λ n. suc n) (place_in (ids xs) id)) ≡ Some n → IsNumbered (x ∷ xs) id
+    → ((m : ℕ) → index_in (ids xs) id ≡ Some m → IsNumbered xs id)
+    → cond b (Some 0) (option_map (λ n. suc n) (index_in (ids xs) id)) ≡ Some n → IsNumbered (x ∷ xs) id
 found_by x xs id n true test go h = record { kept = x; there = in_first x xs; id_is = eqb-true x.id id test }
-found_by x xs id n false test go h = by_place (place_in (ids xs) id) refl h
+found_by x xs id n false test go h = by_index (index_in (ids xs) id) refl h
   where
-    by_place : (o : Option ℕ) → place_in (ids xs) id ≡ o → option_map (λ n. suc n) o ≡ Some n → IsNumbered (x ∷ xs) id
-    by_place None e h = absurd (cc h)
-    by_place (Some m) e h = let r = go m e in
+    by_index : (o : Option ℕ) → index_in (ids xs) id ≡ o → option_map (λ n. suc n) o ≡ Some n → IsNumbered (x ∷ xs) id
+    by_index None e h = absurd (cc h)
+    by_index (Some m) e h = let r = go m e in
         record { kept = r.kept; there = in_later r.kept x xs r.there; id_is = r.id_is }
 
-found_place : (xs : List Kept) (id n : ℕ) → place_in (ids xs) id ≡ Some n → IsNumbered xs id
-found_place [] id n h = absurd (cc h)
-found_place (x ∷ xs) id n h = found_by x xs id n (x.id == id) refl (λ m e. found_place xs id m e) h
+found_index : (xs : List Kept) (id n : ℕ) → index_in (ids xs) id ≡ Some n → IsNumbered xs id
+found_index [] id n h = absurd (cc h)
+found_index (x ∷ xs) id n h = found_by x xs id n (x.id == id) refl (λ m e. found_index xs id m e) h
 
 pub has_number : (xs : List Kept) (id : ℕ) → number_in xs id ≢ 0 → IsNumbered xs id
 unfolding number_in
-has_number xs id ne = by_place (place_in (ids xs) id) refl ne
+has_number xs id ne = by_index (index_in (ids xs) id) refl ne
   where
-    by_place : (o : Option ℕ) → place_in (ids xs) id ≡ o → from_one o ≢ 0 → IsNumbered xs id
-    by_place None e ne = absurd (ne refl)
-    by_place (Some n) e ne = found_place xs id n e
+    by_index : (o : Option ℕ) → index_in (ids xs) id ≡ o → from_one o ≢ 0 → IsNumbered xs id
+    by_index None e ne = absurd (ne refl)
+    by_index (Some n) e ne = found_index xs id n e
 
 pub number_of_kept : (xs : List Kept) → Ascend xs → (s : Kept) → In s xs → number_in xs s.id ≢ 0
 number_of_kept xs h s i = let r = stands xs h s i in λ e. absurd (omega (arith, e, number_is xs s r))
@@ -94,9 +94,9 @@ numbers_ascend (x ∷ xs) h = (
   λ t i.
       let r = stands xs h.1 t i in
       let less : x.id < t.id = h.0 t i in
-      let first : from_one (place_in (ids (x ∷ xs)) x.id) ≡ 1 = ap from_one (first_place x xs x.id refl) in
-      let second : from_one (place_in (ids (x ∷ xs)) t.id) ≡ suc (suc r.index) =
-      ap from_one (later_place x xs t.id (omega (arith, less)) ∙ ap (option_map (λ n. suc n)) r.found) in
+      let first : from_one (index_in (ids (x ∷ xs)) x.id) ≡ 1 = ap from_one (first_index x xs x.id refl) in
+      let second : from_one (index_in (ids (x ∷ xs)) t.id) ≡ suc (suc r.index) =
+      ap from_one (later_index x xs t.id (omega (arith, less)) ∙ ap (option_map (λ n. suc n)) r.found) in
       omega (arith, first, second),
   shifted xs x h.1 h.0 xs (λ s i. i) (numbers_ascend xs h.1),
 )
@@ -106,7 +106,7 @@ numbers_ascend (x ∷ xs) h = (
     one_more xs x order above s i =
         let r = stands xs order s i in
         let less : x.id < s.id = above s i in
-        ap from_one (later_place x xs s.id (omega (arith, less)) ∙ ap (option_map (λ n. suc n)) r.found)
+        ap from_one (later_index x xs s.id (omega (arith, less)) ∙ ap (option_map (λ n. suc n)) r.found)
         ∙ ap suc (sym (number_is xs s r))
 
     shifted : (xs : List Kept) (x : Kept) → Ascend xs → ((t : Kept) → In t xs → x.id < t.id) → (ys : List Kept)

@@ -7,8 +7,6 @@ pub mod PublicKeys
 pub mod DefinedLines
 pub mod RenumberedValues
 pub mod OneAnswer
-pub mod LocatedValues
-pub mod FewNames
 pub mod GrowingValues
 pub mod SeenValues
 pub mod KeptMeanings

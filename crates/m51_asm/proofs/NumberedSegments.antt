@@ -3,7 +3,7 @@ use Rattle.m51_asm.proofs.Common.{◌≡◌, ℕ, zero, suc, ◌+◌, ◌<◌, �
 use Rattle.m51_asm.proofs.Common.{map, length, length-append, Option, Some, None, option_map, is_some, ◌&&◌, refl, ap}
 use Rattle.m51_asm.proofs.Common.{sym, ◌∙◌, arith, eq-eqb, eqb-true, eqb-false, ne_eqb, length-map, Segment, BodyTree}
 use Rattle.m51_asm.proofs.Common.{LineTree, TextSegment, Assignment, opening, body_at, or_here, Kept, size_of, kept_by}
-use Rattle.m51_asm.proofs.Common.{from_one, place_in, number_at, IsNumberedTo}
+use Rattle.m51_asm.proofs.Common.{from_one, index_in, number_at, IsNumberedTo}
 use Rattle.std.proofs.Common.{append-nil}
 use Rattle.std.proofs.lemmas.List.{map-append}
 use Rattle.m51_stmt.specs.Statement.{Segment as Declares}
@@ -73,17 +73,17 @@ or_later None false n = refl
 
 -- the index of an id in a table with one more
 pub place_pushed : (table : List ℕ) (new id : ℕ)
-    → place_in (table ++ new ∷ []) id ≡ or_here (place_in table id) (cond (new == id) (Some (length table)) None)
+    → index_in (table ++ new ∷ []) id ≡ or_here (index_in table id) (cond (new == id) (Some (length table)) None)
 place_pushed [] new id = refl
 place_pushed (other ∷ table) new id = first (other == id) (place_pushed table new id)
   where
-    first : (b : Bool) → place_in (table ++ new ∷ []) id
-        ≡ or_here (place_in table id) (cond (new == id) (Some (length table)) None)
-        → cond b (Some 0) (option_map (λ n. suc n) (place_in (table ++ new ∷ []) id))
-        ≡ or_here (cond b (Some 0) (option_map (λ n. suc n) (place_in table id)))
+    first : (b : Bool) → index_in (table ++ new ∷ []) id
+        ≡ or_here (index_in table id) (cond (new == id) (Some (length table)) None)
+        → cond b (Some 0) (option_map (λ n. suc n) (index_in (table ++ new ∷ []) id))
+        ≡ or_here (cond b (Some 0) (option_map (λ n. suc n) (index_in table id)))
         (cond (new == id) (Some (suc (length table))) None)
     first true h = refl
-    first false h = ap (option_map (λ n. suc n)) h ∙ or_later (place_in table id) (new == id) (length table)
+    first false h = ap (option_map (λ n. suc n)) h ∙ or_later (index_in table id) (new == id) (length table)
 
 abbrev pub ids : List Kept → List ℕ
 ids segments = map (λ s. s.id) segments
@@ -92,28 +92,28 @@ other_id : (new id : ℕ) → (new ≡ id → ⊥) → (n : ℕ) → cond (new =
 other_id new id ne n = ap (λ b. cond b (Some n) None) (ne_eqb new id ne)
 
 -- the index of an id after what a line adds
-place_added : (segments : List Kept) (id : ℕ) (o : Option Segment) (other : ℕ)
-    → place_in (ids (segments ++ kept_as id o)) other
-    ≡ or_here (place_in (ids segments) other) (cond (is_some o && id == other) (Some (length (ids segments))) None)
+index_added : (segments : List Kept) (id : ℕ) (o : Option Segment) (other : ℕ)
+    → index_in (ids (segments ++ kept_as id o)) other
+    ≡ or_here (index_in (ids segments) other) (cond (is_some o && id == other) (Some (length (ids segments))) None)
 unfolding kept_as
-place_added segments id None other =
-    ap (λ ks. place_in (ids ks) other) (append-nil segments) ∙ sym (or_none (place_in (ids segments) other))
-place_added segments id (Some s) other =
-    ap (λ t. place_in t other) (map-append (λ (k : Kept). k.id) segments (record { id = id; segment = s } ∷ []))
+index_added segments id None other =
+    ap (λ ks. index_in (ids ks) other) (append-nil segments) ∙ sym (or_none (index_in (ids segments) other))
+index_added segments id (Some s) other =
+    ap (λ t. index_in t other) (map-append (λ (k : Kept). k.id) segments (record { id = id; segment = s } ∷ []))
     ∙ place_pushed (ids segments) id other
 
 -- ids of later lines have no segment yet
 pub not_yet : (lines : List LineTree) (a : Assignment) (k id : ℕ) → k + 2 ≤ id
-    → place_in (ids (kept_before lines a k)) id ≡ None
+    → index_in (ids (kept_before lines a k)) id ≡ None
 unfolding kept_before
 not_yet lines a zero id h = opening_only (size_of lines a opening.id)
   where
-    opening_only : (size : ℕ) → place_in (ids (if_filled opening size)) id ≡ None
+    opening_only : (size : ℕ) → index_in (ids (if_filled opening size)) id ≡ None
     opening_only zero = refl
     opening_only (suc more) = ap (λ b. cond b (Some 0) None) (ne_eqb 1 id (λ e. omega (arith, h, e)))
 not_yet lines a (suc k) id h =
-    ap (λ ks. place_in (ids (kept_before lines a k ++ ks)) id) (sym (added_kept lines a k (body_at lines k)))
-    ∙ place_added (kept_before lines a k) (k + 2)
+    ap (λ ks. index_in (ids (kept_before lines a k ++ ks)) id) (sym (added_kept lines a k (body_at lines k)))
+    ∙ index_added (kept_before lines a k) (k + 2)
     (segment_added (size_of lines a) k (a.segment (suc k)) (body_at lines k)) id
     ∙ (λ i. or_here (not_yet lines a k id (omega (arith, h)) i)
     (cond_none (is_some (segment_added (size_of lines a) k (a.segment (suc k)) (body_at lines k))) i))
@@ -148,24 +148,24 @@ module _ (lines : List LineTree) (a : Assignment) (k : ℕ) (segments : List Seg
 
   number_after : (o : Option Segment) (id : ℕ) (b : Bool) → (id == k + 2) ≡ b
       → cond b (next_number (length segments) o) (number_at numbers id)
-      ≡ from_one (or_here (place_in (ids (kept_before lines a k)) id)
+      ≡ from_one (or_here (index_in (ids (kept_before lines a k)) id)
       (cond (is_some o && (k + 2 == id)) (Some (length (ids (kept_before lines a k)))) None))
   unfolding number_in
   number_after None id true e =
       let same : id ≡ k + 2 = eqb-true id (k + 2) e in
-      sym (ap from_one (or_none (place_in (ids (kept_before lines a k)) id)
+      sym (ap from_one (or_none (index_in (ids (kept_before lines a k)) id)
       ∙ not_yet lines a k id (omega (arith, same))))
   number_after None id false e =
-      h.each id ∙ sym (ap from_one (or_none (place_in (ids (kept_before lines a k)) id)))
+      h.each id ∙ sym (ap from_one (or_none (index_in (ids (kept_before lines a k)) id)))
   number_after (Some s) id true e =
       let same : id ≡ k + 2 = eqb-true id (k + 2) e in
       ap (λ n. suc n) count_is
       ∙ sym (λ i. from_one (or_here (not_yet lines a k id (omega (arith, same)) i)
       (cond (eq-eqb (k + 2) id (sym same) i) (Some (length (ids (kept_before lines a k)))) None)))
   number_after (Some s) id false e =
-      h.each id ∙ sym (ap from_one (ap (or_here (place_in (ids (kept_before lines a k)) id))
+      h.each id ∙ sym (ap from_one (ap (or_here (index_in (ids (kept_before lines a k)) id))
       (other_id (k + 2) id (λ p. eqb-false id (k + 2) e (sym p)) (length (ids (kept_before lines a k))))
-      ∙ or_none (place_in (ids (kept_before lines a k)) id)))
+      ∙ or_none (index_in (ids (kept_before lines a k)) id)))
 
   each_more : (id : ℕ) → number_at (numbers ++ next_number (length segments) o ∷ []) id
       ≡ number_in (kept_before lines a (suc k)) id
@@ -174,7 +174,7 @@ module _ (lines : List LineTree) (a : Assignment) (k : ℕ) (segments : List Seg
       number_pushed numbers (next_number (length segments) o) id
       ∙ ap (λ n. cond (id == n) (next_number (length segments) o) (number_at numbers id)) h.counted
       ∙ number_after o id (id == k + 2) refl
-      ∙ sym (ap from_one (place_added (kept_before lines a k) (k + 2) o id))
+      ∙ sym (ap from_one (index_added (kept_before lines a k) (k + 2) o id))
       ∙ ap (λ ks. number_in ks id) (sym before_is)
 
   pub numbered_more : IsNumberedTo lines a (suc k) (segments ++ as_list o)
@@ -189,7 +189,7 @@ module _ (lines : List LineTree) (a : Assignment) (k : ℕ) (segments : List Seg
 module _ (lines : List LineTree) (a : Assignment) where
   first_number : (size id : ℕ)
       → number_at (0 ∷ next_number 0 (segment_filled opening size) ∷ []) id
-      ≡ from_one (place_in (ids (if_filled opening size)) id)
+      ≡ from_one (index_in (ids (if_filled opening size)) id)
   first_number zero zero = refl
   first_number zero (suc zero) = refl
   first_number zero (suc (suc id)) = refl

@@ -3,7 +3,7 @@ use Rattle.m51_asm.proofs.Common.{◌≡◌, ℕ, zero, suc, ◌+◌, ◌-◌, �
 use Rattle.m51_asm.proofs.Common.{option_map, Ok, Err, refl, ap, sym, ◌∙◌, slice_get, arith, Base, Value, BodyTree}
 use Rattle.m51_asm.proofs.Common.{LineTree, or_next, PlacedText, LinePlace, Definition, Label, SegmentOf, EquOf, SetOf}
 use Rattle.m51_asm.proofs.Common.{AddressOf, ExternOf, Assignment, body_of, body_at, segment_by, Fits, first_definition}
-use Rattle.m51_asm.proofs.Common.{segment_number, segment_of, declared_or, object_base, object_value, text_segment}
+use Rattle.m51_asm.proofs.Common.{segment_number, segment_of, declared_or, text_segment}
 use Rattle.m51_asm.proofs.Common.{IsAssignedText, AreNamesAt, fault_among}
 use Rattle.std.proofs.lemmas.Option.{slice_get_past}
 use Rattle.m51_cells.specs.declared.kind.Base.TheVariants as base
@@ -15,7 +15,7 @@ use Rattle.m51_asm.specs.declared.object_names.ObjectNames.{ObjectNames}
 use Rattle.m51_asm.specs.Definitions.{definition_of}
 use Rattle.m51_asm.specs.Assignment.{reloc_by, above}
 use Rattle.m51_asm.specs.Fitting.{segment_behind, last_absolute}
-use Rattle.m51_asm.specs.ObjectMeanings.{final}
+use Rattle.m51_asm.specs.ObjectMeanings.{final, object_base, object_value}
 use Rattle.m51_asm.specs.PublicNames.{public_of_value, public_valued, public_by, published}
 use Rattle.m51_asm.specs.Publishing.{definer_of, declared_as, next_of, counted_from, counted_by, segment_in}
 use Rattle.m51_asm.specs.Publishing.{published_from, published_by, fault_of_public}

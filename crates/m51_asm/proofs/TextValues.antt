@@ -53,7 +53,7 @@ value_is lines a f k table kept set predefines bank h name =
     ∙ sym (f.values k name)
 
 -- what the definitions of a line give by SET
-module _ (names : Meanings) (last : Option Value) (name : List ℕ) (given kept : Option Located)
+module _ (names : Meanings) (last : Option Value) (name : List ℕ) (given kept : Option (Located ℕ))
     (was : option_map located_value kept ≡ last) where
   if_external : (b : Bool) (kind : Kind) (number : ℕ) (later : Option Definition) → set_by names last later ≡ last
       → set_by names last (cond b (Some (ExternOf kind number)) later) ≡ last

@@ -27,7 +27,7 @@ some_named None = refl
 module _ (lines : List LineTree) (a : Assignment) (f : Fits lines a) (k : ℕ) (s : PassOneState) (at : IsAt lines a k s)
   where
     -- the place of a line
-    pub here_is : (here : Located)
+    pub here_is : (here : Located ℕ)
         → located_value here ≡ here_of (text_segment s.segment) (size_in s.filled s.segment.id)
         → located_value here ≡ here_at a k
     here_is here h =
@@ -42,7 +42,7 @@ module _ (lines : List LineTree) (a : Assignment) (f : Fits lines a) (k : ℕ) (
 
     -- what names mean at a line
     pub names_are : (table : Table) → IsTableOf lines table → (predefines : Bool) → predefines ≡ mod51 lines
-        → (here : Located)
+        → (here : Located ℕ)
         → located_value here ≡ here_of (text_segment s.segment) (size_in s.filled s.segment.id)
         → kept_meanings lines table s.values predefines s.bank here ≡ above lines a k
     names_are table names predefines p here h = means lines a f k table s.values predefines s.bank here (record {

@@ -3,7 +3,7 @@ use Rattle.m51_asm.proofs.Common.{◌≡◌, ◌⊎◌, inl, inr, ℕ, zero, suc
 use Rattle.m51_asm.proofs.Common.{◌∷◌, length, Option, Some, None, option_map, refl, sym, ap, subst, ◌∙◌, arith, Base}
 use Rattle.m51_asm.proofs.Common.{Field, Fixup, Segment, numbered, Value, Meanings, FieldValue, Number, Linked}
 use Rattle.m51_asm.proofs.Common.{Reference, reference_of, linked_is, LineTree, Assignment, here_at, object_segments}
-use Rattle.m51_asm.proofs.Common.{segment_number, object_base, object_value, externals, pieces, fixups}
+use Rattle.m51_asm.proofs.Common.{segment_number, externals, pieces, fixups}
 use Rattle.std.specs.Prelude.{slice_get}
 use Rattle.std.proofs.lemmas.Bool.{cases_eq}
 use Rattle.m51_cells.specs.declared.kind.Base.TheVariants as base
@@ -17,7 +17,7 @@ use Rattle.m51_encode.specs.Bases.{is_current, stands_absolute, is_linked}
 use Rattle.m51_encode.specs.FieldValues.{is_taken, distance, is_near, same_block, rel_of, addr11_of, taken_of, field_of}
 use Rattle.m51_encode.proofs.BitNumbers.{references_have_bits}
 use Rattle.m51_asm.specs.ObjectSegments.{kept, number_in}
-use Rattle.m51_asm.specs.ObjectMeanings.{final}
+use Rattle.m51_asm.specs.ObjectMeanings.{final, object_base, object_value}
 use Rattle.m51_asm.proofs.Members.{Every}
 use Rattle.m51_asm.proofs.GoodLines.{IsClean, free_text}
 use Rattle.m51_asm.proofs.KeptSegments.{AreKept, all_kept}

@@ -12,36 +12,36 @@ use Rattle.m51_asm.specs.declared.names.FirstDefinition.{FirstDefinition}
 use Rattle.m51_asm.specs.Definitions.{definition_of}
 use Rattle.m51_asm.specs.Assignment.{Assignment, is_bitaddressable, segment_reloc, here_at, above}
 use Rattle.m51_asm.specs.Fitting.{mod51, bank_before, register_or_predefined, Fits}
-use Rattle.m51_asm.specs.Located.{located_value}
+use Rattle.m51_expr.specs.Located.{located_value}
 use Rattle.m51_asm.specs.Table.{Table, first_in, first_definition}
 use Rattle.m51_asm.specs.ValuesAbove.{value_above}
-use Rattle.m51_asm.specs.declared.values.Origin.TheVariants as origin
-use Rattle.m51_asm.specs.declared.values.Located.{Located}
+use Rattle.m51_expr.specs.declared.located.Origin.TheVariants as origin
+use Rattle.m51_expr.specs.declared.located.Located.{Located}
 
 -- a number without a base
-abbrev pub plain_located : Value → Located
+abbrev pub plain_located : Value → Located ℕ
 plain_located v = record { number = v.number; class = v.class; origin = origin.None; part = Whole }
 
 -- names with their values, or with none where the expression that defines them has a fault
 abbrev pub Valuation : Type 0
-Valuation = List (List ℕ × Option Located)
+Valuation = List (List ℕ × Option (Located ℕ))
 
 -- the values of these entries of a map
-abbrev pub valuation_of : List (Vec ℕ × Option Located) → Valuation
+abbrev pub valuation_of : List (Vec ℕ × Option (Located ℕ)) → Valuation
 valuation_of entries = map (λ e. (e.0.items, e.1)) entries
 
 -- the value of a name
-abbrev pub value_in : Valuation → List ℕ → Option Located
+abbrev pub value_in : Valuation → List ℕ → Option (Located ℕ)
 value_in [] name = None
 value_in (e ∷ more) name = if bytes_eq name e.0 then e.1 else value_in more name
 
 -- the value of a name that is looked up, if it is known and has one
-abbrev pub known : Option (Option Located) → Option Located
+abbrev pub known : Option (Option (Located ℕ)) → Option (Located ℕ)
 known (Some value) = value
 known None = None
 
 -- the name has this value now, and each other name the one that it had
-abbrev pub Puts : Valuation → Valuation → List ℕ → Option Located → Type 0
+abbrev pub Puts : Valuation → Valuation → List ℕ → Option (Located ℕ) → Type 0
 Puts old new name value =
     (other : List ℕ) → value_in new other ≡ (if bytes_eq other name then value else value_in old other)
 
@@ -52,7 +52,7 @@ value_seen None undefined (Some first) = None
 value_seen None undefined None = undefined
 
 -- what names and the place of line k mean, by the state after the lines above
-abbrev pub kept_meanings : List LineTree → Table → Valuation → Bool → ℕ → Located → Meanings
+abbrev pub kept_meanings : List LineTree → Table → Valuation → Bool → ℕ → Located ℕ → Meanings
 kept_meanings lines table values mod51 bank here = record {
   value = λ name.
       value_seen (option_map located_value (value_in values name))
@@ -64,7 +64,7 @@ kept_meanings lines table values mod51 bank here = record {
 
 -- what is kept is what the lines above line k give under the assignment
 pub record IsKeptOf (lines : List LineTree) (a : Assignment) (k : ℕ) (table : Table) (values : Valuation)
-    (predefines : Bool) (bank : ℕ) (here : Located) : Type 0 where
+    (predefines : Bool) (bank : ℕ) (here : Located ℕ) : Type 0 where
   pub names : (name : List ℕ) → first_in table name ≡ option_map first_definition (definition_of lines name)
   pub known : (name : List ℕ) → option_map located_value (value_in values name) ≡ value_above lines a k name
   pub predefined : predefines ≡ mod51 lines
@@ -75,6 +75,6 @@ pub record IsKeptOf (lines : List LineTree) (a : Assignment) (k : ℕ) (table : 
 abbrev pub KeptMeans : Type 0
 KeptMeans =
     (lines : List LineTree) (a : Assignment) → Fits lines a
-    → (k : ℕ) (table : Table) (values : Valuation) (predefines : Bool) (bank : ℕ) (here : Located)
+    → (k : ℕ) (table : Table) (values : Valuation) (predefines : Bool) (bank : ℕ) (here : Located ℕ)
     → IsKeptOf lines a k table values predefines bank here
     → kept_meanings lines table values predefines bank here ≡ above lines a k

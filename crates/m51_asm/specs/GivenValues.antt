@@ -9,8 +9,8 @@ use Rattle.m51_expr.specs.Evaluation.{value_of}
 use Rattle.m51_stmt.specs.Statement.{BodyTree, Equ, Set, Address}
 use Rattle.m51_asm.specs.declared.definitions.How.{How}
 use Rattle.m51_asm.specs.declared.definitions.How.TheVariants as how
-use Rattle.m51_asm.specs.declared.values.Origin.TheVariants as origin
-use Rattle.m51_asm.specs.declared.values.Located.{Located}
+use Rattle.m51_expr.specs.declared.located.Origin.TheVariants as origin
+use Rattle.m51_expr.specs.declared.located.Located.{Located}
 use Rattle.m51_asm.specs.declared.giving.Giving.{Giving}
 use Rattle.m51_asm.specs.Assignment.{value_or_none}
 use Rattle.m51_asm.specs.Fitting.{with_class}
@@ -24,22 +24,22 @@ expression_given names (Address name kind e) = option_map (with_class kind) (val
 expression_given names body = None
 
 -- a segment that a line declares
-abbrev pub segment_given : Kind → ℕ → Located
+abbrev pub segment_given : Kind → ℕ → Located ℕ
 segment_given kind line = record { number = 0; class = kind; origin = origin.Segment (line + 2); part = Whole }
 
 -- an external of this number, counted from 1
-abbrev pub external_given : Kind → ℕ → Located
+abbrev pub external_given : Kind → ℕ → Located ℕ
 external_given kind number = record { number = 0; class = kind; origin = origin.External number; part = Whole }
 
 -- what a line gives to a name that it defines so
-abbrev pub given_by : Giving → How → Option Located
+abbrev pub given_by : Giving → How → Option (Located ℕ)
 given_by g how.Label = Some g.here
 given_by g (how.Segment kind) = Some (segment_given kind g.line)
 given_by g (how.External kind number) = Some (external_given kind (g.externals + number + 1))
 given_by g how = g.expression
 
 -- the value of a name after these definitions, of which the first one of a name counts
-abbrev pub given_or : Giving → List Brief → List ℕ → Option Located → Option Located
+abbrev pub given_or : Giving → List Brief → List ℕ → Option (Located ℕ) → Option (Located ℕ)
 given_or g [] name kept = kept
 given_or g (d ∷ more) name kept = if bytes_eq name d.0 then given_by g d.1 else given_or g more name kept
 

@@ -19,8 +19,6 @@ pub mod Parts
 pub mod AnswerRows
 pub mod Answer
 pub mod AnswerLaws
-pub mod Located
-pub mod FewNames
 pub mod LineFaults
 pub mod ValuesAbove
 pub mod Above

@@ -8,7 +8,7 @@ use Rattle.m51_asm.specs.declared.object_names.PlacedText.{PlacedText}
 use Rattle.m51_asm.specs.declared.values_at.ValuesAt.{ValuesAt}
 use Rattle.m51_asm.specs.Assignment.{Assignment}
 use Rattle.m51_asm.specs.Fitting.{mod51, Fits}
-use Rattle.m51_asm.specs.Located.{located_value}
+use Rattle.m51_expr.specs.Located.{located_value}
 use Rattle.m51_asm.specs.ObjectMeanings.{object_meanings, final}
 use Rattle.m51_asm.specs.Placing.{IsTableOf}
 use Rattle.m51_asm.specs.Passing.{IsPlaced}

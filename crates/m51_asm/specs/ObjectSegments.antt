@@ -84,17 +84,13 @@ from_one None = 0
 from_one (Some index) = suc index
 
 -- the index of an id in a table, counted from 0
-abbrev pub place_in : List ℕ → ℕ → Option ℕ
-place_in [] id = None
-place_in (other ∷ more) id = if other == id then Some 0 else option_map (λ n. suc n) (place_in more id)
-
--- the number of a segment in a table of ids, counted from 1, and 0 where it is not there
-abbrev pub local_number : List ℕ → ℕ → ℕ
-local_number table id = from_one (place_in table id)
+abbrev pub index_in : List ℕ → ℕ → Option ℕ
+index_in [] id = None
+index_in (other ∷ more) id = if other == id then Some 0 else option_map (λ n. suc n) (index_in more id)
 
 -- the number of a segment in the module, counted from 1, and 0 where the module does not have it
 unfoldable pub number_in : List Kept → ℕ → ℕ
-number_in segments id = local_number (map (λ s. s.id) segments) id
+number_in segments id = from_one (index_in (map (λ s. s.id) segments) id)
 
 abbrev pub segment_number : List LineTree → Assignment → ℕ → ℕ
 segment_number lines a id = number_in (kept lines a) id

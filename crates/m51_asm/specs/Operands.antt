@@ -6,7 +6,7 @@ use Rattle.m51_stmt.specs.Statement.{BodyTree, Ds, Dbit, Org, Select}
 use Rattle.m51_asm.specs.declared.operands.Evaluated.{Evaluated}
 use Rattle.m51_asm.specs.declared.operands.Evaluated.TheVariants as operand
 use Rattle.m51_asm.specs.Assignment.{number_or_zero}
-use Rattle.m51_asm.specs.Located.{located_value}
+use Rattle.m51_expr.specs.Located.{located_value}
 
 abbrev pub evaluated_fault : Evaluated → Option ℕ
 evaluated_fault (operand.Fault number) = Some number

@@ -24,7 +24,7 @@ use Rattle.m51_asm.specs.Fitting.{last_absolute, size_at, filled, bank_by, bank_
 use Rattle.m51_asm.specs.PlacedFaults.{kind_end, segments_before, operand_fault, placed_fault}
 use Rattle.m51_asm.specs.Table.{Table, first_in, first_definition}
 use Rattle.m51_asm.specs.ValuesAbove.{value_above}
-use Rattle.m51_asm.specs.Located.{located_value}
+use Rattle.m51_expr.specs.Located.{located_value}
 use Rattle.m51_asm.specs.Above.{value_in}
 use Rattle.m51_asm.specs.OpenSegments.{text_segment, last_in}
 use Rattle.m51_asm.specs.Filled.{size_in, saturated}

@@ -7,10 +7,10 @@ use Rattle.m51_stmt.specs.Statement.{BodyTree, Set}
 use Rattle.m51_text.specs.Answer.{LineTree}
 use Rattle.m51_predefined.specs.Predefined.{absolute_register_of}
 use Rattle.m51_asm.specs.declared.names.FirstDefinition.{FirstDefinition}
-use Rattle.m51_asm.specs.declared.values.Located.{Located}
+use Rattle.m51_expr.specs.declared.located.Located.{Located}
 use Rattle.m51_asm.specs.Assignment.{Assignment}
 use Rattle.m51_asm.specs.Fitting.{mod51, bank_before, last_set, register_or_predefined}
-use Rattle.m51_asm.specs.Located.{located_value}
+use Rattle.m51_expr.specs.Located.{located_value}
 use Rattle.m51_asm.specs.Table.{Table, first_in, sets}
 use Rattle.m51_asm.specs.ValuesAbove.{value_above}
 use Rattle.m51_asm.specs.Above.{Valuation, value_in}
@@ -47,12 +47,12 @@ set_in label (Set name e) = if is_label label name then None else Some name
 set_in label body = None
 
 -- the value of a name where one of this name may be put in
-abbrev pub if_put : Option (List ℕ) → Option Located → List ℕ → Option Located → Option Located
+abbrev pub if_put : Option (List ℕ) → Option (Located ℕ) → List ℕ → Option (Located ℕ) → Option (Located ℕ)
 if_put None value name kept = kept
 if_put (Some other) value name kept = if bytes_eq name other then value else kept
 
 -- the one of this name, if there is one, has this value now, and each other the one that it had
-abbrev pub PutsIf : Valuation → Valuation → Option (List ℕ) → Option Located → Type 0
+abbrev pub PutsIf : Valuation → Valuation → Option (List ℕ) → Option (Located ℕ) → Type 0
 PutsIf old new put value = (name : List ℕ) → value_in new name ≡ if_put put value name (value_in old name)
 
 -- what is kept of the whole text and of the lines above line k

@@ -7,14 +7,13 @@ ghost use Rattle.m51_text.specs.Answer.{line_tree};
 ghost use Rattle.m51_predefined.specs.Predefined.{predefined_of, absolute_register_of, register_value};
 ghost use Rattle.m51_asm.specs.Assignment.{body_at, reloc_by, segment_reloc, is_bitaddressable};
 ghost use Rattle.m51_asm.specs.Fitting.{register_or_predefined};
-ghost use Rattle.m51_asm.specs.Located.{located_value};
+ghost use Rattle.m51_expr.specs.Located.{located_value};
 ghost use Rattle.m51_asm.specs.Above.{plain_located};
 
 use crate::names::TextNames;
 use crate::valuation::Values;
-use crate::values::{Located, Origin, Places};
 use m51_cells::{Name, Reloc, is_absolute};
-use m51_expr::{Part, Value};
+use m51_expr::{Located, Origin, Part, Places, Value};
 use m51_predefined::{absolute_register, predefined, register_value};
 use m51_stmt::Body;
 use m51_text::Line;
@@ -61,7 +60,7 @@ pub(crate) fn segment_reloc(lines: &[Line], id: u32) -> Reloc
 }
 
 // A predefined value, which counts from nothing.
-fn located(value: Value) -> Located
+fn located(value: Value) -> Located<u32>
     ensures { result ≡ plain_located value }
 {
     Located {
@@ -73,7 +72,7 @@ fn located(value: Value) -> Located
 }
 
 /// The value of a name that the text does not define: a register of the bank, or a predefined one.
-pub(crate) fn undefined_value(mod51: bool, bank: u8, name: &Name) -> Option<Located>
+pub(crate) fn undefined_value(mod51: bool, bank: u8, name: &Name) -> Option<Located<u32>>
     ensures { option_map located_value result
         ≡ register_or_predefined mod51 bank name.now (absolute_register_of name.now) }
 {
@@ -100,10 +99,10 @@ pub(crate) struct Above<'a> {
     pub(crate) values: &'a Values,
     pub(crate) mod51: bool,
     pub(crate) bank: u8,
-    pub(crate) here: Located,
+    pub(crate) here: Located<u32>,
 }
 
-impl<'a> Places for Above<'a> {
+impl<'a> Places<u32> for Above<'a> {
     ghost use Rattle.std.specs.Prelude.{map};
     ghost use Rattle.m51_text.specs.Answer.{line_tree};
     ghost use Rattle.m51_asm.specs.Above.{kept_meanings};
@@ -111,7 +110,7 @@ impl<'a> Places for Above<'a> {
     ghost meanings = { λ s. kept_meanings (map line_tree s.lines.now) s.names.now s.values.now
         s.mod51 s.bank s.here };
 
-    fn value(&self, name: &Name) -> Option<Located> {
+    fn value(&self, name: &Name) -> Option<Located<u32>> {
         match self.values.get(name) {
             Some(value) => Some(value),
             None => match self.names.first(name) {
@@ -121,7 +120,7 @@ impl<'a> Places for Above<'a> {
         }
     }
 
-    fn here(&self) -> Located {
+    fn here(&self) -> Located<u32> {
         self.here
     }
 

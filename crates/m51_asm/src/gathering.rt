@@ -49,8 +49,8 @@ fn add_line(
     }
 }
 
-/// Adds the content of a line that is placed, unless the line or one above it has a fault. The only error is out of
-/// memory.
+/// Adds the content of a line that is placed, unless the line or one above it has a fault: nothing is promised of the
+/// list then. The only error is out of memory.
 pub(crate) fn gather_line(
     alloc: Global,
     gathered: &mut Vec<SegmentContent>,

@@ -5,18 +5,17 @@ ghost use Rattle.m51_asm.specs.GivenValues.{segment_given, external_given, given
 
 use crate::definitions::How;
 use crate::valuation::Values;
-use crate::values::{Located, Origin};
 use m51_cells::{Kind, Name, NoMemory};
-use m51_expr::Part;
+use m51_expr::{Located, Origin, Part};
 use std::alloc::Global;
 
 /// What the values of a line's names are computed from.
 #[derive(Clone, Copy)]
 pub(crate) struct Giving {
     /// The place of the line.
-    pub(crate) here: Located,
+    pub(crate) here: Located<u32>,
     /// The value of its expression.
-    pub(crate) expression: Option<Located>,
+    pub(crate) expression: Option<Located<u32>>,
     /// Its number in the text.
     pub(crate) line: usize,
     /// How many externals are declared above it.
@@ -24,7 +23,7 @@ pub(crate) struct Giving {
 }
 
 // A segment that a line declares.
-fn segment_given(kind: Kind, line: usize) -> Located
+fn segment_given(kind: Kind, line: usize) -> Located<u32>
     requires { line < 65536 }
     ensures { result ≡ segment_given kind line }
 {
@@ -37,7 +36,7 @@ fn segment_given(kind: Kind, line: usize) -> Located
 }
 
 // An external of a line, by how many externals are declared above it and its number in the line, counted from 0.
-fn external_given(kind: Kind, above: u8, number: usize) -> Located
+fn external_given(kind: Kind, above: u8, number: usize) -> Located<u32>
     requires { above + number < 255 }
     ensures { result ≡ external_given kind (above + number + 1) }
 {
@@ -50,7 +49,7 @@ fn external_given(kind: Kind, above: u8, number: usize) -> Located
 }
 
 // The value that a line gives a name which it defines so.
-fn given_by(giving: &Giving, how: How) -> Option<Located>
+fn given_by(giving: &Giving, how: How) -> Option<Located<u32>>
     requires line { giving.now.line < 65536 }
     requires number { HasNumber giving.now.externals how }
     ensures { result ≡ given_by giving.now how }

@@ -1,21 +1,17 @@
 //! What names mean with the label of a line, and the form of its JMP or CALL.
-ghost use Rattle.std.specs.Prelude.{◌≡◌, ◌≤◌, option_map, IfOk};
+ghost use Rattle.std.specs.Prelude.{◌≡◌, option_map};
 ghost use Rattle.std.specs.Str.{bytes_eq};
 ghost use Rattle.m51_expr.specs.Tree.{tree_of};
 ghost use Rattle.m51_stmt.specs.Statement.{body_tree};
-ghost use Rattle.m51_asm.specs.FewNames.{count_of_names, HasFewNames};
-ghost use Rattle.m51_asm.specs.Fitting.{verb_of, form_by};
-ghost use Rattle.m51_asm.specs.Fitting as word;
+ghost use Rattle.m51_asm.specs.Fitting.{verb_of, form_to, form_by};
 ghost use Rattle.m51_asm.specs.LabelledNames.{or_label};
-ghost use Rattle.m51_asm.specs.Located.{located_value};
+ghost use Rattle.m51_expr.specs.Located.{located_value};
 
-use crate::tables::form_to;
-use crate::values::{Located, Places};
-use m51_cells::{Name, NoMemory};
-use m51_expr::{Expr, Operand};
+use m51_cells::Name;
+use m51_encode::located_jump_form;
+use m51_expr::{Expr, Located, Operand, Places, located_value_of};
 use m51_isa::{Jump, Verb};
 use m51_stmt::Body;
-use std::alloc::Global;
 
 /// What names mean, with the label of the line.
 #[derive(Clone, Copy)]
@@ -32,7 +28,11 @@ fn is_label(name: &Name, label: &Name) -> bool
 }
 
 // The value of a name: the place of the line, where it is the label.
-fn value_of_name<P: Places>(names: &P, label: Option<Name>, name: &Name) -> Option<Located>
+fn value_of_name<P: Places<u32>>(
+    names: &P,
+    label: Option<Name>,
+    name: &Name,
+) -> Option<Located<u32>>
     ensures { option_map located_value result ≡ or_label (P.meanings names.now) label name.now }
 {
     match label {
@@ -47,16 +47,16 @@ fn value_of_name<P: Places>(names: &P, label: Option<Name>, name: &Name) -> Opti
     }
 }
 
-impl<'a, P: Places> Places for Labelled<'a, P> {
+impl<'a, P: Places<u32>> Places<u32> for Labelled<'a, P> {
     ghost use Rattle.m51_asm.specs.LabelledNames.{with_label};
 
     ghost meanings = { λ l. with_label (P.meanings l.names.now) l.label };
 
-    fn value(&self, name: &Name) -> Option<Located> {
+    fn value(&self, name: &Name) -> Option<Located<u32>> {
         value_of_name(self.names, self.label, name)
     }
 
-    fn here(&self) -> Located {
+    fn here(&self) -> Located<u32> {
         self.names.here()
     }
 
@@ -83,31 +83,24 @@ fn verb_of(mnemonic: &Name) -> Option<Verb>
 }
 
 // The form of a generic jump; no other instruction has one.
-fn form_of_verb<P: Places>(
-    alloc: Global,
-    names: &P,
-    verb: Option<Verb>,
-    target: &Expr,
-) -> Result<Jump, NoMemory>
-    requires { count_of_names (tree_of target.now) ≤ 254 }
-    ensures { IfOk result (λ form. form ≡ word.form_to (P.meanings names.now) verb (tree_of target.now)) }
+fn form_to<P: Places<u32>>(names: &P, verb: Option<Verb>, target: &Expr) -> Jump
+    ensures { result ≡ form_to (P.meanings names.now) verb (tree_of target.now) }
 {
     match verb {
-        Some(verb) => form_to(alloc, names, verb, target),
-        None => Ok(Jump::Long),
+        Some(verb) => located_jump_form(names, verb, located_value_of(target, names)),
+        None => Jump::Long,
     }
 }
 
-/// The form of the JMP or CALL of a line; any other line counts as long. The only error is out of memory.
-pub(crate) fn form_of<P: Places>(alloc: Global, names: &P, body: &Body) -> Result<Jump, NoMemory>
-    requires { HasFewNames (body_tree body.now) }
-    ensures { IfOk result (λ form. form ≡ form_by (P.meanings names.now) (body_tree body.now)) }
+/// The form of the JMP or CALL of a line; any other line counts as long.
+pub(crate) fn form_of<P: Places<u32>>(names: &P, body: &Body) -> Jump
+    ensures { result ≡ form_by (P.meanings names.now) (body_tree body.now) }
 {
     match body {
         Body::Code(mnemonic, operands) => match operands.as_slice() {
-            [Operand::Plain(target)] => form_of_verb(alloc, names, verb_of(mnemonic), target),
-            _ => Ok(Jump::Long),
+            [Operand::Plain(target)] => form_to(names, verb_of(mnemonic), target),
+            _ => Jump::Long,
         },
-        _ => Ok(Jump::Long),
+        _ => Jump::Long,
     }
 }

@@ -2,7 +2,6 @@
 ghost use Rattle.m51_asm.specs.AssignmentLaws.{OneFits, AFits};
 ghost use Rattle.m51_asm.specs.Renumbering.{NumbersDoNotMatter};
 ghost use Rattle.m51_asm.specs.AnswerLaws.{OneAnswer};
-ghost use Rattle.m51_asm.specs.Located.{TablesAreEnough};
 ghost use Rattle.m51_asm.specs.Above.{KeptMeans};
 ghost use Rattle.m51_asm.specs.LineFaults.{OperandIsTold};
 ghost use Rattle.m51_asm.specs.OpenSegments.{OpenIsBehind, DeclaredIsTold};
@@ -38,13 +37,6 @@ pub fn segment_numbers_do_not_matter()
 /// Source: own choice ("The assignment of a text").
 pub fn each_text_has_one_answer()
     ensures { OneAnswer }
-{}
-
-/// A table of the segments of an expression's names is enough to evaluate it, however many segments the text has.
-///
-/// Source: own choice ("Numbers of segments in values").
-pub fn tables_are_enough()
-    ensures { TablesAreEnough }
 {}
 
 /// After a line that repeats nothing a name has the value that the line gives it, or else the one that it had.

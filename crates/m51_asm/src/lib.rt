@@ -30,19 +30,17 @@ mod repeats;
 mod segments;
 mod sizes;
 mod stepping;
-mod tables;
 mod told;
 mod valid_laws;
 mod valuation;
-mod values;
 mod values_at;
 
 pub use assembling::assemble;
 pub use definitions::How;
 pub use laws::{
     an_assignment_fits, each_text_has_one_answer, first_faults_are_answers, forms_are_told,
-    one_assignment_fits, segment_numbers_do_not_matter, segments_follow, tables_are_enough,
-    values_are_seen, values_grow, what_is_kept_means,
+    one_assignment_fits, segment_numbers_do_not_matter, segments_follow, values_are_seen,
+    values_grow, what_is_kept_means,
 };
 pub use m51_module::{Fault, Faults, Row, Rows, SourceFile};
 pub use names::{FirstDefinition, TextNames};

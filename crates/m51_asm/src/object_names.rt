@@ -1,7 +1,7 @@
 //! What the names of a text and the place of a line mean over the segments of the module, for pass 2.
 ghost use Rattle.std.specs.Prelude.{◌≡◌, option_map};
 ghost use Rattle.m51_module.specs.Validity.{numbered};
-ghost use Rattle.m51_asm.specs.Located.{origin_base, located_value};
+ghost use Rattle.m51_expr.specs.Located.{origin_base, located_value};
 ghost use Rattle.m51_asm.specs.ObjectMeanings.{object_base, object_value, is_fixed, has_bits};
 ghost use Rattle.m51_asm.specs.Numbering.{number_at};
 
@@ -11,14 +11,13 @@ use crate::numbering::{Numbering, number_at};
 use crate::placing::{NamedText, PassOneState};
 use crate::stepping::LinePlace;
 use crate::valuation::Values;
-use crate::values::{Located, Origin};
 use crate::values_at::ValuesAt;
 use m51_cells::{Base, Name, is_absolute};
-use m51_expr::{Lookup, Value};
+use m51_expr::{Located, Lookup, Origin, Value};
 use m51_module::{Segment, segment_numbered};
 
 // The base with the number that its segment has in the module.
-fn object_base(numbers: &[u8], origin: Origin) -> Base
+fn object_base(numbers: &[u8], origin: Origin<u32>) -> Base
     ensures { result ≡ object_base (number_at numbers.now) (origin_base origin) }
 {
     match origin {
@@ -29,7 +28,7 @@ fn object_base(numbers: &[u8], origin: Origin) -> Base
 }
 
 // The value with the number that its segment has in the module.
-fn object_value(numbers: &[u8], value: Located) -> Value
+fn object_value(numbers: &[u8], value: Located<u32>) -> Value
     ensures { result ≡ object_value (number_at numbers.now) (located_value value) }
 {
     Value {
@@ -40,7 +39,7 @@ fn object_value(numbers: &[u8], value: Located) -> Value
     }
 }
 
-pub(crate) fn object_value_of(numbers: &[u8], value: Option<Located>) -> Option<Value>
+pub(crate) fn object_value_of(numbers: &[u8], value: Option<Located<u32>>) -> Option<Value>
     ensures { result ≡ option_map (object_value (number_at numbers.now)) (option_map located_value value) }
 {
     match value {
@@ -85,7 +84,7 @@ pub(crate) struct PlacedText<'a> {
 pub(crate) struct ObjectNames<'a> {
     pub(crate) values: ValuesAt<'a>,
     /// The place of the line.
-    pub(crate) place: Located,
+    pub(crate) place: Located<u32>,
     pub(crate) numbering: &'a Numbering,
 }
 
@@ -120,7 +119,7 @@ pub(crate) fn names_of<'a>(
     numbering: &'a Numbering,
     mod51: bool,
     bank: u8,
-    place: Located,
+    place: Located<u32>,
 ) -> ObjectNames<'a>
     ensures names { result.values.names.now ≡ names.now }
     ensures kept { result.values.kept.now ≡ kept.now }

@@ -1,25 +1,21 @@
 //! The operands of directives, which must use names defined above: each is evaluated once.
-ghost use Rattle.std.specs.Prelude.{◌≡◌, ℕ, ◌&&◌, ◌||◌, nat_lt, None, unwrap_or, option_map, IfOk};
+ghost use Rattle.std.specs.Prelude.{◌≡◌, ℕ, ◌&&◌, ◌||◌, nat_lt, None, unwrap_or, option_map};
 ghost use Rattle.m51_cells.specs.Kinds.{same_kind};
 ghost use Rattle.m51_expr.specs.Tree.{tree_of};
 ghost use Rattle.m51_expr.specs.Evaluation.{value_of};
 ghost use Rattle.m51_stmt.specs.Statement.{body_tree};
 ghost use Rattle.m51_asm.specs.Assignment.{value_or_none};
-ghost use Rattle.m51_asm.specs.FewNames.{HasFewNames};
 ghost use Rattle.m51_asm.specs.Fitting.{bank_by, with_class};
 ghost use Rattle.m51_asm.specs.PlacedFaults.{is_short, is_address, fault_in, address_fault, bank_fault};
 ghost use Rattle.m51_asm.specs.GivenValues.{expression_given};
-ghost use Rattle.m51_asm.specs.Located.{origin_base, located_value, located};
+ghost use Rattle.m51_expr.specs.Located.{origin_base, located_value, located};
 ghost use Rattle.m51_asm.specs.LineFaults.{has_class, segment_fault_by, operand_fault_by};
 ghost use Rattle.m51_asm.specs.Operands.{evaluated_fault, number_in, given_in, bank_in, operand_number, IsOperand};
 
-use crate::counting::{counted, is_unplaced, numbered};
-use crate::tables::evaluate;
-use crate::values::{Located, Places};
-use m51_cells::{Kind, NoMemory, OUT_OF_RANGE, UNKNOWN_NAME, same_kind};
-use m51_expr::ExprError;
+use crate::counting::numbered;
+use m51_cells::{Kind, OUT_OF_RANGE, UNKNOWN_NAME, same_kind};
+use m51_expr::{ExprError, Located, Places, is_unplaced_origin, located_value_of, part_value};
 use m51_stmt::Body;
-use std::alloc::Global;
 
 /// What the operand of a directive is, by the names defined above its line.
 #[derive(Clone, Copy)]
@@ -27,7 +23,7 @@ pub(crate) enum Evaluated {
     /// The line has no operand that must use names defined above, or its RSEG names a segment.
     None,
     /// What EQU, SET or an address statement gives its name.
-    Value(Located),
+    Value(Located<u32>),
     /// The count of DS or DBIT, or the base of ORG or AT.
     Number(u16),
     /// The bank of USING.
@@ -58,7 +54,7 @@ impl Evaluated {
     }
 
     /// The value that the line gives its name.
-    pub(crate) fn given(self) -> Option<Located>
+    pub(crate) fn given(self) -> Option<Located<u32>>
         ensures { option_map located_value result ≡ given_in self }
     {
         match self {
@@ -89,7 +85,7 @@ fn is_short(kind: Kind) -> bool
 }
 
 // Whether a value has the class of a kind or none.
-fn has_class(value: Located, kind: Kind) -> bool
+fn has_class(value: Located<u32>, kind: Kind) -> bool
     ensures { result ≡ (has_class (located_value value) kind) }
 {
     same_kind(value.class, kind) || same_kind(value.class, Kind::Number)
@@ -103,13 +99,15 @@ fn is_large(kind: Kind, number: u16) -> bool
 }
 
 // Whether a value is an address of a kind.
-fn is_address<P: Places>(names: &P, kind: Kind, value: Located) -> bool
+fn is_address<P: Places<u32>>(names: &P, kind: Kind, value: Located<u32>) -> bool
     ensures { result ≡ is_address (P.meanings names.now) kind (located_value value) }
 {
-    has_class(value, kind) && (is_unplaced(names, value.origin) || !is_large(kind, counted(value)))
+    has_class(value, kind)
+        && (is_unplaced_origin(names, value.origin)
+            || !is_large(kind, part_value(value.number, value.part)))
 }
 
-fn value_operand(value: Result<Located, ExprError>) -> Evaluated
+fn value_operand(value: Result<Located<u32>, ExprError>) -> Evaluated
     ensures { IsOperand (fault_in (located value)) 0 (value_or_none (located value)) (λ bank. bank) result }
 {
     match value {
@@ -118,7 +116,7 @@ fn value_operand(value: Result<Located, ExprError>) -> Evaluated
     }
 }
 
-fn with_class(kind: Kind, value: Located) -> Located
+fn with_class(kind: Kind, value: Located<u32>) -> Located<u32>
     ensures { located_value result ≡ with_class kind (located_value value) }
 {
     Located {
@@ -129,7 +127,11 @@ fn with_class(kind: Kind, value: Located) -> Located
     }
 }
 
-fn address_operand<P: Places>(names: &P, kind: Kind, value: Result<Located, ExprError>) -> Evaluated
+fn address_operand<P: Places<u32>>(
+    names: &P,
+    kind: Kind,
+    value: Result<Located<u32>, ExprError>,
+) -> Evaluated
     ensures { IsOperand (address_fault (P.meanings names.now) kind (located value)) 0
         (option_map (with_class kind) (value_or_none (located value))) (λ bank. bank) result }
 {
@@ -183,32 +185,25 @@ fn segment_operand(is_segment: bool, has_value: bool) -> Evaluated
 }
 
 /// The operand of a line that must use names defined above. Whether the name of an RSEG is a segment that is declared
-/// above is an argument. The only error is out of memory.
-pub(crate) fn evaluate_operand<P: Places>(
-    alloc: Global,
+/// above is an argument.
+pub(crate) fn evaluate_operand<P: Places<u32>>(
     names: &P,
     is_segment: bool,
     body: &Body,
-) -> Result<Evaluated, NoMemory>
-    requires { HasFewNames (body_tree body.now) }
-    ensures { IfOk result (λ o. IsOperand
+) -> Evaluated
+    ensures { IsOperand
         (operand_fault_by (P.meanings names.now) is_segment (body_tree body.now))
         (operand_number (P.meanings names.now) (body_tree body.now))
         (expression_given (P.meanings names.now) (body_tree body.now))
-        (λ bank. bank_by (P.meanings names.now) bank (body_tree body.now)) o) }
+        (λ bank. bank_by (P.meanings names.now) bank (body_tree body.now)) result }
 {
     match body {
-        Body::Equ(_, e) | Body::Set(_, e) => Ok(value_operand(evaluate(alloc, names, e)?)),
-        Body::Address(_, kind, e) => {
-            let value = evaluate(alloc, names, e)?;
-            Ok(address_operand(names, *kind, value))
-        }
-        Body::Ds(e) | Body::Dbit(e) | Body::Org(e) => Ok(number_operand(numbered(
-            alloc, names, e,
-        )?)),
-        Body::Select(_, Some(e)) => Ok(number_operand(numbered(alloc, names, e)?)),
-        Body::Using(e) => Ok(bank_operand(numbered(alloc, names, e)?)),
-        Body::Rseg(name) => Ok(segment_operand(is_segment, names.value(name).is_some())),
-        _ => Ok(Evaluated::None),
+        Body::Equ(_, e) | Body::Set(_, e) => value_operand(located_value_of(e, names)),
+        Body::Address(_, kind, e) => address_operand(names, *kind, located_value_of(e, names)),
+        Body::Ds(e) | Body::Dbit(e) | Body::Org(e) => number_operand(numbered(names, e)),
+        Body::Select(_, Some(e)) => number_operand(numbered(names, e)),
+        Body::Using(e) => bank_operand(numbered(names, e)),
+        Body::Rseg(name) => segment_operand(is_segment, names.value(name).is_some()),
+        _ => Evaluated::None,
     }
 }

@@ -2,7 +2,6 @@
 ghost use Rattle.std.specs.Prelude.{◌≡◌, ◌≤◌, ℕ, length, map, IfOk};
 ghost use Rattle.m51_text.specs.Answer.{line_tree};
 ghost use Rattle.m51_asm.specs.Assignment.{Assignment, body_at};
-ghost use Rattle.m51_asm.specs.FewNames.{HasFewNames};
 ghost use Rattle.m51_asm.specs.Fitting.{Fits, mod51};
 ghost use Rattle.m51_asm.specs.Repeats.{IsFirstRepeat};
 ghost use Rattle.m51_asm.specs.Placing.{IsTableOf};
@@ -39,7 +38,6 @@ pub(crate) fn place_lines(
     repeated: Option<usize>,
 ) -> Result<Passed, NoMemory>
     requires few { length text.now.lines.now ≤ 65536 }
-    requires named { (k : ℕ) → HasFewNames (body_at (map line_tree text.now.lines.now) k) }
     requires names { IsTableOf (map line_tree text.now.lines.now) text.now.names.now }
     requires predefined { text.now.mod51 ≡ mod51 (map line_tree text.now.lines.now) }
     requires repeated { IsFirstRepeat (map line_tree text.now.lines.now) repeated }

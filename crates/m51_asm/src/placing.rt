@@ -1,12 +1,11 @@
 //! What is kept of the lines above a line, and how it grows with the line.
-ghost use Rattle.std.specs.Prelude.{◌≡◌, ◌<◌, ◌≤◌, ◌+◌, ℕ, suc, None, Some, List, false, map, slice_get, IfOk, OnOk};
+ghost use Rattle.std.specs.Prelude.{◌≡◌, ◌<◌, ◌≤◌, ◌+◌, ℕ, suc, None, Some, List, false, map, slice_get, OnOk};
 ghost use Rattle.m51_stmt.specs.Statement.{body_tree};
 ghost use Rattle.m51_text.specs.Answer.{LineTree, line_tree};
-ghost use Rattle.m51_asm.specs.FewNames.{HasFewNames};
 ghost use Rattle.m51_asm.specs.Assignment.{Assignment, body_at};
 ghost use Rattle.m51_asm.specs.Fitting.{externals_in, Fits, mod51};
 ghost use Rattle.m51_asm.specs.Repeats.{is_repeated};
-ghost use Rattle.m51_asm.specs.Located.{located_value};
+ghost use Rattle.m51_expr.specs.Located.{located_value};
 ghost use Rattle.m51_asm.specs.OpenSegments.{text_segment};
 ghost use Rattle.m51_asm.specs.Placing.{IsTableOf, IsAt, AreLineFacts, IsCounted, here_of};
 ghost use Rattle.m51_asm.specs.PlacedFaults.{placed_fault};
@@ -20,9 +19,8 @@ use crate::names::TextNames;
 use crate::segments::{LastAbsolute, OPENING, OpenSegment};
 use crate::told::{LineFacts, named_by, tell};
 use crate::valuation::Values;
-use crate::values::{Located, Origin};
 use m51_cells::NoMemory;
-use m51_expr::Part;
+use m51_expr::{Located, Origin, Part};
 use m51_text::Line;
 use std::alloc::Global;
 
@@ -54,7 +52,7 @@ pub(crate) struct PassOneState {
 }
 
 /// The place of a statement, from the size of its segment before it.
-pub(crate) fn here_of(segment: OpenSegment, before: u16) -> Located
+pub(crate) fn here_of(segment: OpenSegment, before: u16) -> Located<u32>
     ensures { located_value result ≡ here_of (text_segment segment) before }
 {
     Located {
@@ -65,23 +63,21 @@ pub(crate) fn here_of(segment: OpenSegment, before: u16) -> Located
     }
 }
 
-/// What follows for line k from the state after the lines above it. The only error is out of memory.
+/// What follows for line k from the state after the lines above it.
 pub(crate) fn told_of(
-    alloc: Global,
     text: &NamedText<'_>,
     k: usize,
     placing: &PassOneState,
     line: &Line,
-) -> Result<LineFacts, NoMemory>
+) -> LineFacts
     requires within { k < 65536 }
     requires line { slice_get (map line_tree text.now.lines.now) k ≡ Some (line_tree line.now) }
-    requires few { HasFewNames (body_tree line.now.stmt.body) }
     requires names { IsTableOf (map line_tree text.now.lines.now) text.now.names.now }
     requires predefined { text.now.mod51 ≡ mod51 (map line_tree text.now.lines.now) }
-    ensures { IfOk result (λ t. (a : Assignment) → Fits (map line_tree text.now.lines.now) a
+    ensures { (a : Assignment) → Fits (map line_tree text.now.lines.now) a
         → is_repeated (map line_tree text.now.lines.now) k ≡ false
         → IsAt (map line_tree text.now.lines.now) a k placing.now
-        → AreLineFacts (map line_tree text.now.lines.now) a k t) }
+        → AreLineFacts (map line_tree text.now.lines.now) a k result }
 {
     let here = here_of(placing.segment, placing.filled.of(placing.segment.id));
     let names = Above {
@@ -95,8 +91,7 @@ pub(crate) fn told_of(
     let body = &line.stmt.body;
     let named = named_by(text.lines, text.names, k, body);
     let segment = placing.segment;
-    let told = tell(
-        alloc,
+    tell(
         k,
         &names,
         line.stmt.label,
@@ -104,8 +99,7 @@ pub(crate) fn told_of(
         named,
         segment,
         body,
-    )?;
-    Ok(told)
+    )
 }
 
 impl PassOneState {

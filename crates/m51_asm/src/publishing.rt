@@ -5,7 +5,7 @@ ghost use Rattle.m51_text.specs.Answer.{line_tree};
 ghost use Rattle.m51_emit.specs.Outcomes.{or_next};
 ghost use Rattle.m51_emit.specs.PublicNames.{if_public};
 ghost use Rattle.m51_asm.specs.Assignment.{body_at};
-ghost use Rattle.m51_asm.specs.Located.{located_value};
+ghost use Rattle.m51_expr.specs.Located.{located_value};
 ghost use Rattle.m51_asm.specs.OpenSegments.{text_segment};
 ghost use Rattle.m51_asm.specs.Publishing.{definer_of, declared_as, next_of, segment_by_id, segment_in, counted_by};
 ghost use Rattle.m51_asm.specs.Publishing.{published_from, published_by, publics_among, fault_of_public, fault_among};
@@ -15,10 +15,9 @@ use crate::names::FirstDefinition;
 use crate::object_names::{ObjectNames, PlacedText, object_value_of};
 use crate::segments::{OPENING, OpenSegment};
 use crate::stepping::LinePlace;
-use crate::values::{Located, Origin};
 use m51_cells::{Name, NoMemory};
 use m51_emit::{Definer, public_of};
-use m51_expr::Value;
+use m51_expr::{Located, Origin, Value};
 use m51_module::{Public, Publics};
 use m51_stmt::Body;
 use m51_text::Line;
@@ -99,7 +98,7 @@ fn segment_in(text: &PlacedText<'_>, id: u32) -> OpenSegment
 }
 
 // The segment that a value counts from, and the opening one where it counts from none.
-fn counted_by(text: &PlacedText<'_>, value: Option<Located>) -> OpenSegment
+fn counted_by(text: &PlacedText<'_>, value: Option<Located<u32>>) -> OpenSegment
     ensures { text_segment result ≡ counted_by (segment_in text.now) (option_map located_value value) }
 {
     match value {

@@ -2,7 +2,6 @@
 ghost use Rattle.std.specs.Prelude.{◌≡◌, ◌<◌, suc, Some, false, map, slice_get, IfOk};
 ghost use Rattle.m51_stmt.specs.Statement.{body_tree};
 ghost use Rattle.m51_text.specs.Answer.{line_tree};
-ghost use Rattle.m51_asm.specs.FewNames.{HasFewNames};
 ghost use Rattle.m51_asm.specs.Assignment.{Assignment};
 ghost use Rattle.m51_asm.specs.Fitting.{Fits, mod51};
 ghost use Rattle.m51_asm.specs.PlacedFaults.{is_misplaced};
@@ -15,8 +14,8 @@ use crate::counts::{Counts, are_too_many, count, exceeds_end, fault_by, is_mispl
 use crate::placing::{NamedText, PassOneState, told_of};
 use crate::segments::OpenSegment;
 use crate::told::LineFacts;
-use crate::values::Located;
 use m51_cells::NoMemory;
+use m51_expr::Located;
 use m51_isa::Jump;
 use m51_stmt::Body;
 use m51_text::Line;
@@ -37,7 +36,7 @@ pub(crate) struct LinePlace {
     /// The bank after it.
     pub(crate) selected: u8,
     /// The value of the expression of its EQU or SET or of its address statement, if it has one.
-    pub(crate) given: Option<Located>,
+    pub(crate) given: Option<Located<u32>>,
 }
 
 /// The outcome of a line.
@@ -77,7 +76,6 @@ pub(crate) fn step(
 ) -> Result<LineOutcome, NoMemory>
     requires within { k < 65536 }
     requires line { slice_get (map line_tree text.now.lines.now) k ≡ Some (line_tree line.now) }
-    requires few { HasFewNames (body_tree line.now.stmt.body) }
     requires names { IsTableOf (map line_tree text.now.lines.now) text.now.names.now }
     requires predefined { text.now.mod51 ≡ mod51 (map line_tree text.now.lines.now) }
     requires once { is_repeated (map line_tree text.now.lines.now) k ≡ false }
@@ -85,7 +83,7 @@ pub(crate) fn step(
         → IsAt (map line_tree text.now.lines.now) a k placing.old
         → IsLineOutcome (map line_tree text.now.lines.now) a k placing.new step) }
 {
-    let told = told_of(alloc, text, k, placing, line)?;
+    let told = told_of(text, k, placing, line);
     let segment = placing.segment;
     let body = &line.stmt.body;
     let counts = count(

@@ -2,16 +2,16 @@
 ghost use Rattle.std.specs.Prelude.{◌≡◌, [], OnOk};
 ghost use Rattle.m51_asm.specs.Above.{value_in, known, Puts};
 
-use crate::values::Located;
 use indexmap::IndexMap;
 use m51_cells::{Name, NoMemory};
+use m51_expr::Located;
 use std::alloc::Global;
 use std::marker::Model;
 
 /// The values that the lines so far give to names. Contracts see it as a list of names with their values.
 #[derive(Drop)]
 pub(crate) struct Values {
-    values: IndexMap<Vec<u8>, Option<Located>>,
+    values: IndexMap<Vec<u8>, Option<Located<u32>>>,
 }
 
 impl Model for Values {
@@ -23,7 +23,7 @@ impl Model for Values {
 }
 
 // The value that is looked up, if it is known and has one.
-fn known(value: Option<Option<Located>>) -> Option<Located>
+fn known(value: Option<Option<Located<u32>>>) -> Option<Located<u32>>
     ensures { result ≡ known value }
 {
     match value {
@@ -43,7 +43,7 @@ impl Values {
     }
 
     /// The value of a name, if it has one.
-    pub(crate) fn get(&self, name: &Name) -> Option<Located>
+    pub(crate) fn get(&self, name: &Name) -> Option<Located<u32>>
         ensures { result ≡ value_in self.now name.now }
     {
         known(self.values.get(name.bytes()).copied())
@@ -54,7 +54,7 @@ impl Values {
         &mut self,
         alloc: Global,
         name: &Name,
-        value: Option<Located>,
+        value: Option<Located<u32>>,
     ) -> Result<(), NoMemory>
         ensures { OnOk result (Puts self.old self.new name.now value) }
     {

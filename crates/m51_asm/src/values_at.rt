@@ -3,7 +3,7 @@ ghost use Rattle.std.specs.Prelude.{◌≡◌, ℕ, suc, Some, List, option_map,
 ghost use Rattle.m51_stmt.specs.Statement.{body_tree};
 ghost use Rattle.m51_text.specs.Answer.{LineTree, line_tree};
 ghost use Rattle.m51_asm.specs.Assignment.{Assignment};
-ghost use Rattle.m51_asm.specs.Located.{located_value};
+ghost use Rattle.m51_expr.specs.Located.{located_value};
 ghost use Rattle.m51_asm.specs.Placing.{IsPlaceOf};
 ghost use Rattle.m51_asm.specs.ValuesAt.{value_at, IsSetAt, is_label, set_in, PutsIf};
 
@@ -11,8 +11,8 @@ use crate::above::undefined_value;
 use crate::names::{TextNames, sets};
 use crate::stepping::LinePlace;
 use crate::valuation::Values;
-use crate::values::Located;
 use m51_cells::{Name, NoMemory};
+use m51_expr::Located;
 use m51_stmt::Body;
 use m51_text::Line;
 use std::alloc::Global;
@@ -33,7 +33,7 @@ pub(crate) struct ValuesAt<'a> {
 
 impl<'a> ValuesAt<'a> {
     /// The value of a name at the line, if it has one.
-    pub(crate) fn of(&self, name: &Name) -> Option<Located>
+    pub(crate) fn of(&self, name: &Name) -> Option<Located<u32>>
         ensures { option_map located_value result ≡ value_at self.now.names.now self.now.kept.now self.now.set.now
             self.now.mod51 self.now.bank name.now }
     {
@@ -81,7 +81,7 @@ fn put_if(
     alloc: Global,
     set: &mut Values,
     name: Option<Name>,
-    value: Option<Located>,
+    value: Option<Located<u32>>,
 ) -> Result<(), NoMemory>
     ensures { OnOk result (PutsIf set.old set.new name value) }
 {

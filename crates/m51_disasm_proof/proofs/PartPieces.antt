@@ -7,7 +7,7 @@ use Rattle.m51_disasm_proof.proofs.Common.{SourceLine, CodeRange, Statement, beg
 use Rattle.m51_disasm_proof.proofs.Common.{statements_of, read_from, IsSound, bytes_at}
 use Rattle.m51_cells.specs.declared.kind.Kind.TheVariants as kind
 use Rattle.m51_emit.specs.Pieces.{pieces_of_run}
-use Rattle.m51_asm.specs.ObjectSegments.{absolute_of, from_one, place_in, number_in, kept}
+use Rattle.m51_asm.specs.ObjectSegments.{absolute_of, from_one, index_in, number_in, kept}
 use Rattle.m51_asm.specs.Pieces.{runs_from, segment_pieces, pieces}
 use Rattle.m51_disasm.specs.declared.line.SourceLine.TheVariants as line
 use Rattle.m51_disasm_proof.specs.Module.{pieces_from}
@@ -28,19 +28,19 @@ ids xs = map (λ s. s.id) xs
 abbrev AreBelow : ℕ → List Kept → Type 0
 AreBelow id xs = AllByRecursion (λ s. s.id < id) xs
 
-place_after : (xs ys : List Kept) (y : Kept) → AreBelow y.id xs → place_in (ids (xs ++ y ∷ ys)) y.id ≡ Some (length xs)
+place_after : (xs ys : List Kept) (y : Kept) → AreBelow y.id xs → index_in (ids (xs ++ y ∷ ys)) y.id ≡ Some (length xs)
 place_after [] ys y below =
-    ap (λ b. cond b (Some 0) (option_map (λ n. suc n) (place_in (ids ys) y.id))) (eq-eqb y.id y.id refl)
+    ap (λ b. cond b (Some 0) (option_map (λ n. suc n) (index_in (ids ys) y.id))) (eq-eqb y.id y.id refl)
 place_after (x ∷ xs) ys y below =
     let less = below.0 in
-    ap (λ b. cond b (Some 0) (option_map (λ n. suc n) (place_in (ids (xs ++ y ∷ ys)) y.id)))
+    ap (λ b. cond b (Some 0) (option_map (λ n. suc n) (index_in (ids (xs ++ y ∷ ys)) y.id)))
     (ne_eqb x.id y.id (λ e. omega (arith, less, e)))
     ∙ ap (option_map (λ n. suc n)) (place_after xs ys y below.1)
 
 number_after : (all xs ys : List Kept) (y : Kept) → all ≡ xs ++ y ∷ ys → AreBelow y.id xs
     → number_in all y.id ≡ suc (length xs)
 unfolding number_in
-number_after all xs ys y is below = ap (λ ks. from_one (place_in (ids ks) y.id)) is
+number_after all xs ys y is below = ap (λ ks. from_one (index_in (ids ks) y.id)) is
     ∙ ap from_one (place_after xs ys y below)
 
 still_below : (m n : ℕ) (xs : List Kept) → m ≤ n → AreBelow m xs → AreBelow n xs

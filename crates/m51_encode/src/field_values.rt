@@ -6,7 +6,7 @@ ghost use Rattle.m51_encode.specs.FieldValues.{relative_of, block_of, stored_of,
 use crate::bases::{is_current, is_linked, stands_absolute};
 use crate::reference::{FieldValue, reference_of};
 use crate::taking::{held_of, takes_class, takes_number, takes_part};
-use m51_expr::{Lookup, Value, counted, is_unplaced};
+use m51_expr::{Lookup, Value, counted, is_unplaced, origin_of};
 use m51_isa::{Field, distance, in_one_block, is_near};
 
 // Whether the field takes the class, the operator and the number.
@@ -45,7 +45,7 @@ fn addr11_of(next: u16, target: u16) -> Option<FieldValue>
 fn relative_of<L: Lookup>(names: &L, next: u16, value: Value) -> Option<FieldValue>
     ensures { result ≡ relative_of (L.meanings names.now) next value }
 {
-    if is_current(names, value.base) {
+    if is_current(names, origin_of(value.base)) {
         rel_of(next, counted(value))
     } else if is_linked(names, value.base) {
         Some(FieldValue::Linked(reference_of(Field::Rel, value)))

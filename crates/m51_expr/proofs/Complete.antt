@@ -6,13 +6,14 @@ use Rattle.std.proofs.lemmas.Option.{slice_get_within}
 use Rattle.m51_expr.specs.declared.symbol.Symbol.{Symbol}
 use Rattle.m51_expr.specs.Tree.{Tree, One, Two}
 use Rattle.m51_expr.specs.Ranks.{prefix_of, is_open, is_close, leaf_of}
-use Rattle.m51_expr.specs.Reading.{Line, line_of_symbols, ParsedTree, and_on, closed, leaf_at, read, more, enough}
+use Rattle.m51_expr.specs.Reading.{Line, line_of_symbols, ParsedTree, then_read, closed, leaf_at, read, enough}
+use Rattle.m51_expr.specs.Reading.{operators_after}
 use Rattle.m51_expr.specs.Reading.{expression_in}
 use Rattle.m51_expr.specs.Reading.{expression_from}
 use Rattle.m51_expr.specs.Grammar.{Writes, Leaf, Parens, Before, Between, Tighter, Ends, IsExpression}
 use Rattle.m51_expr.proofs.Ranking.{of_prefix, infix_below, leaf_no_prefix, leaf_not_open, open_no_prefix}
 use Rattle.m51_expr.proofs.Ranking.{close_no_infix, no_tighter_infix, no_looser_prefix, ends_at, ends_above}
-use Rattle.m51_expr.proofs.Steps.{below, read_operand, read_prefix, read_plain, more_ends, more_goes}
+use Rattle.m51_expr.proofs.Steps.{below, read_operand, read_prefix, read_plain, operators_end, operators_go}
 use Rattle.m51_expr.proofs.Sound.{it}
 
 -- an expression begins with no prefix operator of a lower rank
@@ -40,7 +41,7 @@ rank_le (Tighter high inner) = omega (arith, high)
 
 -- a tree that is read at a rank, as far as it has come
 abbrev reach : ℕ → Line → ℕ → Tree → ℕ → ParsedTree
-reach m line rank e to = cond (rank == 8) (it e to) (more m line rank e to)
+reach m line rank e to = cond (rank == 8) (it e to) (operators_after m line rank e to)
 
 record Reached (n : ℕ) (line : Line) (rank at : ℕ) (e : Tree) (to : ℕ) : Type 0 where
   steps : ℕ
@@ -48,13 +49,13 @@ record Reached (n : ℕ) (line : Line) (rank at : ℕ) (e : Tree) (to : ℕ) : T
   is : read n line rank at ≡ reach steps line rank e to
 
 reach_low : (m : ℕ) (line : Line) (rank : ℕ) (e : Tree) (to : ℕ) → rank < 8
-    → reach m line rank e to ≡ more m line rank e to
-reach_low m line rank e to low = ap (λ b. cond b (it e to) (more m line rank e to)) (below rank low)
+    → reach m line rank e to ≡ operators_after m line rank e to
+reach_low m line rank e to low = ap (λ b. cond b (it e to) (operators_after m line rank e to)) (below rank low)
 
 reach_ends : (m : ℕ) (line : Line) (rank : ℕ) (e : Tree) (to : ℕ) → rank ≤ 8 → 9 ≤ m + rank → Ends line rank to
     → reach m line rank e to ≡ it e to
 reach_ends m line rank e to le some ends =
-    ⊎_elim (λ low. reach_low m line rank e to low ∙ more_ends m (m - 1) line rank e to (omega (arith, some, low))
+    ⊎_elim (λ low. reach_low m line rank e to low ∙ operators_end m (m - 1) line rank e to (omega (arith, some, low))
     (ends rank (omega arith)))
     (λ high. let is : 8 ≡ rank = omega (arith, le, high) in let P : ℕ → Type 0 = λ r. reach m line r e to ≡ it e to in
     subst P is refl)
@@ -71,7 +72,8 @@ leaf_case n line rank at e to is leaf end some =
     let P : ℕ → Type 0 = λ r. read n line r at ≡ reach n line r e to in
     let inner = read (n - 1) line 0 (at + 1) in
     subst P (sym is) (read_operand n (n - 1) line at (omega (arith, some))
-    ∙ ap (λ b. cond b (and_on inner (λ f next. closed (is_close (line next)) f next)) (leaf_at (leaf_of (line at)) at))
+    ∙ ap (λ b. cond b (then_read inner (λ f next. closed (is_close (line next)) f next))
+    (leaf_at (leaf_of (line at)) at))
     (leaf_not_open (line at) e leaf)
     ∙ ap (λ o. leaf_at o at) leaf ∙ ap (it e) (sym end))
 
@@ -81,9 +83,9 @@ parens_case : (n : ℕ) (line : Line) (rank at last : ℕ) (e : Tree) (to : ℕ)
 parens_case n line rank at last e to is open' inner close end some =
     let P : ℕ → Type 0 = λ r. read n line r at ≡ reach n line r e to in
     subst P (sym is) (read_operand n (n - 1) line at (omega (arith, some))
-    ∙ ap (λ b. cond b (and_on (read (n - 1) line 0 (at + 1)) (λ f next. closed (is_close (line next)) f next))
+    ∙ ap (λ b. cond b (then_read (read (n - 1) line 0 (at + 1)) (λ f next. closed (is_close (line next)) f next))
     (leaf_at (leaf_of (line at)) at)) open'
-    ∙ ap (λ r. and_on r (λ f next. closed (is_close (line next)) f next)) inner
+    ∙ ap (λ r. then_read r (λ f next. closed (is_close (line next)) f next)) inner
     ∙ ap (λ b. closed b e last) close ∙ ap (it e) (sym end))
 
 complete : {line : Line} {rank at : ℕ} {e : Tree} {to : ℕ} → Writes line rank at e to → (n : ℕ)
@@ -96,26 +98,26 @@ complete {line} {rank} {at} {e} {to} (Leaf is leaf end) n some ends =
     }
 complete {line} {rank} {at} {e} {to} (Parens {last = last} is open' inner close end) n some ends =
     let ends' : Ends line 0 last = λ r le. close_no_infix (line last) r close in
-    let more : at + 1 < last = longer inner in
-    let enough' : enough (last - (at + 1)) 0 ≤ n - 1 = omega (arith, some, is, end, more) in
+    let past : at + 1 < last = longer inner in
+    let enough' : enough (last - (at + 1)) 0 ≤ n - 1 = omega (arith, some, is, end, past) in
     record {
       steps = n;
       left = omega arith;
       is = parens_case n line rank at last e to is open'
           (finish (n - 1) line 0 (at + 1) e last (omega arith) enough' ends'
           (complete inner (n - 1) enough' (ends_above line 0 (0 + 1) last (omega arith) ends'))) close end
-          (omega (arith, some, is, end, more));
+          (omega (arith, some, is, end, past));
     }
 complete {line} {rank} {at} {to = to} (Before {op = op} {e = e} is inner) n some ends =
     let home = of_prefix (line at) rank op is in
     let ends' = ends_at line rank to (home.none (line to)) ends in
-    let more : at + 1 < to = longer inner in
-    let enough' : enough (to - (at + 1)) rank ≤ n - 1 = omega (arith, some, home.low, more) in
+    let past : at + 1 < to = longer inner in
+    let enough' : enough (to - (at + 1)) rank ≤ n - 1 = omega (arith, some, home.low, past) in
     record {
       steps = n;
       left = omega arith;
       is = read_prefix n (n - 1) line rank at op (omega (arith, some, home.low)) home.low is
-          ∙ ap (λ r. and_on r (λ f next. it (One op f) next))
+          ∙ ap (λ r. then_read r (λ f next. it (One op f) next))
           (finish (n - 1) line rank (at + 1) e to (omega (arith, home.low)) enough' ends'
           (complete inner (n - 1) enough' ends))
           ∙ sym (reach_ends n line rank (One op e) to (omega (arith, home.low)) (omega (arith, some)) ends');
@@ -133,8 +135,8 @@ complete {line} {rank} {at} {to = to} (Between {mid = mid} {op = op} {left = lef
       steps = m;
       left = omega (arith, l.left, a, b, some, low);
       is = l.is ∙ reach_low l.steps line rank left mid low
-          ∙ more_goes l.steps m line rank left mid op (omega (arith, some, low, a, b, l.left)) is
-          ∙ ap (λ r. and_on r (λ f next. more m line rank (Two op left f) next))
+          ∙ operators_go l.steps m line rank left mid op (omega (arith, some, low, a, b, l.left)) is
+          ∙ ap (λ r. then_read r (λ f next. operators_after m line rank (Two op left f) next))
           (finish m line (rank + 1) (mid + 1) right to (omega (arith, low)) enough' ends
           (complete rights m enough' (ends_above line (rank + 1) (rank + 1 + 1) to (omega arith) ends)))
           ∙ sym (reach_low m line rank (Two op left right) to low);
@@ -146,7 +148,7 @@ complete {line} {rank} {at} {e} {to} (Tighter low inner) n some ends =
       steps = n - 1;
       left = omega (arith, a);
       is = read_plain n (n - 1) line rank at (omega (arith, some, low)) low (starts inner rank (omega arith))
-          ∙ ap (λ r. and_on r (λ f next. more (n - 1) line rank f next))
+          ∙ ap (λ r. then_read r (λ f next. operators_after (n - 1) line rank f next))
           (finish (n - 1) line (rank + 1) at e to (omega (arith, low)) enough' ends
           (complete inner (n - 1) enough' (ends_above line (rank + 1) (rank + 1 + 1) to (omega arith) ends)))
           ∙ sym (reach_low (n - 1) line rank e to low);

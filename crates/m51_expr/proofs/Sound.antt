@@ -8,21 +8,22 @@ use Rattle.m51_expr.specs.declared.tree.Expr.{Expr}
 use Rattle.m51_expr.specs.declared.fault.ReadError.{ReadError}
 use Rattle.m51_expr.specs.Tree.{Tree, Here as HereTree, One, Two, tree_of}
 use Rattle.m51_expr.specs.Ranks.{prefix_of, infix_of, is_open, is_close, leaf_of}
-use Rattle.m51_expr.specs.Reading.{Line, ParsedTree, and_on, closed, leaf_at, read, more, GivesTree}
+use Rattle.m51_expr.specs.Reading.{Line, ParsedTree, then_read, closed, leaf_at, read, operators_after, GivesTree}
 use Rattle.m51_expr.specs.Grammar.{Writes, Leaf, Parens, Before, Between, Tighter, Ends, IsExpression}
 use Rattle.m51_expr.proofs.Ranking.{none_at_8, ends_at}
-use Rattle.m51_expr.proofs.Steps.{read_operand, read_prefix, read_plain, more_ends, more_goes, gives_ok}
+use Rattle.m51_expr.proofs.Steps.{read_operand, read_prefix, read_plain, operators_end, operators_go, gives_ok}
 
 -- the two parts of what is read on
 record Parts (r : ParsedTree) (go : Tree → ℕ → ParsedTree) (e : Tree) (to : ℕ) : Type 0 where
   first : Tree
   next : ℕ
   read_first : r ≡ Some (first, next)
-  then_read : go first next ≡ Some (e, to)
+  rest_read : go first next ≡ Some (e, to)
 
-parts : (r : ParsedTree) (go : Tree → ℕ → ParsedTree) (e : Tree) (to : ℕ) → and_on r go ≡ Some (e, to) → Parts r go e to
+parts : (r : ParsedTree) (go : Tree → ℕ → ParsedTree) (e : Tree) (to : ℕ) → then_read r go ≡ Some (e, to)
+    → Parts r go e to
 parts None go e to h = absurd (cc h)
-parts (Some (f, next)) go e to h = record { first = f; next = next; read_first = refl; then_read = h }
+parts (Some (f, next)) go e to h = record { first = f; next = next; read_first = refl; rest_read = h }
 
 abbrev pub it : Tree → ℕ → ParsedTree
 it e at = Some (e, at)
@@ -48,7 +49,7 @@ ReadSound n line = (rank at : ℕ) (e : Tree) (to : ℕ) → rank ≤ 8 → read
 
 abbrev MoreSound : ℕ → Line → Type 0
 MoreSound n line = (rank at : ℕ) (left : Tree) (mid : ℕ) (e : Tree) (to : ℕ) → rank < 8 → Writes line rank at left mid
-    → Ends line (rank + 1) mid → more n line rank left mid ≡ Some (e, to) → IsExpression line rank at e to
+    → Ends line (rank + 1) mid → operators_after n line rank left mid ≡ Some (e, to) → IsExpression line rank at e to
 
 -- the tree and the index may be called by other names
 renamed : (line : Line) (rank at : ℕ) (e f : Tree) (i j : ℕ) → it e i ≡ it f j → IsExpression line rank at e i
@@ -72,12 +73,12 @@ leaf_found line at e to (Some f) is h =
     renamed line 8 at f e (at + 1) to h (record { writes = Leaf refl is refl; ends = none_at_8 (line (at + 1)) })
 
 operand_found : (n : ℕ) (line : Line) (at : ℕ) (e : Tree) (to : ℕ) (b : Bool) → ReadSound n line → is_open (line at) ≡ b
-    → cond b (and_on (read n line 0 (at + 1)) (λ f next. closed (is_close (line next)) f next))
+    → cond b (then_read (read n line 0 (at + 1)) (λ f next. closed (is_close (line next)) f next))
     (leaf_at (leaf_of (line at)) at) ≡ Some (e, to) → IsExpression line 8 at e to
 operand_found n line at e to true sound is h =
     let p = parts (read n line 0 (at + 1)) (λ f next. closed (is_close (line next)) f next) e to h in
     closed_found line at p.first p.next e to (is_close (line p.next)) refl is
-    (sound 0 (at + 1) p.first p.next (omega arith) p.read_first).writes p.then_read
+    (sound 0 (at + 1) p.first p.next (omega arith) p.read_first).writes p.rest_read
 operand_found n line at e to false sound is h = leaf_found line at e to (leaf_of (line at)) refl h
 
 prefix_found : (n : ℕ) (line : Line) (rank at : ℕ) (e : Tree) (to : ℕ) (o : Option Unary) → ReadSound n line
@@ -87,13 +88,13 @@ prefix_found n line rank at e to (Some op) sound goes low is h =
     let p = parts (read n line rank (at + 1)) (λ f next. Some (One op f, next)) e to
     (sym (read_prefix (suc n) n line rank at op refl low is) ∙ h) in
     let inner = sound rank (at + 1) p.first p.next (omega (arith, low)) p.read_first in
-    renamed line rank at (One op p.first) e p.next to p.then_read
+    renamed line rank at (One op p.first) e p.next to p.rest_read
     (record { writes = Before is inner.writes; ends = inner.ends })
 prefix_found n line rank at e to None sound goes low is h =
-    let p = parts (read n line (rank + 1) at) (λ left next. more n line rank left next) e to
+    let p = parts (read n line (rank + 1) at) (λ left next. operators_after n line rank left next) e to
     (sym (read_plain (suc n) n line rank at refl low is) ∙ h) in
     let left = sound (rank + 1) at p.first p.next (omega (arith, low)) p.read_first in
-    goes rank at p.first p.next e to low (Tighter low left.writes) left.ends p.then_read
+    goes rank at p.first p.next e to low (Tighter low left.writes) left.ends p.rest_read
 
 read_found : (n : ℕ) (line : Line) → ReadSound n line → MoreSound n line → ReadSound (suc n) line
 read_found n line sound goes rank at e to le h =
@@ -105,15 +106,17 @@ read_found n line sound goes rank at e to le h =
 
 infix_found : (n : ℕ) (line : Line) (rank at : ℕ) (left : Tree) (mid : ℕ) (e : Tree) (to : ℕ) (o : Option Binary)
     → ReadSound n line → MoreSound n line → rank < 8 → Writes line rank at left mid → Ends line (rank + 1) mid
-    → infix_of (line mid) rank ≡ o → more (suc n) line rank left mid ≡ Some (e, to) → IsExpression line rank at e to
+    → infix_of (line mid) rank ≡ o → operators_after (suc n) line rank left mid ≡ Some (e, to)
+    → IsExpression line rank at e to
 infix_found n line rank at left mid e to None sound goes low writes ends is h =
-    renamed line rank at left e mid to (sym (more_ends (suc n) n line rank left mid refl is) ∙ h)
+    renamed line rank at left e mid to (sym (operators_end (suc n) n line rank left mid refl is) ∙ h)
     (record { writes = writes; ends = ends_at line rank mid is ends })
 infix_found n line rank at left mid e to (Some op) sound goes low writes ends is h =
-    let p = parts (read n line (rank + 1) (mid + 1)) (λ right next. more n line rank (Two op left right) next) e to
-    (sym (more_goes (suc n) n line rank left mid op refl is) ∙ h) in
+    let p = parts (read n line (rank + 1) (mid + 1))
+    (λ right next. operators_after n line rank (Two op left right) next) e to
+    (sym (operators_go (suc n) n line rank left mid op refl is) ∙ h) in
     let right = sound (rank + 1) (mid + 1) p.first p.next (omega (arith, low)) p.read_first in
-    goes rank at (Two op left p.first) p.next e to low (Between writes is right.writes) right.ends p.then_read
+    goes rank at (Two op left p.first) p.next e to low (Between writes is right.writes) right.ends p.rest_read
 
 record Sound (n : ℕ) (line : Line) : Type 0 where
   pub reads : ReadSound n line
@@ -123,12 +126,12 @@ read_zero : (line : Line) → ReadSound 0 line
 unfolding read
 read_zero line rank at e to le h = absurd (cc h)
 
-more_zero : (line : Line) → MoreSound 0 line
-unfolding more
-more_zero line rank at left mid e to low writes ends h = absurd (cc h)
+operators_zero : (line : Line) → MoreSound 0 line
+unfolding operators_after
+operators_zero line rank at left mid e to low writes ends h = absurd (cc h)
 
 sound_at : (n : ℕ) (line : Line) → Sound n line
-sound_at zero line = record { reads = read_zero line; goes = more_zero line }
+sound_at zero line = record { reads = read_zero line; goes = operators_zero line }
 sound_at (suc n) line =
     let below = sound_at n line in
     record {

@@ -9,7 +9,8 @@ use Rattle.m51_expr.specs.declared.fault.ReadError.{ReadError}
 use Rattle.m51_expr.specs.declared.fault.ReadError.TheVariants.{Fault, Memory}
 use Rattle.m51_expr.specs.Tree.{Tree, One, Two, tree_of}
 use Rattle.m51_expr.specs.Ranks.{prefix_of, infix_of}
-use Rattle.m51_expr.specs.Reading.{Line, ParsedTree, and_on, operand, prefixed, followed, read, more, GivesTree}
+use Rattle.m51_expr.specs.Reading.{Line, ParsedTree, then_read, operand, prefixed, followed, read, GivesTree}
+use Rattle.m51_expr.specs.Reading.{operators_after}
 use Rattle.m51_expr.specs.Reading.{or_no_expression}
 
 -- what an answer has read
@@ -28,50 +29,56 @@ read_operand n m line at e = ap (λ k. read k line 8 at) e
 
 read_below : (m : ℕ) (line : Line) (rank at : ℕ) → rank < 8
     → read (suc m) line rank at ≡ prefixed (prefix_of (line at) rank) (read m line rank (at + 1))
-    (and_on (read m line (rank + 1) at) (λ left next. more m line rank left next))
-unfolding read more
+    (then_read (read m line (rank + 1) at) (λ left next. operators_after m line rank left next))
+unfolding read operators_after
 read_below m line rank at h =
     ap (λ b. cond b (operand line at (read m line 0 (at + 1)))
     (prefixed (prefix_of (line at) rank) (read m line rank (at + 1))
-    (and_on (read m line (rank + 1) at) (λ left next. more m line rank left next)))) (below rank h)
+    (then_read (read m line (rank + 1) at) (λ left next. operators_after m line rank left next)))) (below rank h)
 
 pub read_prefix : (n m : ℕ) (line : Line) (rank at : ℕ) (op : Unary) → n ≡ suc m → rank < 8
     → prefix_of (line at) rank ≡ Some op
-    → read n line rank at ≡ and_on (read m line rank (at + 1)) (λ e next. Some (One op e, next))
+    → read n line rank at ≡ then_read (read m line rank (at + 1)) (λ e next. Some (One op e, next))
 read_prefix n m line rank at op e h is = ap (λ k. read k line rank at) e ∙ read_below m line rank at h
     ∙ ap (λ o. prefixed o (read m line rank (at + 1))
-    (and_on (read m line (rank + 1) at) (λ left next. more m line rank left next))) is
+    (then_read (read m line (rank + 1) at) (λ left next. operators_after m line rank left next))) is
 
 pub read_plain : (n m : ℕ) (line : Line) (rank at : ℕ) → n ≡ suc m → rank < 8 → prefix_of (line at) rank ≡ None
-    → read n line rank at ≡ and_on (read m line (rank + 1) at) (λ left next. more m line rank left next)
+    → read n line rank at ≡ then_read (read m line (rank + 1) at) (λ left next. operators_after m line rank left next)
 read_plain n m line rank at e h is = ap (λ k. read k line rank at) e ∙ read_below m line rank at h
     ∙ ap (λ o. prefixed o (read m line rank (at + 1))
-    (and_on (read m line (rank + 1) at) (λ left next. more m line rank left next))) is
+    (then_read (read m line (rank + 1) at) (λ left next. operators_after m line rank left next))) is
 
-more_step : (m : ℕ) (line : Line) (rank : ℕ) (left : Tree) (at : ℕ)
-    → more (suc m) line rank left at
+operators_step : (m : ℕ) (line : Line) (rank : ℕ) (left : Tree) (at : ℕ)
+    → operators_after (suc m) line rank left at
     ≡ followed (infix_of (line at) rank) left at
-    (λ op. and_on (read m line (rank + 1) (at + 1)) (λ right next. more m line rank (Two op left right) next))
-unfolding read more
-more_step m line rank left at = refl
+    (λ op. then_read (read m line (rank + 1) (at + 1))
+    (λ right next. operators_after m line rank (Two op left right) next))
+unfolding read operators_after
+operators_step m line rank left at = refl
 
-pub more_ends : (n m : ℕ) (line : Line) (rank : ℕ) (left : Tree) (at : ℕ) → n ≡ suc m → infix_of (line at) rank ≡ None
-    → more n line rank left at ≡ Some (left, at)
-more_ends n m line rank left at e is = ap (λ k. more k line rank left at) e ∙ more_step m line rank left at
+pub operators_end : (n m : ℕ) (line : Line) (rank : ℕ) (left : Tree) (at : ℕ) → n ≡ suc m
+    → infix_of (line at) rank ≡ None
+    → operators_after n line rank left at ≡ Some (left, at)
+operators_end n m line rank left at e is =
+    ap (λ k. operators_after k line rank left at) e ∙ operators_step m line rank left at
     ∙ ap (λ o. followed o left at
-    (λ op. and_on (read m line (rank + 1) (at + 1)) (λ right next. more m line rank (Two op left right) next))) is
+    (λ op. then_read (read m line (rank + 1) (at + 1))
+    (λ right next. operators_after m line rank (Two op left right) next))) is
 
-pub more_goes : (n m : ℕ) (line : Line) (rank : ℕ) (left : Tree) (at : ℕ) (op : Binary) → n ≡ suc m
+pub operators_go : (n m : ℕ) (line : Line) (rank : ℕ) (left : Tree) (at : ℕ) (op : Binary) → n ≡ suc m
     → infix_of (line at) rank ≡ Some op
-    → more n line rank left at
-    ≡ and_on (read m line (rank + 1) (at + 1)) (λ right next. more m line rank (Two op left right) next)
-more_goes n m line rank left at op e is = ap (λ k. more k line rank left at) e ∙ more_step m line rank left at
+    → operators_after n line rank left at
+    ≡ then_read (read m line (rank + 1) (at + 1)) (λ right next. operators_after m line rank (Two op left right) next)
+operators_go n m line rank left at op e is =
+    ap (λ k. operators_after k line rank left at) e ∙ operators_step m line rank left at
     ∙ ap (λ o. followed o left at
-    (λ op. and_on (read m line (rank + 1) (at + 1)) (λ right next. more m line rank (Two op left right) next))) is
+    (λ op. then_read (read m line (rank + 1) (at + 1))
+    (λ right next. operators_after m line rank (Two op left right) next))) is
 
 -- an error of a part is that of the whole
 pub err_step : (e : ReadError) (part whole : ParsedTree) (go : Tree → ℕ → ParsedTree) → GivesTree (Err e) part
-    → whole ≡ and_on part go → GivesTree (Err e) whole
+    → whole ≡ then_read part go → GivesTree (Err e) whole
 err_step (Fault k) None whole go h is = ap or_no_expression is ∙ h
 err_step (Fault k) (Some r) whole go h is = absurd (cc h)
 err_step Memory part whole go h is = tt

@@ -5,6 +5,7 @@ pub mod Ranks
 pub mod Reading
 pub mod Grammar
 pub mod Value
+pub mod Located
 pub mod Meanings
 pub mod Operators
 pub mod Bits

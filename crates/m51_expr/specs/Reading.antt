@@ -21,9 +21,9 @@ abbrev pub ParsedTree : Type 0
 ParsedTree = Option (Tree × ℕ)
 
 -- continues with the tree and the index after it, if there is one
-abbrev pub and_on : ParsedTree → (Tree → ℕ → ParsedTree) → ParsedTree
-and_on None go = None
-and_on (Some (e, at)) go = go e at
+abbrev pub then_read : ParsedTree → (Tree → ℕ → ParsedTree) → ParsedTree
+then_read None go = None
+then_read (Some (e, at)) go = go e at
 
 -- the tree, and the index after the closing parenthesis; none where there is no such parenthesis
 abbrev pub closed : Bool → Tree → ℕ → ParsedTree
@@ -39,12 +39,12 @@ leaf_at (Some e) at = Some (e, at + 1)
 -- place of the statement
 abbrev pub operand : Line → ℕ → ParsedTree → ParsedTree
 operand line at inner =
-    if is_open (line at) then and_on inner (λ e next. closed (is_close (line next)) e next)
+    if is_open (line at) then then_read inner (λ e next. closed (is_close (line next)) e next)
     else leaf_at (leaf_of (line at)) at
 
 -- an operator before its operand, which `inner` reads, or else what has no such operator
 abbrev pub prefixed : Option Unary → ParsedTree → ParsedTree → ParsedTree
-prefixed (Some op) inner plain = and_on inner (λ e next. Some (One op e, next))
+prefixed (Some op) inner plain = then_read inner (λ e next. Some (One op e, next))
 prefixed None inner plain = plain
 
 -- the tree ends where no operator follows; else reading continues with the operator
@@ -61,20 +61,21 @@ unfoldable mutual
   read (suc n) line rank at =
       if rank == 8 then operand line at (read n line 0 (at + 1))
       else prefixed (prefix_of (line at) rank) (read n line rank (at + 1))
-      (and_on (read n line (rank + 1) at) (λ left next. more n line rank left next))
+      (then_read (read n line (rank + 1) at) (λ left next. operators_after n line rank left next))
 
   -- an expression of this rank continues, from left to right, as long as operators of the rank follow
-  pub more : ℕ → Line → ℕ → Tree → ℕ → ParsedTree
-  more zero line rank left at = None
-  more (suc n) line rank left at =
+  pub operators_after : ℕ → Line → ℕ → Tree → ℕ → ParsedTree
+  operators_after zero line rank left at = None
+  operators_after (suc n) line rank left at =
       followed (infix_of (line at) rank) left at
-      (λ op. and_on (read n line (rank + 1) (at + 1)) (λ right next. more n line rank (Two op left right) next))
+      (λ op. then_read (read n line (rank + 1) (at + 1))
+      (λ right next. operators_after n line rank (Two op left right) next))
 
 -- An operand continues as an expression of each rank down to this one, which is `k` ranks below that of operands.
 unfoldable pub looser : ℕ → ℕ → Line → ℕ → Tree → ℕ → ParsedTree
 looser zero n line rank left at = Some (left, at)
 looser (suc k) n line rank left at =
-    and_on (looser k (n - 1) line (rank + 1) left at) (λ inner next. more (n - 1) line rank inner next)
+    then_read (looser k (n - 1) line (rank + 1) left at) (λ inner next. operators_after (n - 1) line rank inner next)
 
 -- how many steps are enough for an expression of this rank that ends within `left` symbols
 abbrev pub enough : ℕ → ℕ → ℕ

@@ -1,52 +1,57 @@
 //! The dot: bits of bytes.
 ghost use Rattle.std.specs.Prelude.{◌≡◌};
 ghost use Rattle.m51_expr.specs.Bits.{has_bits, keeps_base, dotted_bit, dot};
+ghost use Rattle.m51_expr.specs.Located.{base_by, value_by, valued_by};
 
 use crate::fault::ExprError;
-use crate::lookup::{Lookup, as_number, is_unplaced};
-use crate::operators::same_base;
-use crate::value::{Part, Value, counted, is_whole, plain};
-use m51_cells::{BASE_NOT_ALLOWED, Base, Kind, NO_BIT};
+use crate::located::{Located, Origin, SegmentNumber, plain, same_origin};
+use crate::places::{Places, as_number, is_unplaced_origin};
+use crate::value::{Part, is_whole, part_value};
+use m51_cells::{BASE_NOT_ALLOWED, Kind, NO_BIT};
 use m51_isa::bit_address;
 
 // Whether a base that the link places has bits with addresses.
-fn has_bits<L: Lookup>(names: &L, base: Base, class: Kind) -> bool
-    ensures { result ≡ has_bits (L.meanings names.now) base class }
+fn has_bits<S: SegmentNumber, P: Places<S>>(names: &P, origin: Origin<S>, class: Kind) -> bool
+    ensures { result ≡ has_bits (P.meanings names.now) (base_by S.number origin) class }
 {
-    match (base, class) {
-        (Base::Segment(segment), _) => names.bitaddressable(segment),
-        (Base::External(_), Kind::Direct) => true,
+    match (origin, class) {
+        (Origin::Segment(segment), _) => names.bitaddressable(segment),
+        (Origin::External(_), Kind::Direct) => true,
         _ => false,
     }
 }
 
 // Whether the dot keeps the base of its left operand.
-fn keeps_base(x: Value) -> bool
-    ensures { result ≡ keeps_base x }
+fn keeps_base<S: SegmentNumber>(x: Located<S>) -> bool
+    ensures { result ≡ keeps_base (value_by S.number x) }
 {
-    !same_base(x.base, Base::None) && is_whole(x.part)
+    !same_origin(x.origin, Origin::None) && is_whole(x.part)
 }
 
 // A bit of a byte.
-fn dotted_bit<L: Lookup>(names: &L, x: Value, bit: u16) -> Result<Value, ExprError>
-    ensures { result ≡ dotted_bit (L.meanings names.now) x bit }
+fn dotted_bit<S: SegmentNumber, P: Places<S>>(
+    names: &P,
+    x: Located<S>,
+    bit: u16,
+) -> Result<Located<S>, ExprError>
+    ensures { valued_by S.number result ≡ dotted_bit (P.meanings names.now) (value_by S.number x) bit }
 {
     if bit > 7 {
         return Err(ExprError { number: NO_BIT });
     }
-    let kept = Value {
+    let kept = Located {
         class: Kind::Bits,
         part: Part::Bit(bit as u8),
         ..x
     };
-    if is_unplaced(names, x.base) {
-        return if has_bits(names, x.base, x.class) {
+    if is_unplaced_origin(names, x.origin) {
+        return if has_bits(names, x.origin, x.class) {
             Ok(kept)
         } else {
             Err(ExprError { number: NO_BIT })
         };
     }
-    match bit_address(counted(x), bit) {
+    match bit_address(part_value(x.number, x.part), bit) {
         None => Err(ExprError { number: NO_BIT }),
         Some(_) if keeps_base(x) => Ok(kept),
         Some(address) => Ok(plain(address, Kind::Bits)),
@@ -54,10 +59,15 @@ fn dotted_bit<L: Lookup>(names: &L, x: Value, bit: u16) -> Result<Value, ExprErr
 }
 
 /// The dot between two operands.
-pub(crate) fn dot<L: Lookup>(names: &L, x: Value, n: Value) -> Result<Value, ExprError>
-    ensures { result ≡ dot (L.meanings names.now) x n }
+pub(crate) fn dot<S: SegmentNumber, P: Places<S>>(
+    names: &P,
+    x: Located<S>,
+    n: Located<S>,
+) -> Result<Located<S>, ExprError>
+    ensures { valued_by S.number result
+        ≡ dot (P.meanings names.now) (value_by S.number x) (value_by S.number n) }
 {
-    if is_unplaced(names, x.base) && !is_whole(x.part) {
+    if is_unplaced_origin(names, x.origin) && !is_whole(x.part) {
         return Err(ExprError {
             number: BASE_NOT_ALLOWED,
         });

@@ -1,10 +1,12 @@
-//! What names mean.
-ghost use Rattle.std.specs.Prelude.{◌≡◌};
-ghost use Rattle.m51_expr.specs.Meanings.{Meanings, is_absolute_base, is_unplaced, as_number};
+//! What names mean in an object, whose segments are numbered by a byte.
+ghost use Rattle.std.specs.Prelude.{◌≡◌, option_map};
+ghost use Rattle.m51_expr.specs.Meanings.{Meanings, is_absolute_base, is_unplaced};
+ghost use Rattle.m51_expr.specs.Located.{origin_base, located_value};
 
-use crate::fault::ExprError;
-use crate::value::{Value, counted};
-use m51_cells::{BASE_NOT_ALLOWED, Base, Name};
+use crate::located::{Located, Origin};
+use crate::places::{Places, is_absolute_origin, is_unplaced_origin};
+use crate::value::Value;
+use m51_cells::{Base, Name};
 
 /// What the names and the place of a statement mean. No method allocates.
 ///
@@ -29,16 +31,86 @@ pub trait Lookup {
         ensures { result ≡ (meanings self.now).bitaddressable segment };
 }
 
+/// A base of an object as an origin.
+///
+/// Source: own choice ("Numbers of segments in values").
+pub fn origin_of(base: Base) -> Origin<u8>
+    ensures { origin_base result ≡ base }
+{
+    match base {
+        Base::None => Origin::None,
+        Base::Segment(segment) => Origin::Segment(segment),
+        Base::External(external) => Origin::External(external),
+    }
+}
+
+/// A value of an object with its origin.
+///
+/// Source: own choice ("Numbers of segments in values").
+pub fn with_origin(value: Value) -> Located<u8>
+    ensures { located_value result ≡ value }
+{
+    Located {
+        number: value.number,
+        class: value.class,
+        part: value.part,
+        origin: origin_of(value.base),
+    }
+}
+
+// An origin as the base of an object.
+fn base_of(origin: Origin<u8>) -> Base
+    ensures { result ≡ origin_base origin }
+{
+    match origin {
+        Origin::None => Base::None,
+        Origin::Segment(segment) => Base::Segment(segment),
+        Origin::External(external) => Base::External(external),
+    }
+}
+
+/// A value as one of an object.
+pub(crate) fn object_value(value: Located<u8>) -> Value
+    ensures { result ≡ located_value value }
+{
+    Value {
+        number: value.number,
+        class: value.class,
+        base: base_of(value.origin),
+        part: value.part,
+    }
+}
+
+impl<L: Lookup> Places<u8> for L {
+    ghost meanings = { λ l. L.meanings l };
+
+    fn value(&self, name: &Name) -> Option<Located<u8>> {
+        match Lookup::value(self, name) {
+            Some(value) => Some(with_origin(value)),
+            None => None,
+        }
+    }
+
+    fn here(&self) -> Located<u8> {
+        with_origin(Lookup::here(self))
+    }
+
+    fn fixed(&self, segment: u8) -> bool {
+        Lookup::fixed(self, segment)
+    }
+
+    fn bitaddressable(&self, segment: u8) -> bool {
+        Lookup::bitaddressable(self, segment)
+    }
+}
+
 /// Whether the base is an absolute segment.
 ///
 /// Source: own choice ("Values with a base").
 pub fn is_absolute_base<L: Lookup>(names: &L, base: Base) -> bool
     ensures { result ≡ is_absolute_base (L.meanings names.now) base }
 {
-    match base {
-        Base::Segment(segment) => names.fixed(segment),
-        Base::None | Base::External(_) => false,
-    }
+    is_absolute_origin(names, origin_of(base))
 }
 
 /// Whether the base is relocatable or external, so that the link places it.
@@ -47,21 +119,5 @@ pub fn is_absolute_base<L: Lookup>(names: &L, base: Base) -> bool
 pub fn is_unplaced<L: Lookup>(names: &L, base: Base) -> bool
     ensures { result ≡ is_unplaced (L.meanings names.now) base }
 {
-    match base {
-        Base::None => false,
-        Base::Segment(segment) => !names.fixed(segment),
-        Base::External(_) => true,
-    }
-}
-
-/// What an operand counts as where only an absolute base is allowed.
-pub(crate) fn as_number<L: Lookup>(names: &L, value: Value) -> Result<u16, ExprError>
-    ensures { result ≡ as_number (L.meanings names.now) value }
-{
-    if is_unplaced(names, value.base) {
-        return Err(ExprError {
-            number: BASE_NOT_ALLOWED,
-        });
-    }
-    Ok(counted(value))
+    is_unplaced_origin(names, origin_of(base))
 }

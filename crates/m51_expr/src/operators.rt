@@ -1,13 +1,15 @@
 //! Operators on values, but the dot.
-ghost use Rattle.std.specs.Prelude.{◌≡◌};
-ghost use Rattle.m51_expr.specs.Operators.{kept_under, unary, settled, beside, same_base, truth, arithmetic, class_of};
+ghost use Rattle.std.specs.Prelude.{◌≡◌, option_map};
+ghost use Rattle.m51_expr.specs.Operators.{kept_under, unary, settled, beside, truth, arithmetic, class_of};
 ghost use Rattle.m51_expr.specs.Operators.{base_of, of_wholes, binary};
+ghost use Rattle.m51_expr.specs.Located.{base_by, value_by, valued_by};
 
 use crate::fault::ExprError;
-use crate::lookup::{Lookup, as_number, is_absolute_base, is_unplaced};
+use crate::located::{Located, Origin, SegmentNumber, plain, same_origin};
+use crate::places::{Places, as_number, is_absolute_origin, is_unplaced_origin};
 use crate::tree::{Binary, Unary};
-use crate::value::{Part, Value, counted, is_whole, plain};
-use m51_cells::{BASE_NOT_ALLOWED, Base, DIVISION_BY_ZERO, Kind};
+use crate::value::{Part, is_whole, part_value};
+use m51_cells::{BASE_NOT_ALLOWED, DIVISION_BY_ZERO, Kind};
 
 // A division by 0.
 const BY_ZERO: ExprError = ExprError {
@@ -15,12 +17,12 @@ const BY_ZERO: ExprError = ExprError {
 };
 
 // The whole value of a base, which keeps it under one HIGH or LOW.
-fn kept_under(part: Part, value: Value) -> Option<Value>
-    ensures { result ≡ kept_under part value }
+fn kept_under<S: SegmentNumber>(part: Part, value: Located<S>) -> Option<Located<S>>
+    ensures { option_map (value_by S.number) result ≡ kept_under part (value_by S.number value) }
 {
-    match (value.base, value.part) {
-        (Base::None, _) => None,
-        (_, Part::Whole) => Some(Value {
+    match (value.origin, value.part) {
+        (Origin::None, _) => None,
+        (_, Part::Whole) => Some(Located {
             class: Kind::Number,
             part,
             ..value
@@ -30,8 +32,12 @@ fn kept_under(part: Part, value: Value) -> Option<Value>
 }
 
 /// An operator before an operand.
-pub(crate) fn unary<L: Lookup>(names: &L, op: Unary, value: Value) -> Result<Value, ExprError>
-    ensures { result ≡ unary (L.meanings names.now) op value }
+pub(crate) fn unary<S: SegmentNumber, P: Places<S>>(
+    names: &P,
+    op: Unary,
+    value: Located<S>,
+) -> Result<Located<S>, ExprError>
+    ensures { valued_by S.number result ≡ unary (P.meanings names.now) op (value_by S.number value) }
 {
     match op {
         Unary::High => {
@@ -53,34 +59,29 @@ pub(crate) fn unary<L: Lookup>(names: &L, op: Unary, value: Value) -> Result<Val
 }
 
 // A value without a relocatable or external base counts after HIGH, LOW or `.` as the byte or the bit address.
-fn settled<L: Lookup>(names: &L, value: Value) -> Value
-    ensures { result ≡ settled (L.meanings names.now) value }
+fn settled<S: SegmentNumber, P: Places<S>>(names: &P, value: Located<S>) -> Located<S>
+    ensures { value_by S.number result ≡ settled (P.meanings names.now) (value_by S.number value) }
 {
-    if is_unplaced(names, value.base) || is_whole(value.part) {
+    if is_unplaced_origin(names, value.origin) || is_whole(value.part) {
         return value;
     }
-    plain(counted(value), value.class)
+    plain(part_value(value.number, value.part), value.class)
 }
 
 // An absolute base beside a relocatable or external one counts as its number.
-fn beside<L: Lookup>(names: &L, other: Base, value: Value) -> Value
-    ensures { result ≡ beside (L.meanings names.now) other value }
+fn beside<S: SegmentNumber, P: Places<S>>(
+    names: &P,
+    other: Origin<S>,
+    value: Located<S>,
+) -> Located<S>
+    ensures { value_by S.number result
+        ≡ beside (P.meanings names.now) (base_by S.number other) (value_by S.number value) }
 {
-    if is_unplaced(names, other) && is_absolute_base(names, value.base) {
-        return plain(value.number, value.class);
-    }
-    value
-}
-
-/// Whether two bases are one.
-pub(crate) fn same_base(a: Base, b: Base) -> bool
-    ensures { result ≡ same_base a b }
-{
-    match (a, b) {
-        (Base::None, Base::None) => true,
-        (Base::Segment(a), Base::Segment(b)) => a == b,
-        (Base::External(a), Base::External(b)) => a == b,
-        _ => false,
+    let absolute = is_absolute_origin(names, value.origin);
+    if is_unplaced_origin(names, other) && absolute {
+        plain(value.number, value.class)
+    } else {
+        value
     }
 }
 
@@ -131,32 +132,33 @@ fn class_of(op: Binary, x: Kind, y: Kind) -> Kind
 }
 
 // The base of a sum or a difference, where the rules give one.
-fn base_of(op: Binary, x: Base, y: Base) -> Option<Base>
-    ensures { result ≡ base_of op x y }
+fn origin_of<S: SegmentNumber>(op: Binary, x: Origin<S>, y: Origin<S>) -> Option<Origin<S>>
+    ensures { option_map (base_by S.number) result ≡ base_of op (base_by S.number x) (base_by S.number y) }
 {
     match (op, x, y) {
-        (Binary::Add | Binary::Sub, x, Base::None) => Some(x),
-        (Binary::Add, Base::None, y) => Some(y),
-        (Binary::Sub, x, y) if same_base(x, y) => Some(Base::None),
+        (Binary::Add | Binary::Sub, x, Origin::None) => Some(x),
+        (Binary::Add, Origin::None, y) => Some(y),
+        (Binary::Sub, x, y) if same_origin(x, y) => Some(Origin::None),
         _ => None,
     }
 }
 
 // An operator between two whole values.
-fn of_wholes<L: Lookup>(
-    names: &L,
+fn of_wholes<S: SegmentNumber, P: Places<S>>(
+    names: &P,
     op: Binary,
     class: Kind,
-    x: Value,
-    y: Value,
-) -> Result<Value, ExprError>
-    ensures { result ≡ of_wholes (L.meanings names.now) op class x y }
+    x: Located<S>,
+    y: Located<S>,
+) -> Result<Located<S>, ExprError>
+    ensures { valued_by S.number result
+        ≡ of_wholes (P.meanings names.now) op class (value_by S.number x) (value_by S.number y) }
 {
-    match base_of(op, x.base, y.base) {
-        Some(base) => Ok(Value {
+    match origin_of(op, x.origin, y.origin) {
+        Some(origin) => Ok(Located {
             number: arithmetic(op, x.number, y.number)?,
             class,
-            base,
+            origin,
             part: Part::Whole,
         }),
         None => {
@@ -168,13 +170,14 @@ fn of_wholes<L: Lookup>(
 }
 
 /// An operator between two operands, but the dot.
-pub(crate) fn binary<L: Lookup>(
-    names: &L,
+pub(crate) fn binary<S: SegmentNumber, P: Places<S>>(
+    names: &P,
     op: Binary,
-    x: Value,
-    y: Value,
-) -> Result<Value, ExprError>
-    ensures { result ≡ binary (L.meanings names.now) op x y }
+    x: Located<S>,
+    y: Located<S>,
+) -> Result<Located<S>, ExprError>
+    ensures { valued_by S.number result
+        ≡ binary (P.meanings names.now) op (value_by S.number x) (value_by S.number y) }
 {
     let class = class_of(op, x.class, y.class);
     let (x, y) = (settled(names, x), settled(names, y));
@@ -187,7 +190,7 @@ pub(crate) fn binary<L: Lookup>(
         names,
         op,
         class,
-        beside(names, y.base, x),
-        beside(names, x.base, y),
+        beside(names, y.origin, x),
+        beside(names, x.origin, y),
     )
 }

@@ -6,7 +6,7 @@ ghost use Rattle.m51_expr.specs.Symbol.{symbol_of};
 ghost use Rattle.m51_expr.specs.Ranks.{prefix_operator};
 ghost use Rattle.m51_expr.specs.Tree.{Tree, tree_of};
 ghost use Rattle.m51_expr.specs.Grammar.{IsExpression};
-ghost use Rattle.m51_expr.specs.Reading.{GivesTree, line_of_symbols, read, more, looser, operand, enough};
+ghost use Rattle.m51_expr.specs.Reading.{GivesTree, line_of_symbols, read, operators_after, looser, operand, enough};
 ghost use Rattle.m51_expr.specs.Reading.{expression_in};
 ghost use Rattle.m51_expr.specs.Reading.{expression_from};
 
@@ -57,7 +57,7 @@ fn read(alloc: Global, symbols: &[Symbol], rank: u8, at: usize) -> Result<(Expr,
         }
         None => {
             let (left, next) = read(alloc, symbols, rank + 1, at)?;
-            more(alloc, symbols, rank, left, next)
+            operators_after(alloc, symbols, rank, left, next)
         }
     }
 }
@@ -97,12 +97,12 @@ fn looser(
         return Ok((left, at));
     }
     let (inner, next) = looser(alloc, symbols, rank + 1, left, at)?;
-    more(alloc, symbols, rank, inner, next)
+    operators_after(alloc, symbols, rank, inner, next)
 }
 
 // An expression of this rank continues, as long as operators of the rank follow.
 #[cycle(reader)]
-fn more(
+fn operators_after(
     alloc: Global,
     symbols: &[Symbol],
     rank: u8,
@@ -112,7 +112,7 @@ fn more(
     requires rank { rank < 8 }
     requires within { at ≤ length symbols.now }
     ensures gives { (n : ℕ) → enough (length symbols.now - at) 8 ≤ n
-        → GivesTree result (more n (line_of_symbols symbols.now) rank (tree_of left) at) }
+        → GivesTree result (operators_after n (line_of_symbols symbols.now) rank (tree_of left) at) }
     ensures within { IfOk result (λ r. (at ≤ r.1) × (r.1 ≤ length symbols.now)) }
 {
     let Some(op) = infix_of(symbol_at(symbols, at), rank) else {
@@ -120,7 +120,7 @@ fn more(
     };
     let (right, next) = read(alloc, symbols, rank + 1, at + 1)?;
     let both = two(alloc, op, left, right)?;
-    more(alloc, symbols, rank, both, next)
+    operators_after(alloc, symbols, rank, both, next)
 }
 
 // A number, a name, the place of the statement, or an expression in parentheses.

@@ -1,6 +1,6 @@
 //! Values of expressions.
 ghost use Rattle.std.specs.Prelude.{◌≡◌};
-ghost use Rattle.m51_expr.specs.Value.{whole, plain, is_whole, counted};
+ghost use Rattle.m51_expr.specs.Value.{whole, plain, is_whole, part_value, counted};
 
 use m51_cells::{Base, Kind};
 use m51_isa::bit_address;
@@ -68,6 +68,24 @@ pub fn is_whole(part: Part) -> bool
     }
 }
 
+/// A number under a part: the number, its high byte, its low byte or the address of its bit, which is 0 where it has
+/// none.
+///
+/// Source: own choice ("Values with a base").
+pub fn part_value(number: u16, part: Part) -> u16
+    ensures { result ≡ part_value number part }
+{
+    match part {
+        Part::Whole => number,
+        Part::High => number / 256,
+        Part::Low => number % 256,
+        Part::Bit(bit) => match bit_address(number, u16::from(bit)) {
+            Some(address) => address,
+            None => 0,
+        },
+    }
+}
+
 /// What a value with no base or an absolute one counts as: its number, or that number's high byte, low byte or the
 /// address of its bit, which is 0 where it has none.
 ///
@@ -75,13 +93,5 @@ pub fn is_whole(part: Part) -> bool
 pub fn counted(value: Value) -> u16
     ensures { result ≡ counted value }
 {
-    match value.part {
-        Part::Whole => value.number,
-        Part::High => value.number / 256,
-        Part::Low => value.number % 256,
-        Part::Bit(bit) => match bit_address(value.number, u16::from(bit)) {
-            Some(address) => address,
-            None => 0,
-        },
-    }
+    part_value(value.number, value.part)
 }

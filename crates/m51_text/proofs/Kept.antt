@@ -5,7 +5,7 @@ use Rattle.std.proofs.lemmas.List.{append-nil, map-append}
 use Rattle.m51_text.specs.declared.text.Line.{Line}
 use Rattle.m51_text.specs.declared.entry.LineEntry.{LineEntry}
 use Rattle.m51_text.specs.declared.read_lines.ReadLines.{ReadLines}
-use Rattle.m51_text.specs.Entries.{entry_tree, faultless, entry_of_line, entries_of, line_count, line_of_entry}
+use Rattle.m51_text.specs.Entries.{entry_tree, faultless, entry_of_line, read_entries, line_count, line_of_entry}
 use Rattle.m51_text.proofs.Marks.{length_trees}
 
 length_lines : (l : List Line) → length (map faultless l) ≡ length l
@@ -40,7 +40,7 @@ push_entry lines entries e =
     ∙ sym (append_assoc (map faultless lines) (map entry_tree entries) (entry_tree e ∷ []))
 
 -- contracts see as many lines
-pub length_entries : (r : ReadLines) → length (entries_of r) ≡ line_count r
+pub length_entries : (r : ReadLines) → length (read_entries r) ≡ line_count r
 length_entries r =
     length_lists r.lines.items r.entries.items
     ∙ ap (λ n. n + length r.entries.items) (sym r.lines.ok.0)

@@ -15,7 +15,7 @@ use Rattle.m51_text.specs.Said.{said_with}
 use Rattle.m51_text.specs.Entries.{entry_tree, fault_at, fault_kept, fault_of_entry, fault_said, line_of_entry}
 use Rattle.m51_text.specs.Entries.{tree_said, tree_of_entry}
 use Rattle.m51_text.specs.declared.read_lines.ReadLines.{ReadLines}
-use Rattle.m51_text.specs.Entries.{EntryTree, entries_of, faultless, line_count}
+use Rattle.m51_text.specs.Entries.{EntryTree, read_entries, faultless, line_count}
 use Rattle.m51_text.specs.Reading.{told}
 use Rattle.m51_text.proofs.Kept.{length_entries}
 
@@ -74,7 +74,7 @@ all_say [] = refl
 all_say (l ∷ lines) = ap (λ trees. line_tree l ∷ trees) (all_say lines)
 
 -- the faults of all lines
-faults_in : (r : ReadLines) → filter_map fault_of_entry (entries_of r) ≡ filter_map fault_kept r.entries.items
+faults_in : (r : ReadLines) → filter_map fault_of_entry (read_entries r) ≡ filter_map fault_kept r.entries.items
 faults_in r =
     filter_map-append fault_of_entry (map faultless r.lines.items) (map entry_tree r.entries.items)
     ∙ ap (λ l. l ++ filter_map fault_of_entry (map entry_tree r.entries.items)) (no_faults r.lines.items)
@@ -82,7 +82,7 @@ faults_in r =
 
 -- the statements of all lines, where none has a fault
 trees_in : (r : ReadLines) → filter_map fault_kept r.entries.items ≡ []
-    → map line_tree (r.lines.items ++ map line_of_entry r.entries.items) ≡ filter_map tree_of_entry (entries_of r)
+    → map line_tree (r.lines.items ++ map line_of_entry r.entries.items) ≡ filter_map tree_of_entry (read_entries r)
 trees_in r none =
     map-append line_tree r.lines.items (map line_of_entry r.entries.items)
     ∙ ap (λ l. map line_tree r.lines.items ++ l) (same_lines r.entries.items (same_faults r.entries.items ∙ none))
@@ -93,13 +93,13 @@ trees_in r none =
 pub lines_told : (r : ReadLines) (faults : List Fault) (lines : List Line) → (length faults == 0) ≡ true
     → faults ≡ filter_map fault_kept r.entries.items
     → lines ≡ r.lines.items ++ map line_of_entry r.entries.items
-    → Lines (map line_tree lines) ≡ faults_or_lines (filter_map fault_of_entry (entries_of r))
-    (filter_map tree_of_entry (entries_of r))
+    → Lines (map line_tree lines) ≡ faults_or_lines (filter_map fault_of_entry (read_entries r))
+    (filter_map tree_of_entry (read_entries r))
 lines_told r faults lines empty kept said =
     let none : [] ≡ filter_map fault_kept r.entries.items = sym (is_nothing faults empty) ∙ kept in
     ap (λ l. Lines (map line_tree l)) said
     ∙ ap Lines (trees_in r (sym none))
-    ∙ ap (λ f. faults_or_lines f (filter_map tree_of_entry (entries_of r))) (none ∙ sym (faults_in r))
+    ∙ ap (λ f. faults_or_lines f (filter_map tree_of_entry (read_entries r))) (none ∙ sym (faults_in r))
 
 some_faults : (faults : List Fault) (lines : List LineTree) → (length faults == 0) ≡ false
     → Faults faults ≡ faults_or_lines faults lines
@@ -109,11 +109,11 @@ some_faults (fault ∷ faults) lines h = refl
 -- the faults, where there are some
 pub faults_told : (r : ReadLines) (faults : List Fault) → (length faults == 0) ≡ false
     → faults ≡ filter_map fault_kept r.entries.items
-    → Faults faults ≡ faults_or_lines (filter_map fault_of_entry (entries_of r))
-    (filter_map tree_of_entry (entries_of r))
+    → Faults faults ≡ faults_or_lines (filter_map fault_of_entry (read_entries r))
+    (filter_map tree_of_entry (read_entries r))
 faults_told r faults some kept =
-    some_faults faults (filter_map tree_of_entry (entries_of r)) some
-    ∙ ap (λ f. faults_or_lines f (filter_map tree_of_entry (entries_of r))) (kept ∙ sym (faults_in r))
+    some_faults faults (filter_map tree_of_entry (read_entries r)) some
+    ∙ ap (λ f. faults_or_lines f (filter_map tree_of_entry (read_entries r))) (kept ∙ sym (faults_in r))
 
 no_entries : (entries : List EntryTree) → length entries ≡ 0 → entries ≡ []
 no_entries [] h = refl
@@ -121,8 +121,8 @@ no_entries (e ∷ entries) h = absurd (omega (arith, h))
 
 -- of no lines
 pub nothing_told : (r : ReadLines) → (line_count r == 0) ≡ true
-    → Faults (fault_at 0 1 MISPLACED_END ∷ []) ≡ told (entries_of r)
-nothing_told r h = ap told (sym (no_entries (entries_of r) (length_entries r ∙ is_zero (line_count r) h)))
+    → Faults (fault_at 0 1 MISPLACED_END ∷ []) ≡ told (read_entries r)
+nothing_told r h = ap told (sym (no_entries (read_entries r) (length_entries r ∙ is_zero (line_count r) h)))
 
 told_of : (entries : List EntryTree) → (length entries == 0) ≡ false
     → faults_or_lines (filter_map fault_of_entry entries) (filter_map tree_of_entry entries) ≡ told entries
@@ -131,6 +131,6 @@ told_of (e ∷ entries) h = refl
 
 -- of lines
 pub some_told : (r : ReadLines) → (line_count r == 0) ≡ false
-    → faults_or_lines (filter_map fault_of_entry (entries_of r)) (filter_map tree_of_entry (entries_of r))
-    ≡ told (entries_of r)
-some_told r h = told_of (entries_of r) (ap (λ n. n == 0) (length_entries r) ∙ h)
+    → faults_or_lines (filter_map fault_of_entry (read_entries r)) (filter_map tree_of_entry (read_entries r))
+    ≡ told (read_entries r)
+some_told r h = told_of (read_entries r) (ap (λ n. n == 0) (length_entries r) ∙ h)

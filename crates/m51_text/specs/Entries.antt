@@ -49,8 +49,8 @@ entry_of_line l =
     record { file = l.file; line = l.line; said = record { statement = l.stmt; fault = None }; by_place = None }
 
 -- all the lines that were read
-abbrev pub entries_of : ReadLines → List EntryTree
-entries_of r = map faultless r.lines.items ++ map entry_tree r.entries.items
+abbrev pub read_entries : ReadLines → List EntryTree
+read_entries r = map faultless r.lines.items ++ map entry_tree r.entries.items
 
 -- how many they are
 abbrev pub line_count : ReadLines → ℕ

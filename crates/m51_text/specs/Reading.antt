@@ -14,7 +14,7 @@ use Rattle.m51_text.specs.declared.reading.TextReading.{TextReading}
 use Rattle.m51_text.specs.Said.{said}
 use Rattle.m51_text.specs.Text.{TextLine, inclusion_of, bytes_of_file, file_lines}
 use Rattle.m51_text.specs.Faults.{ends_source, is_misplaced, fault_by_place}
-use Rattle.m51_text.specs.Entries.{EntryTree, entries_of, fault_at, fault_of_entry, tree_of_entry, marked}
+use Rattle.m51_text.specs.Entries.{EntryTree, read_entries, fault_at, fault_of_entry, tree_of_entry, marked}
 use Rattle.m51_text.specs.Answer.{TextTree, Faults, faults_or_lines}
 
 -- the lines that were read, and whether the END of the source is among them
@@ -24,7 +24,7 @@ pub record State : Type 0 where
 
 -- the same of what the code keeps
 abbrev pub state_of : TextReading → State
-state_of r = record { entries = entries_of r.read; ended = r.ended }
+state_of r = record { entries = read_entries r.read; ended = r.ended }
 
 -- a line at this place
 abbrev pub text_line : TextPlace → List ℕ → TextLine

@@ -2,7 +2,7 @@
 ghost use Rattle.std.specs.Prelude.{◌≡◌, ◌≤◌, [], ◌∷◌, ◌++◌, IfOk, length, map};
 ghost use Rattle.std.specs.List.{filter_map};
 ghost use Rattle.m51_cells.specs.declared.fault.TheConstants.{MISPLACED_END};
-ghost use Rattle.m51_text.specs.Entries.{entries_of, fault_at, fault_kept, fault_of_entry, line_of_entry, marked};
+ghost use Rattle.m51_text.specs.Entries.{read_entries, fault_at, fault_kept, fault_of_entry, line_of_entry, marked};
 ghost use Rattle.m51_text.specs.Entries.{tree_of_entry};
 ghost use Rattle.m51_text.specs.Answer.{faults_or_lines, text_of, text_tree};
 ghost use Rattle.m51_text.specs.Reading.{state_of, settled, told};
@@ -17,7 +17,7 @@ use m51_cells::{MISPLACED_END, MOST_INCLUDE_LEVELS, NoMemory};
 use m51_module::{Fault, Faults, SourceFile};
 use std::alloc::{AllocError, Global};
 
-/// How many levels of includes are allowed below the lines of a source.
+// How many levels of includes are allowed below the lines of a source.
 const MOST_LEVELS: u8 = MOST_INCLUDE_LEVELS as u8;
 
 // The faults of lines.
@@ -66,7 +66,8 @@ fn faults_of_nothing(alloc: Global) -> Result<Vec<Fault>, NoMemory>
 // The faults of lines, or where there are none the lines.
 fn faults_or_lines(alloc: Global, read: ReadLines) -> Result<Text, NoMemory>
     ensures { IfOk result (λ text. text_tree text
-        ≡ faults_or_lines (filter_map fault_of_entry (entries_of read)) (filter_map tree_of_entry (entries_of read))) }
+        ≡ faults_or_lines (filter_map fault_of_entry (read_entries read))
+        (filter_map tree_of_entry (read_entries read))) }
 {
     let faults = faults_of(alloc, &read.entries)?;
     if faults.is_empty() {
@@ -76,9 +77,9 @@ fn faults_or_lines(alloc: Global, read: ReadLines) -> Result<Text, NoMemory>
     Ok(Text::Faults(Faults::of(faults)))
 }
 
-// The lines that were read, with the missing END marked.
+// The lines that were read, with E16 at the last line of the source.
 fn marked(alloc: Global, read: ReadLines) -> Result<ReadLines, NoMemory>
-    ensures { IfOk result (λ kept. entries_of kept ≡ marked (entries_of read)) }
+    ensures { IfOk result (λ kept. read_entries kept ≡ marked (read_entries read)) }
 {
     let mut entries = all_entries(alloc, read)?;
     mark_missing_end(&mut entries);
@@ -88,9 +89,9 @@ fn marked(alloc: Global, read: ReadLines) -> Result<ReadLines, NoMemory>
     })
 }
 
-// The lines that were read, with the missing END.
+// The lines that were read, with E16 at the last line of the source if it lacks END.
 fn settled(alloc: Global, reading: TextReading) -> Result<ReadLines, NoMemory>
-    ensures { IfOk result (λ kept. entries_of kept ≡ settled (state_of reading)) }
+    ensures { IfOk result (λ kept. read_entries kept ≡ settled (state_of reading)) }
 {
     let lacks_end = reading.lacks_end();
     let TextReading { read, .. } = reading;
@@ -104,7 +105,7 @@ fn settled(alloc: Global, reading: TextReading) -> Result<ReadLines, NoMemory>
 // What the lines that were read give.
 #[tactic(auto, using(crate::proofs::Telling::nothing_told, crate::proofs::Telling::some_told))]
 fn told(alloc: Global, read: ReadLines) -> Result<Text, NoMemory>
-    ensures { IfOk result (λ text. text_tree text ≡ told (entries_of read)) }
+    ensures { IfOk result (λ text. text_tree text ≡ told (read_entries read)) }
 {
     if read.len() == 0 {
         return Ok(Text::Faults(Faults::of(faults_of_nothing(alloc)?)));
@@ -114,8 +115,8 @@ fn told(alloc: Global, read: ReadLines) -> Result<Text, NoMemory>
 
 /// The text of a source and its includes: its lines, or where a line has a fault the faults in the order of the lines.
 ///
-/// The lines of the text are those of the source in order, each line `$INCLUDE(name)` with the lines after it of the
-/// first include of exactly that name, which may include others: eight levels deep. Reading stops at line 65,536.
+/// The lines of the text are those of the source in order. After each line `$INCLUDE(name)` come the lines of the first
+/// include of exactly that name, which may include others, eight levels deep. Reading stops at line 65,536.
 ///
 /// A line has at most one fault, the first of these:
 ///

@@ -1,6 +1,6 @@
 //! The lines that were read.
 ghost use Rattle.std.specs.Prelude.{◌≡◌, ◌+◌, ◌∷◌, ◌++◌, [], IfOk, OnOk, map};
-ghost use Rattle.m51_text.specs.Entries.{entries_of, entry_of_line, entry_tree, line_count};
+ghost use Rattle.m51_text.specs.Entries.{read_entries, entry_of_line, entry_tree, line_count};
 
 use crate::entry::LineEntry;
 use crate::saying::LineSaid;
@@ -18,7 +18,7 @@ pub(crate) struct ReadLines {
 impl ReadLines {
     /// No line is read yet.
     pub(crate) fn new(alloc: Global) -> ReadLines
-        ensures entries { entries_of result ≡ [] }
+        ensures entries { read_entries result ≡ [] }
         ensures count { line_count result ≡ 0 }
     {
         ReadLines {
@@ -39,7 +39,7 @@ impl ReadLines {
     /// Error: out of memory.
     #[tactic(auto, using(crate::proofs::Kept::push_line, crate::proofs::Kept::push_entry))]
     pub(crate) fn push(&mut self, entry: LineEntry) -> Result<(), NoMemory>
-        ensures entries { OnOk result (entries_of self.new ≡ entries_of self.old ++ entry_tree entry ∷ []) }
+        ensures entries { OnOk result (read_entries self.new ≡ read_entries self.old ++ entry_tree entry ∷ []) }
         ensures count { OnOk result (line_count self.new ≡ line_count self.old + 1) }
     {
         if self.entries.is_empty() && entry.is_faultless() {
@@ -78,7 +78,7 @@ fn as_entries(alloc: Global, lines: Vec<Line>) -> Result<Vec<LineEntry>, AllocEr
 /// All the lines that were read.
 #[tactic(auto, using(crate::proofs::Kept::all_kept))]
 pub(crate) fn all_entries(alloc: Global, read: ReadLines) -> Result<Vec<LineEntry>, AllocError>
-    ensures { IfOk result (λ entries. map entry_tree entries.items ≡ entries_of read) }
+    ensures { IfOk result (λ entries. map entry_tree entries.items ≡ read_entries read) }
 {
     let ReadLines { lines, mut entries } = read;
     let mut all = as_entries(alloc, lines)?;

@@ -2,13 +2,9 @@ use Rattle.m51_asm.proofs.Common.{map, length, ap, sym, subst, ◌∙◌, arith,
 use Rattle.m51_asm.specs.Passing.{IsPlaced, IsPassed}
 use Rattle.m51_asm.proofs.AnAssignment.{fitting, fits}
 use Rattle.m51_asm.proofs.AnsweredLines.{if_ok}
-use Rattle.m51_asm.proofs.FewNames.{few_names}
 use Rattle.m51_asm.proofs.FirstFaults.{fault_answer}
 use Rattle.m51_asm.proofs.ReadLines.{line_at}
 use Rattle.m51_asm.proofs.assembling.answer_lines.Goals as goal
-
-pub place_lines-requires-clause-named : goal.place_lines-requires-clause-named
-place_lines-requires-clause-named c = few_names (map line_tree c.args.lines.now) c.requires.text
 
 pub bounds-lines-k : goal.bounds-lines-k
 bounds-lines-k c =

@@ -1,6 +1,5 @@
 use Rattle.m51_asm.proofs.Common.{◌≡◌, ◌<◌, map, length, ap, sym, subst, ◌∙◌, add-one, arith, length-map, line_tree}
-use Rattle.m51_asm.proofs.Common.{body_of, ArePlaces, IsPassedTo}
-use Rattle.m51_asm.specs.FewNames.{HasFewNames}
+use Rattle.m51_asm.proofs.Common.{ArePlaces, IsPassedTo}
 use Rattle.m51_asm.specs.Placing.{IsLineOutcome}
 use Rattle.m51_asm.proofs.ReadLines.{line_at}
 use Rattle.m51_asm.proofs.PassedLines.{reached, no_places, passed_more}
@@ -27,13 +26,6 @@ pub step-requires-clause-line : goal.step-requires-clause-line
 step-requires-clause-line c =
     let within : c.loop-k.k < length c.args.text.now.lines.now = omega arith in
     line_at c.args.text.now.lines.now c.loop-k.k c.index-lines-k.result within c.index-lines-k.is
-
-pub step-requires-clause-few : goal.step-requires-clause-few
-step-requires-clause-few c =
-    let within : c.loop-k.k < length c.args.text.now.lines.now = omega arith in
-    subst HasFewNames (ap body_of
-    (line_at c.args.text.now.lines.now c.loop-k.k c.index-lines-k.result within c.index-lines-k.is))
-    (c.requires.named c.loop-k.k)
 
 pub loop-k-preserved : goal.loop-k-preserved
 loop-k-preserved c = λ a f.

@@ -14,6 +14,6 @@ returns c = λ a f once at.
     (kept_meanings lines table s.values c.args.text.now.mod51 s.bank c.here_of-here.result)
     (names_are lines a f c.args.k s at table c.requires.names c.args.text.now.mod51 c.requires.predefined
     c.here_of-here.result here)
-    c.named_by-named.result c.named_by-named.ensures c.in_ok-told.told c.in_ok-told.ensures.here
-    c.in_ok-told.ensures.form
-    c.in_ok-told.ensures.size c.in_ok-told.ensures.next c.in_ok-told.ensures.operand
+    c.named_by-named.result c.named_by-named.ensures c.tell.result c.tell.ensures.here
+    c.tell.ensures.form
+    c.tell.ensures.size c.tell.ensures.next c.tell.ensures.operand

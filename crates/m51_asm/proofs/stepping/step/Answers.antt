@@ -13,11 +13,11 @@ returns-in-Some c = λ a f at.
     let lines = map line_tree c.args.text.now.lines.now in
     let k = c.args.k in
     let s = c.args.placing.now in
-    let t = c.in_ok-told.told in
+    let t = c.told_of-told.result in
     let n = c.count-counts.result in
     let body = body_tree c.args.line.now.stmt.body in
     let is : body ≡ body_at lines k = ap body_of (sym c.requires.line) in
-    let told : AreLineFacts lines a k t = c.in_ok-told.ensures a f c.requires.once at in
+    let told : AreLineFacts lines a k t = c.told_of-told.ensures a f c.requires.once at in
     let counts : IsCounted lines a k n =
     counted lines a k s t n body at told is c.count-counts.ensures.next c.count-counts.ensures.segments
     c.count-counts.ensures.externals in
@@ -26,17 +26,17 @@ returns-in-Some c = λ a f at.
 
 pub take_in-requires-clause-next : goal.take_in-requires-clause-next
 take_in-requires-clause-next c =
-    (small_counts (text_segment c.in_ok-told.told.next) c.count-counts.result _ _
+    (small_counts (text_segment c.told_of-told.result.next) c.count-counts.result _ _
     (sym c.evaluated_fault-fault.ensures ∙ c.in-None.is)).next
 
 pub take_in-requires-clause-segments : goal.take_in-requires-clause-segments
 take_in-requires-clause-segments c =
-    (small_counts (text_segment c.in_ok-told.told.next) c.count-counts.result _ _
+    (small_counts (text_segment c.told_of-told.result.next) c.count-counts.result _ _
     (sym c.evaluated_fault-fault.ensures ∙ c.in-None.is)).segments
 
 pub take_in-requires-clause-externals : goal.take_in-requires-clause-externals
 take_in-requires-clause-externals c =
-    (small_counts (text_segment c.in_ok-told.told.next) c.count-counts.result _ _
+    (small_counts (text_segment c.told_of-told.result.next) c.count-counts.result _ _
     (sym c.evaluated_fault-fault.ensures ∙ c.in-None.is)).externals
 
 pub take_in-requires-clause-declared : goal.take_in-requires-clause-declared
@@ -44,7 +44,7 @@ take_in-requires-clause-declared c =
     small_sum_is c.args.placing.now.externals (externals_in (body_tree c.args.line.now.stmt.body))
     c.count-counts.result.externals
     c.count-counts.ensures.externals
-    (small_counts (text_segment c.in_ok-told.told.next) c.count-counts.result _ _
+    (small_counts (text_segment c.told_of-told.result.next) c.count-counts.result _ _
     (sym c.evaluated_fault-fault.ensures ∙ c.in-None.is)).externals
 
 pub returns-in_ok-take_in-in-None : goal.returns-in_ok-take_in-in-None
@@ -52,11 +52,11 @@ returns-in_ok-take_in-in-None c = λ a f at.
     let lines = map line_tree c.args.text.now.lines.now in
     let k = c.args.k in
     let s = c.args.placing.now in
-    let t = c.in_ok-told.told in
+    let t = c.told_of-told.result in
     let n = c.count-counts.result in
     let body = body_tree c.args.line.now.stmt.body in
     let is : body ≡ body_at lines k = ap body_of (sym c.requires.line) in
-    let told : AreLineFacts lines a k t = c.in_ok-told.ensures a f c.requires.once at in
+    let told : AreLineFacts lines a k t = c.told_of-told.ensures a f c.requires.once at in
     let counts : IsCounted lines a k n =
     counted lines a k s t n body at told is c.count-counts.ensures.next c.count-counts.ensures.segments
     c.count-counts.ensures.externals in

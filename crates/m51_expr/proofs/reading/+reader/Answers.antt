@@ -2,40 +2,42 @@ use Rattle.std.proofs.Common.{◌≡◌, ◌<◌, ◌-◌, refl, sym, ap, ◌∙
 use Rattle.std.proofs.lemmas.Result.{err_from_is_err_and}
 use Rattle.m51_expr.specs.Ranks.{infix_of, infix_operator, prefix_of}
 use Rattle.m51_expr.specs.Tree.{tree_of, One, Two}
-use Rattle.m51_expr.specs.Reading.{line_of_symbols, or_no_expression, and_on, read, more, looser}
-use Rattle.m51_expr.proofs.Steps.{read_operand, read_prefix, read_plain, more_ends, more_goes, err_step, gives_same}
+use Rattle.m51_expr.specs.Reading.{line_of_symbols, or_no_expression, then_read, read, operators_after, looser}
+use Rattle.m51_expr.proofs.Steps.{read_operand, read_prefix, read_plain, operators_end, operators_go, err_step}
+use Rattle.m51_expr.proofs.Steps.{gives_same}
 use Rattle.m51_expr.proofs.Steps.{gives_read}
-use Rattle.m51_expr.proofs.Looser.{looser_from, looser_zero, looser_ends, looser_goes, more_from, plain_is}
+use Rattle.m51_expr.proofs.Looser.{looser_from, looser_zero, looser_ends, looser_goes, plain_is}
 use Rattle.m51_expr.proofs.reading.+reader.Goals as goal
 
-pub more-returns-in_default-clause-gives : goal.more-returns-in_default-clause-gives
-more-returns-in_default-clause-gives t c = λ n le. ap or_no_expression
-    (more_ends n (n - 1) (line_of_symbols c.args.symbols.now) c.args.rank (tree_of c.args.left) c.args.at
+pub operators_after-returns-in_default-clause-gives : goal.operators_after-returns-in_default-clause-gives
+operators_after-returns-in_default-clause-gives t c = λ n le. ap or_no_expression
+    (operators_end n (n - 1) (line_of_symbols c.args.symbols.now) c.args.rank (tree_of c.args.left) c.args.at
     (omega (arith, le))
     (ap (λ s. infix_of s c.args.rank) (sym c.symbol_at.ensures.symbol) ∙ sym c.infix_of.ensures.op ∙ c.in_default.is))
 
-pub more-returns-in_err-right-clause-gives : goal.more-returns-in_err-right-clause-gives
-more-returns-in_err-right-clause-gives t c = λ n le.
+pub operators_after-returns-in_err-right-clause-gives : goal.operators_after-returns-in_err-right-clause-gives
+operators_after-returns-in_err-right-clause-gives t c = λ n le.
     let inside = c.symbol_at.ensures.within (c.in-Some.ensures.some refl) in
     let p = err_from_is_err_and c.from_residual.result c.from_residual.ensures.1 in
     rw (p.1, p.2) (err_step c.in_err-right.field-0.0 _ _ _
     (c.in_err-right.ensures.gives (n - 1) (omega (arith, le, inside)))
-    (more_goes n (n - 1) (line_of_symbols c.args.symbols.now) c.args.rank (tree_of c.args.left) c.args.at c.in-Some.op
-    (omega (arith, le))
+    (operators_go n (n - 1) (line_of_symbols c.args.symbols.now) c.args.rank (tree_of c.args.left) c.args.at
+    c.in-Some.op (omega (arith, le))
     (ap (λ s. infix_of s c.args.rank) (sym c.symbol_at.ensures.symbol) ∙ sym c.infix_of.ensures.op ∙ c.in-Some.is)))
 
-pub more-returns-clause-gives : goal.more-returns-clause-gives
-more-returns-clause-gives t c = λ n le.
+pub operators_after-returns-clause-gives : goal.operators_after-returns-clause-gives
+operators_after-returns-clause-gives t c = λ n le.
     let line = line_of_symbols c.args.symbols.now in
     let inside = c.symbol_at.ensures.within (c.in-Some.ensures.some refl) in
-    gives_same c.more.result _ _
-    (c.more.ensures.gives (n - 1) (omega (arith, le, inside, c.in_ok-right.ensures.within.0)))
-    (more_goes n (n - 1) line c.args.rank (tree_of c.args.left) c.args.at c.in-Some.op (omega (arith, le))
+    gives_same c.operators_after.result _ _
+    (c.operators_after.ensures.gives (n - 1) (omega (arith, le, inside, c.in_ok-right.ensures.within.0)))
+    (operators_go n (n - 1) line c.args.rank (tree_of c.args.left) c.args.at c.in-Some.op (omega (arith, le))
     (ap (λ s. infix_of s c.args.rank) (sym c.symbol_at.ensures.symbol) ∙ sym c.infix_of.ensures.op ∙ c.in-Some.is)
-    ∙ ap (λ r. and_on r (λ right next. more (n - 1) line c.args.rank (Two c.in-Some.op (tree_of c.args.left) right)
+    ∙ ap (λ r. then_read r
+    (λ right next. operators_after (n - 1) line c.args.rank (Two c.in-Some.op (tree_of c.args.left) right)
     next)) (gives_read c.in_ok-right.right c.in_ok-right.next _
     (c.in_ok-right.ensures.gives (n - 1) (omega (arith, le, inside))))
-    ∙ ap (λ e. more (n - 1) line c.args.rank e c.in_ok-right.next) (sym c.in_ok-both.ensures))
+    ∙ ap (λ e. operators_after (n - 1) line c.args.rank e c.in_ok-right.next) (sym c.in_ok-both.ensures))
 
 pub read-returns-then-rank-eq-OPERAND-clause-gives : goal.read-returns-then-rank-eq-OPERAND-clause-gives
 read-returns-then-rank-eq-OPERAND-clause-gives t c = λ n le.
@@ -62,7 +64,7 @@ read-returns-in_ok-one-in-Some-clause-gives t c = λ n le.
     (omega (arith, le, c.requires.rank)) (omega (arith, c.requires.rank, c.if-rank-eq-OPERAND.false))
     (ap (λ s. prefix_of s c.args.rank) (sym c.symbol_at-symbol.ensures.symbol) ∙ sym c.prefix_of.ensures.op
     ∙ c.in-Some.is)
-    ∙ ap (λ r. and_on r (λ e next. Some (One c.in-Some.op e, next)))
+    ∙ ap (λ r. then_read r (λ e next. Some (One c.in-Some.op e, next)))
     (gives_read c.in_ok-inner-in-Some.inner c.in_ok-inner-in-Some.next _
     (c.in_ok-inner-in-Some.ensures.gives (n - 1) (omega (arith, le, inside))))
     ∙ ap (λ e. Some (e, c.in_ok-inner-in-Some.next)) (sym c.in_ok-one-in-Some.ensures))
@@ -82,13 +84,13 @@ pub read-returns-in_ok-left-in-None-clause-gives : goal.read-returns-in_ok-left-
 read-returns-in_ok-left-in-None-clause-gives t c = λ n le.
     let line = line_of_symbols c.args.symbols.now in
     let low : c.args.rank < 8 = omega (arith, c.requires.rank, c.if-rank-eq-OPERAND.false) in
-    gives_same c.more.result _ _
-    (c.more.ensures.gives (n - 1)
+    gives_same c.operators_after.result _ _
+    (c.operators_after.ensures.gives (n - 1)
     (omega (arith, le, low, c.in_ok-left-in-None.ensures.within.0, c.in_ok-left-in-None.ensures.within.1)))
     (read_plain n (n - 1) line c.args.rank c.args.at (omega (arith, le, low)) low
     (ap (λ s. prefix_of s c.args.rank) (sym c.symbol_at-symbol.ensures.symbol) ∙ sym c.prefix_of.ensures.op
     ∙ c.in-None.is)
-    ∙ ap (λ r. and_on r (λ left next. more (n - 1) line c.args.rank left next))
+    ∙ ap (λ r. then_read r (λ left next. operators_after (n - 1) line c.args.rank left next))
     (gives_read c.in_ok-left-in-None.left c.in_ok-left-in-None.next _
     (c.in_ok-left-in-None.ensures.gives (n - 1) (omega (arith, le, low)))))
 
@@ -109,7 +111,7 @@ plain-returns-clause-gives t c = λ n le.
     gives_same c.looser.result _ _ (c.looser.ensures.gives n (omega (arith, le, c.in_ok-left.ensures.within.0)))
     (plain_is k n line c.args.rank c.args.at (omega (arith, c.requires.rank)) c.requires.plain
     (omega (arith, le, c.requires.rank))
-    ∙ ap (λ r. and_on r (looser_from k n line c.args.rank))
+    ∙ ap (λ r. then_read r (looser_from k n line c.args.rank))
     (gives_read c.in_ok-left.left c.in_ok-left.next _
     (c.in_ok-left.ensures.gives (n - k - 1) (omega (arith, le, c.requires.rank)))))
 
@@ -125,7 +127,7 @@ looser-returns-in_err-inner-clause-gives t c = λ n le.
     let line = line_of_symbols c.args.symbols.now in
     let low : c.args.rank < 8 = omega (arith, c.requires.rank, c.if-rank-eq-OPERAND.false) in
     let p = err_from_is_err_and c.from_residual.result c.from_residual.ensures.1 in
-    rw (p.1, p.2) (err_step c.in_err-inner.field-0.0 _ _ (more_from (n - 1) line c.args.rank)
+    rw (p.1, p.2) (err_step c.in_err-inner.field-0.0 _ _ (operators_after (n - 1) line c.args.rank)
     (c.in_err-inner.ensures.gives (n - 1) (omega (arith, le, low)))
     (looser_goes n line c.args.rank (tree_of c.args.left) c.args.at low))
 
@@ -133,9 +135,10 @@ pub looser-returns-clause-gives : goal.looser-returns-clause-gives
 looser-returns-clause-gives t c = λ n le.
     let line = line_of_symbols c.args.symbols.now in
     let low : c.args.rank < 8 = omega (arith, c.requires.rank, c.if-rank-eq-OPERAND.false) in
-    gives_same c.more.result _ _ (c.more.ensures.gives (n - 1) (omega (arith, le, low, c.in_ok-inner.ensures.within.0)))
+    gives_same c.operators_after.result _ _
+    (c.operators_after.ensures.gives (n - 1) (omega (arith, le, low, c.in_ok-inner.ensures.within.0)))
     (looser_goes n line c.args.rank (tree_of c.args.left) c.args.at low
-    ∙ ap (λ r. and_on r (more_from (n - 1) line c.args.rank))
+    ∙ ap (λ r. then_read r (operators_after (n - 1) line c.args.rank))
     (gives_read c.in_ok-inner.inner c.in_ok-inner.next _
     (c.in_ok-inner.ensures.gives (n - 1) (omega (arith, le, low)))))
 

@@ -2,8 +2,8 @@ use Rattle.std.proofs.Common.{◌+◌, ◌-◌, ◌*◌, length}
 use Rattle.m51_expr.specs.Reading.{enough}
 use Rattle.m51_expr.proofs.reading.+reader.Given as goal
 
-abbrev pub decreases-more : goal.decreases-more
-decreases-more l = 2 * enough (length l.symbols.now - l.at) 8
+abbrev pub decreases-operators_after : goal.decreases-operators_after
+decreases-operators_after l = 2 * enough (length l.symbols.now - l.at) 8
 
 abbrev pub decreases-operand : goal.decreases-operand
 decreases-operand l = 2 * enough (length l.symbols.now - l.at) 9

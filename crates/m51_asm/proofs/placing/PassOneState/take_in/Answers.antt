@@ -1,5 +1,6 @@
-use Rattle.m51_asm.proofs.Common.{rules, ◌≡◌, ap, map, refl, ◌∙◌, line_tree, Giving, definitions_in, brief, value_in}
+use Rattle.m51_asm.proofs.Common.{◌≡◌, ap, map, refl, ◌∙◌, line_tree, Giving, definitions_in, brief, value_in}
 use Rattle.m51_asm.proofs.Common.{given_or}
+use Rattle.std.proofs.Common.{rules}
 use Rattle.m51_stmt.specs.Statement.{stmt_tree}
 use Rattle.m51_asm.proofs.GivenValues.{have_numbers}
 use Rattle.m51_asm.proofs.GoodLines.{free}

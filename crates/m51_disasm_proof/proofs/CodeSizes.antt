@@ -1,16 +1,16 @@
 -- The assembler gives a disassembled instruction the length of its row.
-use Rattle.m51_disasm_proof.proofs.Common.{◌≡◌, Some, option_map, refl, ap, ◌∙◌, Instr, Nop, Jump, text_of, look_of}
-use Rattle.m51_disasm_proof.proofs.Common.{Meanings, SourceLine, Target, Content, length_in, operands_of, body_of}
-use Rattle.m51_disasm_proof.proofs.Common.{meant, line_size, AreSlots, IsContent, IsSound}
+use Rattle.m51_disasm_proof.proofs.Common.{◌∙◌, ◌≡◌, AreSlots, Content, Instr, IsContent, IsSound, Jump, Meanings, Nop}
+use Rattle.m51_disasm_proof.proofs.Common.{Some, SourceLine, Target, ap, body_of, length_in, line_size, look_of, meant}
+use Rattle.m51_disasm_proof.proofs.Common.{operands_of, option_map, refl, text_of}
 use Rattle.std.specs.Prelude.{unwrap_or}
+use Rattle.m51_isa.proofs.RowsFilled.{rows_are_apart}
 use Rattle.m51_isa.specs.Arithmetic.{arithmetic}
-use Rattle.m51_isa.specs.Logic.{logic}
-use Rattle.m51_isa.specs.Moves.{moves}
 use Rattle.m51_isa.specs.Branches.{branches}
 use Rattle.m51_isa.specs.Jumps.{jumps}
-use Rattle.m51_isa.specs.Search.{search, row_or, row_for}
+use Rattle.m51_isa.specs.Logic.{logic}
+use Rattle.m51_isa.specs.Moves.{moves}
+use Rattle.m51_isa.specs.Search.{row_for, row_or, search}
 use Rattle.m51_isa.specs.Table.{length_of as row_length}
-use Rattle.m51_isa.proofs.RowsFilled.{rows_are_apart}
 use Rattle.m51_encode.specs.Coding.{length_of}
 use Rattle.m51_asm.specs.Fitting.{size_by}
 use Rattle.m51_disasm.specs.declared.line.SourceLine.TheVariants as line

@@ -1,20 +1,23 @@
 -- The cut of a line of words, with blanks between them or none.
-use Rattle.m51_disasm_proof.proofs.Common.{◌≡◌, ℕ, ◌+◌, ◌-◌, ◌<◌, ◌&&◌, true, List, [], ◌∷◌, ◌++◌, length}
-use Rattle.m51_disasm_proof.proofs.Common.{length-append, map, Some, Ok, refl, ap, ◌∙◌, append_assoc, arith, subst}
-use Rattle.m51_disasm_proof.proofs.Common.{list_all, Word, symbol, is_character}
+use Rattle.m51_disasm_proof.proofs.Common.{◌&&◌, ◌++◌, ◌+◌, ◌-◌, ◌<◌, ◌∙◌, ◌∷◌, ◌≡◌, List, Ok, Some, Word, [], ap}
+use Rattle.m51_disasm_proof.proofs.Common.{append_assoc, arith, is_character, length, length-append, list_all, map}
+use Rattle.m51_disasm_proof.proofs.Common.{refl, sym, symbol, true, ℕ}
 use Rattle.std.proofs.Common.{drop}
 use Rattle.std.proofs.Math.Seq.{drop-append_seam}
 use Rattle.std.proofs.lemmas.List.Folds.{list_all-append}
-use Rattle.m51_lex.specs.declared.token.Token.{Token}
+use Rattle.m51_isa.specs.Spelling.{text}
+use Rattle.m51_lex.proofs.Cuts.{from_front}
 use Rattle.m51_lex.specs.Characters.{space}
 use Rattle.m51_lex.specs.Lexeme.{lexeme_of}
 use Rattle.m51_lex.specs.Tokens.{Cut, after_lexeme, put_front, tokens_at}
-use Rattle.m51_lex.proofs.Cuts.{from_front}
+use Rattle.m51_lex.specs.declared.token.Token.{Token}
 use Rattle.m51_expr.specs.Symbol.{symbol_of}
+use Rattle.m51_expr.specs.declared.symbol.Symbol.{Symbol}
+use Rattle.m51_stmt.proofs.LineCuts.{are_symbols, one_blank, token_at, word_within}
 use Rattle.m51_stmt.specs.Answer.{and_then, or_fault}
+use Rattle.m51_stmt.specs.Lines.{read, statement, statement_fault, token_line}
 use Rattle.m51_stmt.specs.Statement.{StmtTree}
-use Rattle.m51_stmt.specs.Lines.{statement, statement_fault, read, token_line}
-use Rattle.m51_stmt.proofs.LineCuts.{token_at, AreWords, are_symbols, one_blank, word_within}
+use Rattle.m51_text.specs.Faults.{before}
 
 -- the word is cut as a token of its own before these bytes
 pub record Stands (w : Word) (rest : List ℕ) : Type 0 where
@@ -23,31 +26,30 @@ pub record Stands (w : Word) (rest : List ℕ) : Type 0 where
       → after_lexeme at (lexeme_of (w.text ++ rest)) go ≡ put_front (token_at at w ∷ []) (go (length w.text - 1))
   pub characters : list_all is_character w.text ≡ true
 
--- the line is cut into these words
-pub record IsCutInto (line : List ℕ) (ws : List Word) : Type 0 where
+-- the line is cut into words of these symbols
+pub record IsCutInto (line : List ℕ) (symbols : List Symbol) : Type 0 where
   pub tokens : ℕ → List Token
   pub cut : (at : ℕ) → tokens_at 0 at line ≡ Ok (tokens at)
-  pub words : (before : List ℕ) → AreWords (before ++ line) (tokens (length before)) ws
+  pub words : (before : List ℕ) → map (symbol_of (before ++ line)) (tokens (length before)) ≡ symbols
   pub characters : list_all is_character line ≡ true
 
 -- an empty line
 pub no_words : IsCutInto [] []
-no_words = record { tokens = λ at. []; cut = λ at. refl; words = λ before. tt; characters = refl }
+no_words = record { tokens = λ at. []; cut = λ at. refl; words = λ before. refl; characters = refl }
 
-moved : (line : List ℕ) (more : List Token) (ws : List Word) (other : List ℕ) → other ≡ line → AreWords other more ws
-    → AreWords line more ws
-moved line more ws other e h = subst (λ l. AreWords l more ws) e h
+later : (text rest before : List ℕ) (symbols : List Symbol) (c : IsCutInto rest symbols)
+    → map (symbol_of (before ++ (text ++ rest))) (c.tokens (length before + length text)) ≡ symbols
+later text rest before symbols c =
+    let line = sym (append_assoc before text rest) in
+    let at = sym (length-append before text) in
+    (λ i. map (symbol_of (line i)) (c.tokens (at i))) ∙ c.words (before ++ text)
 
 -- a blank before a line
-pub after_blank : (rest : List ℕ) (ws : List Word) → IsCutInto rest ws → IsCutInto (space ∷ rest) ws
-after_blank rest ws c = record {
+pub after_blank : (rest : List ℕ) (symbols : List Symbol) → IsCutInto rest symbols → IsCutInto (space ∷ rest) symbols
+after_blank rest symbols c = record {
   tokens = λ at. c.tokens (at + 1);
   cut = λ at. one_blank at rest ∙ c.cut (at + 1);
-  words = λ before.
-      let next : length (before ++ space ∷ []) ≡ length before + 1 = length-append before (space ∷ []) in
-      moved (before ++ space ∷ rest) (c.tokens (length before + 1)) ws ((before ++ space ∷ []) ++ rest)
-      (append_assoc before (space ∷ []) rest)
-      (subst (λ n. AreWords ((before ++ space ∷ []) ++ rest) (c.tokens n) ws) next (c.words (before ++ space ∷ [])));
+  words = λ before. later (space ∷ []) rest before symbols c;
   characters = c.characters;
 }
 
@@ -65,26 +67,22 @@ one_token w rest at is =
     ∙ ap (λ r. tokens_at 0 (at + n) r) (drop-append_seam w.text rest))
 
 -- a word before a line
-pub after_word : (w : Word) (rest : List ℕ) (ws : List Word) → Stands w rest → IsCutInto rest ws
-    → IsCutInto (w.text ++ rest) (w ∷ ws)
-after_word w rest ws is c = record {
+pub after_word : (w : Word) (rest : List ℕ) (symbols : List Symbol) → Stands w rest → IsCutInto rest symbols
+    → IsCutInto (w.text ++ rest) (symbol w ∷ symbols)
+after_word w rest symbols is c = record {
   tokens = λ at. token_at at w ∷ c.tokens (at + length w.text);
   cut = λ at. one_token w rest at is ∙ ap (put_front (token_at at w ∷ [])) (c.cut (at + length w.text));
   words = λ before.
-      let next : length (before ++ w.text) ≡ length before + length w.text = length-append before w.text in (
-        refl,
-        word_within before w.text rest,
-        moved (before ++ (w.text ++ rest)) (c.tokens (length before + length w.text)) ws ((before ++ w.text) ++ rest)
-            (append_assoc before w.text rest)
-            (subst (λ n. AreWords ((before ++ w.text) ++ rest) (c.tokens n) ws) next (c.words (before ++ w.text))),
-      );
+      ap (λ l. l ++ map (symbol_of (before ++ (w.text ++ rest))) (c.tokens (length before + length w.text)))
+      (are_symbols (before ++ (w.text ++ rest)) (token_at (length before) w ∷ []) (w ∷ [])
+      (refl, word_within before w.text rest, tt))
+      ∙ ap (λ l. symbol w ∷ l) (later w.text rest before symbols c);
   characters = list_all-append is_character w.text rest ∙ (λ i. is.characters i && c.characters i);
 }
 
 -- a line of these words says what their symbols do
-pub words_read : (line : List ℕ) (ws : List Word) (s : StmtTree) → IsCutInto line ws
-    → statement (map symbol ws) ≡ Some s → token_line line ≡ Ok s
-words_read line ws s c reads =
+pub words_read : (line : List ℕ) (symbols : List Symbol) (s : StmtTree) → IsCutInto line symbols
+    → statement symbols ≡ Some s → token_line line ≡ Ok s
+words_read line symbols s c reads =
     ap (λ r. and_then r (λ tokens. read (map (symbol_of line) tokens))) (c.cut 0)
-    ∙ ap read (are_symbols line (c.tokens 0) ws (c.words []))
-    ∙ ap (or_fault (statement_fault (map symbol ws))) reads
+    ∙ ap read (c.words []) ∙ ap (or_fault (statement_fault symbols)) reads

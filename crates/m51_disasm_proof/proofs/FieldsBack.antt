@@ -1,24 +1,25 @@
 -- The fields of a disassembled instruction take the numbers that they were decoded with.
-use Rattle.m51_disasm_proof.proofs.Common.{◌≡◌, ℕ, ◌+◌, ◌/◌, ◌%◌, ◌<◌, ◌≤◌, nat_lt, nat_le, Bool, true, false, not}
-use Rattle.m51_disasm_proof.proofs.Common.{◌&&◌, ◌||◌, cond, Some, None, refl, sym, ap, ◌∙◌, arith, eq-eqb, ltb-true}
-use Rattle.m51_disasm_proof.proofs.Common.{and_parts, Field, Meanings, Number, StandsAt, code_value}
+use Rattle.m51_disasm_proof.proofs.Common.{◌%◌, ◌&&◌, ◌+◌, ◌/◌, ◌<◌, ◌||◌, ◌∙◌, ◌≡◌, ◌≤◌, Bool, Field, Meanings, None}
+use Rattle.m51_disasm_proof.proofs.Common.{Number, Some, StandsAt, and_parts, ap, arith, code_value, cond, eq-eqb}
+use Rattle.m51_disasm_proof.proofs.Common.{false, ltb-true, nat_le, nat_lt, not, refl, sym, true, ℕ}
 use Rattle.std.proofs.Math.Bool.{and-false, or-true}
+use Rattle.std.proofs.lemmas.Bool.{le-leb, leb-true, ltb-false}
 use Rattle.std.proofs.lemmas.Option.{same_Some}
-use Rattle.std.proofs.lemmas.Bool.{ltb-false, le-leb, leb-true}
 use Rattle.m51_cells.specs.declared.kind.Base.TheVariants as base
 use Rattle.m51_cells.specs.declared.kind.Kind.TheVariants as kind
-use Rattle.m51_isa.specs.declared.slot.Field.TheVariants as field
-use Rattle.m51_isa.specs.Targets.{relative, near}
+use Rattle.m51_isa.specs.Targets.{near, relative}
 use Rattle.m51_isa.specs.TextLaws.{kept}
-use Rattle.m51_expr.specs.declared.value.Value.{Value}
-use Rattle.m51_expr.specs.Value.{plain}
+use Rattle.m51_isa.specs.declared.slot.Field.TheVariants as field
 use Rattle.m51_expr.specs.Meanings.{is_absolute_base}
+use Rattle.m51_expr.specs.Value.{plain}
+use Rattle.m51_expr.specs.declared.value.Value.{Value}
+use Rattle.m51_encode.specs.Bases.{is_current, is_linked, is_numbered, same_segment, stands_absolute}
+use Rattle.m51_encode.specs.FieldValues.{addr11_of, distance, field_of, is_near, rel_of}
+use Rattle.m51_encode.specs.Reference.{reference_of}
 use Rattle.m51_encode.specs.declared.reference.FieldValue.{FieldValue}
 use Rattle.m51_encode.specs.declared.reference.FieldValue.TheVariants.{Linked}
-use Rattle.m51_encode.specs.Bases.{is_current, is_linked, is_numbered, stands_absolute, same_segment}
-use Rattle.m51_encode.specs.FieldValues.{distance, is_near, rel_of, addr11_of, field_of}
-use Rattle.m51_encode.specs.Reference.{reference_of}
-use Rattle.m51_disasm.specs.Statements.{ends_inside, leads_inside, address_by}
+use Rattle.m51_disasm.specs.Statements.{address_by, ends_inside, leads_inside}
+use Rattle.m51_disasm_proof.proofs.LinesStand.{next}
 
 -- ---- numbers
 
@@ -65,10 +66,10 @@ block_back next address low small =
 
 -- ---- values that count as an address
 
--- a value that counts as an address of the segment of the statement: in that segment, or as a number
-pub data IsAddressOf (segment address : ℕ) (v : Value) : Type 0 where
-  Own : v ≡ code_value segment address → IsAddressOf segment address v
-  Bare : v ≡ plain address kind.Number → IsAddressOf segment address v
+-- an address of the segment of the statement, as a value in that segment or as a number
+abbrev pub as_value : Bool → ℕ → ℕ → Value
+as_value true segment address = code_value segment address
+as_value false segment address = plain address kind.Number
 
 module _ (names : Meanings) (segment at : ℕ) (s : StandsAt names segment at) where
   current : is_current names (base.Segment segment) ≡ true
@@ -82,87 +83,61 @@ module _ (names : Meanings) (segment at : ℕ) (s : StandsAt names segment at) w
       (λ i. not (s.absolute i) || (is_numbered (base.Segment segment) && not (current i)))
       ∙ and-false (is_numbered (base.Segment segment))
 
-  -- what an address in the segment gives in a field
-  own_rel : (next address : ℕ) → field_of names field.Rel next (code_value segment address) ≡ rel_of next address
+  -- what an address gives in a field
+  rel_given : (own : Bool) (next address : ℕ)
+      → field_of names field.Rel next (as_value own segment address) ≡ rel_of next address
   unfolding field_of
-  own_rel next address =
+  rel_given true next address =
       let v : Value = code_value segment address in
       let linked : FieldValue = Linked (reference_of field.Rel v) in
       (λ i. cond (not (s.absolute i) || true)
       (cond (current i) (rel_of next address)
       (cond (is_linked names v.base) (Some linked) (cond (stands_absolute names) (rel_of next address) None))) None)
+  rel_given false next address = ap (λ (b : Bool). cond b (rel_of next address) None) absolute
 
-  own_block : (next address : ℕ) → field_of names field.Addr11 next (code_value segment address)
-      ≡ addr11_of next address
+  block_given : (own : Bool) (next address : ℕ)
+      → field_of names field.Addr11 next (as_value own segment address) ≡ addr11_of next address
   unfolding field_of
-  own_block next address =
-      let v : Value = code_value segment address in
-      let linked : FieldValue = Linked (reference_of field.Addr11 v) in
+  block_given true next address =
+      let linked : FieldValue = Linked (reference_of field.Addr11 (code_value segment address)) in
       (λ i. cond (not (s.absolute i) || true)
       (cond (own_is_bare i) (Some linked) (cond (absolute i) (addr11_of next address) None)) None)
+  block_given false next address = ap (λ (b : Bool). cond b (addr11_of next address) None) absolute
 
-  own_word : (next address : ℕ) → field_of names field.Addr16 next (code_value segment address) ≡ Some (Number address)
+  word_given : (own : Bool) (next address : ℕ)
+      → field_of names field.Addr16 next (as_value own segment address) ≡ Some (Number address)
   unfolding field_of
-  own_word next address =
-      let v : Value = code_value segment address in
-      let linked : FieldValue = Linked (reference_of field.Addr16 v) in
+  word_given true next address =
+      let linked : FieldValue = Linked (reference_of field.Addr16 (code_value segment address)) in
       (λ i. cond (not (s.absolute i) || true) (Some (cond (own_is_bare i) linked (Number address))) None)
-
-  -- what a number gives
-  bare_rel : (next address : ℕ) → field_of names field.Rel next (plain address kind.Number) ≡ rel_of next address
-  unfolding field_of
-  bare_rel next address = ap (λ (b : Bool). cond b (rel_of next address) None) absolute
-
-  bare_block : (next address : ℕ) → field_of names field.Addr11 next (plain address kind.Number)
-      ≡ addr11_of next address
-  unfolding field_of
-  bare_block next address = ap (λ (b : Bool). cond b (addr11_of next address) None) absolute
-
-  bare_word : (next address : ℕ) → field_of names field.Addr16 next (plain address kind.Number) ≡ Some (Number address)
-  unfolding field_of
-  bare_word next address = refl
-
-  rel_given : (next address : ℕ) (v : Value) → IsAddressOf segment address v
-      → field_of names field.Rel next v ≡ rel_of next address
-  rel_given next address v (Own e) = ap (field_of names field.Rel next) e ∙ own_rel next address
-  rel_given next address v (Bare e) = ap (field_of names field.Rel next) e ∙ bare_rel next address
-
-  block_given : (next address : ℕ) (v : Value) → IsAddressOf segment address v
-      → field_of names field.Addr11 next v ≡ addr11_of next address
-  block_given next address v (Own e) = ap (field_of names field.Addr11 next) e ∙ own_block next address
-  block_given next address v (Bare e) = ap (field_of names field.Addr11 next) e ∙ bare_block next address
-
-  word_given : (next address : ℕ) (v : Value) → IsAddressOf segment address v
-      → field_of names field.Addr16 next v ≡ Some (Number address)
-  word_given next address v (Own e) = ap (field_of names field.Addr16 next) e ∙ own_word next address
-  word_given next address v (Bare e) = ap (field_of names field.Addr16 next) e ∙ bare_word next address
+  word_given false next address = refl
 
   -- a field that leads to an address takes the number that it was decoded with
-  pub address_back : (at : Field) (next number address : ℕ) (v : Value) → kept at number ≡ number
+  pub address_back : (own : Bool) (at : Field) (next number address : ℕ) → kept at number ≡ number
       → leads_inside next at number ≡ true
-      → address_by next at number ≡ Some address → IsAddressOf segment address v
-      → field_of names at (next % 65536) v ≡ Some (Number number)
+      → address_by next at number ≡ Some address
+      → field_of names at (next % 65536) (as_value own segment address) ≡ Some (Number number)
   unfolding leads_inside address_by
-  address_back field.Rel next number address v holds inside leads is =
+  address_back own field.Rel next number address holds inside leads =
       let p = and_parts (nat_lt next 0x10000) (ends_inside next number) inside in
       let low : next < 65536 = ltb-true next 65536 p.0 in
       let same : next % 65536 ≡ next = omega (arith, low) in
       let small : number < 256 = omega (arith, holds) in
       let to : relative next number ≡ address = same_Some _ address leads in
-      ap (λ n. field_of names field.Rel n v) same
-      ∙ rel_given next address v is
+      ap (λ n. field_of names field.Rel n (as_value own segment address)) same
+      ∙ rel_given own next address
       ∙ ap (rel_of next) (sym to) ∙ rel_back next number low small p.1
-  address_back field.Addr11 next number address v holds inside leads is =
+  address_back own field.Addr11 next number address holds inside leads =
       let low : next < 65536 = ltb-true next 65536 inside in
       let same : next % 65536 ≡ next = omega (arith, low) in
       let small : number < 2048 = omega (arith, holds) in
       let to : near next number % 65536 ≡ address = same_Some _ address leads in
-      ap (λ n. field_of names field.Addr11 n v) same
-      ∙ block_given next address v is
+      ap (λ n. field_of names field.Addr11 n (as_value own segment address)) same
+      ∙ block_given own next address
       ∙ ap (addr11_of next) (sym to) ∙ block_back next number low small
-  address_back field.Addr16 next number address v holds inside leads is =
-      word_given (next % 65536) address v is ∙ ap (λ n. Some (Number n)) (sym (same_Some number address leads))
-  address_back at next number address v holds inside leads is = absurd (cc leads)
+  address_back own field.Addr16 next number address holds inside leads =
+      word_given own (next % 65536) address ∙ ap (λ n. Some (Number n)) (sym (same_Some number address leads))
+  address_back own at next number address holds inside leads = absurd (cc leads)
 
 -- ---- numbers that a field holds as they are
 

@@ -1,10 +1,10 @@
 -- Labels of two addresses are two names.
-use Rattle.m51_disasm_proof.proofs.Common.{◌≡◌, ◌≢◌, ℕ, ◌+◌, ◌-◌, ◌*◌, ◌/◌, ◌%◌, ◌<◌, ◌≤◌, nat_lt, Bool, true, false}
-use Rattle.m51_disasm_proof.proofs.Common.{cond, List, get_or, refl, sym, ap, ◌∙◌, arith, digit_glyph, ltb-true}
-use Rattle.m51_disasm_proof.proofs.Common.{label_text}
-use Rattle.std.specs.Str.{bytes_eq}
-use Rattle.std.proofs.lemmas.Bool.{ltb-false, lt-ltb, le-ltb}
+use Rattle.m51_disasm_proof.proofs.Common.{◌%◌, ◌*◌, ◌+◌, ◌-◌, ◌/◌, ◌<◌, ◌∙◌, ◌≡◌, ◌≢◌, ◌≤◌, Bool, List, ap, arith}
+use Rattle.m51_disasm_proof.proofs.Common.{cond, digit_glyph, false, get_or, label_text, ltb-true, nat_lt, refl, sym}
+use Rattle.m51_disasm_proof.proofs.Common.{true, ℕ}
+use Rattle.std.proofs.lemmas.Bool.{le-ltb, lt-ltb, ltb-false}
 use Rattle.std.proofs.lemmas.Slice.Eq.{bytes_eq-Decides}
+use Rattle.std.specs.Str.{bytes_eq}
 
 -- the number of a digit
 abbrev number_of : ℕ → ℕ

@@ -1,17 +1,16 @@
 -- The labels of a disassembly are names that a statement may define.
-use Rattle.m51_disasm_proof.proofs.Common.{◌≡◌, ◌≢◌, ℕ, ◌/◌, ◌%◌, ◌<◌, ◌&&◌, cond, Bool, true, false, List, [], ◌∷◌}
-use Rattle.m51_disasm_proof.proofs.Common.{length, Some, None, refl, ap, ◌∙◌, arith, codes, digit_glyph, common_steps}
-use Rattle.m51_disasm_proof.proofs.Common.{name_of, label_text}
+use Rattle.m51_disasm_proof.proofs.Common.{◌%◌, ◌&&◌, ◌/◌, ◌<◌, ◌∙◌, ◌∷◌, ◌≡◌, ◌≢◌, Bool, List, None, Some, [], ap}
+use Rattle.m51_disasm_proof.proofs.Common.{arith, codes, common_steps, cond, digit_glyph, false, label_text, length}
+use Rattle.m51_disasm_proof.proofs.Common.{name_of, refl, true, ℕ}
 use Rattle.std.proofs.Common.{nat_eq}
+use Rattle.std.proofs.lemmas.Slice.Eq.{bytes_eq-Decides}
 use Rattle.std.specs.Char.{to_ascii_uppercase}
 use Rattle.std.specs.Str.{bytes_eq}
-use Rattle.std.proofs.lemmas.Slice.Eq.{bytes_eq-Decides}
 use Rattle.m51_cells.specs.Name as cells
-use Rattle.m51_expr.specs.declared.symbol.Symbol.TheVariants as symbols
-use Rattle.m51_expr.specs.Symbol.{operator_of, prefix_word, relation_word, arithmetic_word, word_symbol}
-use Rattle.m51_expr.specs.Symbol.{operator_or_word}
+use Rattle.m51_expr.specs.Symbol.{arithmetic_word, operator_of, operator_or_word, prefix_word, relation_word}
+use Rattle.m51_expr.specs.Symbol.{word_symbol}
 use Rattle.m51_expr.specs.Words.{is_language_word, is_reserved}
-use Rattle.m51_stmt.proofs.PrintedTrees.{IsLeafName}
+use Rattle.m51_expr.specs.declared.symbol.Symbol.TheVariants as symbols
 use Rattle.m51_stmt.proofs.PrintedExterns.{IsFree}
 
 -- a hexadecimal digit in upper case
@@ -50,69 +49,30 @@ module _ (p q r s : ℕ) (a : IsGlyph p) (b : IsGlyph q) (c : IsGlyph r) (d : Is
   no_lcall : bytes_eq (codes "LCALL") label ≡ false
   no_lcall = fourth_differs (nat_eq 0x43 p) (nat_eq 0x41 q) (nat_eq 0x4C r) (nat_eq 0x4C s && true) c.letter
 
-  no_ljmp : bytes_eq (codes "LJMP") label ≡ false
-  no_ljmp = other_length (codes "LJMP") label (omega arith)
-
-  no_low : bytes_eq (codes "LOW") label ≡ false
-  no_low = other_length (codes "LOW") label (omega arith)
-
-  no_lt : bytes_eq (codes "LT") label ≡ false
-  no_lt = other_length (codes "LT") label (omega arith)
-
-  no_le : bytes_eq (codes "LE") label ≡ false
-  no_le = other_length (codes "LE") label (omega arith)
-
-  no_low_before : bytes_eq label (codes "LOW") ≡ false
-  no_low_before = other_length label (codes "LOW") (omega arith)
-
-  no_lt_before : bytes_eq label (codes "LT") ≡ false
-  no_lt_before = other_length label (codes "LT") (omega arith)
-
-  no_le_before : bytes_eq label (codes "LE") ≡ false
-  no_le_before = other_length label (codes "LE") (omega arith)
-
   no_word : is_language_word label ≡ false
   unfolding is_language_word
-  no_word = rw no_lcall (rw no_ljmp refl)
+  no_word = rw no_lcall (rw (other_length (codes "LJMP") label (omega arith)) refl)
 
   no_operator : operator_of label ≡ None
   unfolding operator_of prefix_word relation_word arithmetic_word
-  no_operator = rw no_low_before (rw no_lt_before (rw no_le_before refl))
+  no_operator =
+      rw (other_length label (codes "LOW") (omega arith))
+      (rw (other_length label (codes "LT") (omega arith)) (rw (other_length label (codes "LE") (omega arith)) refl))
 
   free : is_reserved label ≡ false
   unfolding is_reserved
-  free = rw no_word (rw no_low (rw no_lt (rw no_le refl)))
+  free =
+      rw no_word (rw (other_length (codes "LOW") label (omega arith))
+      (rw (other_length (codes "LT") label (omega arith)) (rw (other_length (codes "LE") label (omega arith)) refl)))
 
   leaf : word_symbol label ≡ symbols.Name label
   leaf = ap (operator_or_word label) no_operator ∙ ap (λ b. cond b (symbols.Word label) (symbols.Name label)) no_word
 
-  leaf_name : IsLeafName label
-  leaf_name = record { written = written; leaf = leaf }
-
   free_name : IsFree label
-  free_name = record { leaf = leaf_name; free = free }
+  free_name = record { leaf = record { written = written; leaf = leaf }; free = free }
 
-module _ (address : ℕ) (h : address < 65536) where
-  first : IsGlyph (digit_glyph true (address / 256 / 16))
-  first = glyph (address / 256 / 16) (omega (arith, h))
-
-  second : IsGlyph (digit_glyph true (address / 256 % 16))
-  second = glyph (address / 256 % 16) (omega arith)
-
-  third : IsGlyph (digit_glyph true (address % 256 / 16))
-  third = glyph (address % 256 / 16) (omega arith)
-
-  fourth : IsGlyph (digit_glyph true (address % 256 % 16))
-  fourth = glyph (address % 256 % 16) (omega arith)
-
-  -- the name of a label is written so
-  pub label_written : name_of (label_text address) ≡ Some (label_text address)
-  label_written = written _ _ _ _ first second third fourth
-
-  -- an expression may have it
-  pub label_is_leaf : IsLeafName (label_text address)
-  label_is_leaf = leaf_name _ _ _ _ first second third fourth
-
-  -- a statement may define it
-  pub label_is_free : IsFree (label_text address)
-  label_is_free = free_name _ _ _ _ first second third fourth
+-- a statement may define the name of a label, and an expression may have it
+pub label_is_free : (address : ℕ) → address < 65536 → IsFree (label_text address)
+label_is_free address h =
+    free_name _ _ _ _ (glyph (address / 256 / 16) (omega (arith, h))) (glyph (address / 256 % 16) (omega arith))
+    (glyph (address % 256 / 16) (omega arith)) (glyph (address % 256 % 16) (omega arith))

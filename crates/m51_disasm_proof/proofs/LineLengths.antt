@@ -1,14 +1,13 @@
 -- The lines of a disassembly are short.
-use Rattle.m51_disasm_proof.proofs.Common.{ℕ, ◌≤◌, List, ◌++◌, length, length-append, Option, Some, None, arith, codes}
-use Rattle.m51_disasm_proof.proofs.Common.{Instr, Nop, Field, Slot, Nothing, Imm, Plain, text_of, SourceLine, Target}
-use Rattle.m51_disasm_proof.proofs.Common.{Content}
+use Rattle.m51_disasm_proof.proofs.Common.{◌++◌, ◌≤◌, Content, Field, Imm, Instr, List, None, Nop, Nothing, Option}
+use Rattle.m51_disasm_proof.proofs.Common.{Plain, Slot, Some, SourceLine, Target, arith, codes, length, length-append}
+use Rattle.m51_disasm_proof.proofs.Common.{text_of, ℕ}
 use Rattle.m51_isa.specs.declared.slot.Field.TheVariants as field
+use Rattle.m51_disasm.specs.Texts.{content_text, data_text, label_front, line_text, operand_after, operand_text}
+use Rattle.m51_disasm.specs.Texts.{plain_text, spelled, statement_text, target_text}
 use Rattle.m51_disasm.specs.declared.line.SourceLine.TheVariants as line
 use Rattle.m51_disasm.specs.declared.line.Target.TheVariants as target
 use Rattle.m51_disasm.specs.declared.statement.Content.TheVariants as content
-use Rattle.m51_disasm.specs.Texts.{target_text, data_text, plain_text, operand_text, operand_after, spelled}
-use Rattle.m51_disasm.specs.Texts.{content_text}
-use Rattle.m51_disasm.specs.Texts.{label_front, statement_text, line_text}
 
 target_few : (t : Target) → length (target_text t) ≤ 6
 unfolding target_text

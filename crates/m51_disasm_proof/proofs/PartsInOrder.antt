@@ -1,27 +1,29 @@
 -- The parts of a sound layout are in order, and none of them reaches into the next.
-use Rattle.m51_disasm_proof.proofs.Common.{◌≡◌, ◌≢◌, ℕ, zero, suc, ◌+◌, ◌<◌, ◌≤◌, ◌==◌, Bool, true, false, cond, List}
-use Rattle.m51_disasm_proof.proofs.Common.{[], ◌∷◌, map, Some, refl, sym, ap, ◌∙◌, subst, arith, ⊎_elim, slice_get}
-use Rattle.m51_disasm_proof.proofs.Common.{order, ltb-true, LayoutParts, CodeRange}
+use Rattle.m51_disasm_proof.proofs.Common.{◌+◌, ◌<◌, ◌==◌, ◌∙◌, ◌∷◌, ◌≡◌, ◌≢◌, ◌≤◌, Bool, CodeRange, IsInside}
+use Rattle.m51_disasm_proof.proofs.Common.{LayoutParts, List, Some, [], ap, arith, cond, false, map, order, refl}
+use Rattle.m51_disasm_proof.proofs.Common.{slice_get, subst, suc, sym, true, zero, ℕ, ⊎_elim}
 use Rattle.std.proofs.Common.{◌⊎◌, inl, inr}
-use Rattle.std.specs.List.{filter}
 use Rattle.std.proofs.lemmas.Bool.{eqb-true}
+use Rattle.std.proofs.lemmas.List.Elements.{All-contains}
+use Rattle.std.specs.List.{filter}
 use Rattle.m51_cells.specs.Extent.{Meet, extent_of}
 use Rattle.m51_cells.specs.declared.extent.Extent.{Extent}
 use Rattle.m51_cells.specs.declared.kind.Kind.TheVariants as kind
-use Rattle.m51_module.specs.Cells.{extent_at, code_cell}
+use Rattle.m51_module.specs.Cells.{code_cell, extent_at}
 use Rattle.m51_module.specs.Conflict.{FirstPlain}
-use Rattle.m51_module.specs.Plan.{IsCodeSegment, IsPlaced, IsOverlaid}
+use Rattle.m51_module.specs.Plan.{IsCodeSegment, IsOverlaid, IsPlaced}
 use Rattle.m51_module.specs.Sound.{IsSound}
 use Rattle.m51_module.specs.declared.placed.Placed.{Placed}
-use Rattle.m51_disasm.specs.Parts.{placed_range, has_bytes, unit_ranges, parts_below, code_ranges}
-use Rattle.m51_asm.proofs.Members.{In, Every, Pairs, no_element, in_first, in_later, in_cons, in_append, in_map, at_in}
-use Rattle.m51_asm.proofs.Members.{pairs_append, pairs_map, pairs_weaker}
+use Rattle.m51_asm.proofs.Members.{Every, In, Pairs, at_in, contains_in, in_append, in_cons, in_first, in_later, in_map}
+use Rattle.m51_asm.proofs.Members.{no_element, pairs_append, pairs_map, pairs_weaker}
+use Rattle.m51_disasm.proofs.Placing.{all_inside}
+use Rattle.m51_disasm.specs.Parts.{code_ranges, has_bytes, parts_below, placed_range, unit_ranges}
 use Rattle.m51_disasm_proof.specs.Sound.{HaveSizes}
 
--- these parts are in order from an address on, and none overlaps another
+-- these parts lie in program memory, in order from an address on, and none overlaps another
 abbrev pub AreInOrder : ℕ → List CodeRange → Type 0
 AreInOrder low [] = Unit {0}
-AreInOrder low (p ∷ ps) = (low ≤ p.base) × AreInOrder (p.base + p.size) ps
+AreInOrder low (p ∷ ps) = (low ≤ p.base) × IsInside p × AreInOrder (p.base + p.size) ps
 
 -- ---- of lists
 
@@ -145,8 +147,8 @@ module _ (l : LayoutParts) (sound : IsSound l) where
   all_apart : Pairs Apart all
   all_apart = pairs_filter Apart has_bytes (map unit_part l.units) units_apart
 
-  has_some : (p : CodeRange) → In p all → 0 < p.size
-  has_some p i = ltb-true 0 p.size (in_filter has_bytes (map unit_part l.units) p i).0
+  inside : (p : CodeRange) → In p all → IsInside p
+  inside p i = All-contains IsInside all p (all_inside l sound) (contains_in all p i)
 
   -- one of them ends before the other begins
   abbrev Before : CodeRange → CodeRange → Type 0
@@ -185,7 +187,7 @@ module _ (l : LayoutParts) (sound : IsSound l) where
       pairs_append Before (parts_below all n) here (below_ordered n)
       (pairs_weaker Apart Before here
       (λ p q i j apart. let a = at_base n p i in let b = at_base n q j in
-      not_here n p q a.1 b.1 (has_some p a.0) (has_some q b.0) apart)
+      not_here n p q a.1 b.1 (inside p a.0).some (inside q b.0).some apart)
       (pairs_filter Apart (λ (unit : CodeRange). unit.base == n) all all_apart))
       (λ p q i j.
       let a = below_from n p i in
@@ -194,18 +196,24 @@ module _ (l : LayoutParts) (sound : IsSound l) where
       let same = b.1 in
       let ne : p ≢ q = λ e. let f : p.base ≡ q.base = ap (λ (x : CodeRange). x.base) e in
       omega (arith, f, less, same) in
-      earlier n p q less same (has_some p a.0) (has_some q b.0)
+      earlier n p q less same (inside p a.0).some (inside q b.0).some
       (pairs_both Apart all apart_back all_apart p q ne a.0 b.0))
 
-  in_order : (low : ℕ) (ps : List CodeRange) → ((p : CodeRange) → In p ps → low ≤ p.base) → Pairs Before ps
-      → AreInOrder low ps
+  in_order : (low : ℕ) (ps : List CodeRange) → ((p : CodeRange) → In p ps → low ≤ p.base)
+      → ((p : CodeRange) → In p ps → IsInside p) → Pairs Before ps → AreInOrder low ps
   unfolding Pairs Every
-  in_order low [] first h = tt
-  in_order low (p ∷ ps) first h = (first p (in_first p ps), in_order (p.base + p.size) ps (λ q i. h.0 q i) h.1)
+  in_order low [] first ins h = tt
+  in_order low (p ∷ ps) first ins h = (
+    first p (in_first p ps),
+    ins p (in_first p ps),
+    in_order (p.base + p.size) ps (λ q i. h.0 q i) (λ q i. ins q (in_later q p ps i)) h.1,
+  )
 
   pub parts_in_order : AreInOrder 0 (code_ranges l)
   unfolding code_ranges
-  parts_in_order = in_order 0 (parts_below all 0x10000) (λ p i. omega arith) (below_ordered 0x10000)
+  parts_in_order =
+      in_order 0 (parts_below all 0x10000) (λ p i. omega arith) (λ p i. inside p (below_from 0x10000 p i).0)
+      (below_ordered 0x10000)
 
   -- sizes of two bytes
   pub parts_small : HaveSizes l → (p : CodeRange) → In p (code_ranges l) → p.size < 65536

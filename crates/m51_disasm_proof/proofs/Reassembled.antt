@@ -1,122 +1,154 @@
--- A disassembly is assembled to its parts with the bytes of the image.
-use Rattle.m51_disasm_proof.proofs.Common.{◌≡◌, ℕ, ◌+◌, ◌≤◌, List, length, get_or, map, refl, sym, ap, ◌∙◌, subst}
-use Rattle.m51_disasm_proof.proofs.Common.{arith, AllByRecursion, LineTree, Assignment, opening, Fits, Kept}
-use Rattle.m51_disasm_proof.proofs.Common.{object_segments, SourceLine, CodeRange, IsInside, read_from, AreBytes}
-use Rattle.m51_disasm_proof.proofs.Common.{IsSound}
-use Rattle.std.proofs.lemmas.List.{get_or_default}
-use Rattle.std.proofs.lemmas.Option.{slice_get_read}
-use Rattle.m51_asm.specs.Answer.{Gives, content_or_faults, answer_of_lines}
+-- What a disassembly gives, under each assignment that fits: where its statements and labels are, its bytes, that no
+-- line has a fault, and the module of its parts.
+use Rattle.m51_disasm_proof.proofs.Common.{◌++◌, ◌+◌, ◌∙◌, ◌∷◌, ◌≡◌, ◌≤◌, AreBytes, Assignment, CodeRange, Fits, Kept}
+use Rattle.m51_disasm_proof.proofs.Common.{LayoutParts, LineTree, Lines, List, Ok, Some, SourceFile, Statement, [], ap}
+use Rattle.m51_disasm_proof.proofs.Common.{arith, code_value, is_among, label_text, length, length_in, lines_before}
+use Rattle.m51_disasm_proof.proofs.Common.{map, object_segments, opening, read_from, refl, slice_get, spots_from}
+use Rattle.m51_disasm_proof.proofs.Common.{statements_of, subst, suc, sym, targets, true, ℕ}
+use Rattle.m51_isa.specs.Spelling.{text}
+use Rattle.m51_module.specs.Sound.{IsSound as IsSoundLayout}
+use Rattle.m51_text.specs.Faults.{before}
+use Rattle.m51_asm.proofs.AnAssignment.{fits, fitting}
+use Rattle.m51_asm.proofs.FirstFaults.{content_answer}
+use Rattle.m51_asm.specs.Answer.{AnswerTree, Gives, IsAnswer, IsAnswerOf, answer_of_lines, content_or_faults}
 use Rattle.m51_asm.specs.AnswerRows.{rows}
-use Rattle.m51_asm.specs.FirstFault.{AreFree}
 use Rattle.m51_asm.specs.Naming.{module_name}
 use Rattle.m51_asm.specs.ObjectSegments.{kept}
 use Rattle.m51_asm.specs.Parts.{parts as module_parts, version_of}
-use Rattle.m51_asm.specs.PlacedFaults.{segments_before, placed_fault}
-use Rattle.m51_asm.proofs.FirstFaults.{content_answer}
-use Rattle.m51_asm.specs.Repeats.{is_repeated}
-use Rattle.m51_disasm.specs.declared.line.SourceLine.TheVariants as line
+use Rattle.m51_disasm.specs.Answer.{disassembled}
 use Rattle.m51_disasm.specs.Lines.{lines_of}
-use Rattle.m51_disasm_proof.specs.Module.{range_segment, module_of}
-use Rattle.m51_disasm_proof.specs.Standing.{AreFaultless}
-use Rattle.m51_disasm_proof.proofs.AllLinesGive.{GiveFrom, all_give}
-use Rattle.m51_disasm_proof.proofs.KeptParts.{kept_are, length_read}
-use Rattle.m51_disasm_proof.proofs.LabelsAscend.{lines_ascend}
-use Rattle.m51_disasm_proof.proofs.LabelsDefined.{Ascends}
-use Rattle.m51_disasm_proof.proofs.LinesPlaced.{none_external, none_placed}
-use Rattle.m51_disasm_proof.proofs.LinesStand.{at_start, says_all}
+use Rattle.m51_disasm.specs.Parts.{code_ranges}
+use Rattle.m51_disasm_proof.specs.Module.{GivesModule, module_of, range_segment}
+use Rattle.m51_disasm_proof.specs.Places.{IsSpot, Spot}
+use Rattle.m51_disasm_proof.specs.Sound.{HaveSizes}
+use Rattle.m51_disasm_proof.specs.Standing.{AreFaultless, LineGives}
+use Rattle.m51_disasm_proof.proofs.DisassemblyRead.{disassembly_read, given}
+use Rattle.m51_disasm_proof.proofs.KeptParts.{kept_are}
+use Rattle.m51_disasm_proof.proofs.LabelsKnown.{begins_there, label_known}
+use Rattle.m51_disasm_proof.proofs.LinesGive.{whole_gives}
+use Rattle.m51_disasm_proof.proofs.LinesPlaced.{AreSmall, whole_free}
+use Rattle.m51_disasm_proof.proofs.LinesStand.{LinesFrom, after, at_start, next, spots_are, state}
+use Rattle.m51_disasm_proof.proofs.MeantLines.{read_at, read_is}
 use Rattle.m51_disasm_proof.proofs.NothingElse as nothing
-use Rattle.m51_disasm_proof.proofs.NothingRepeated.{none_repeated}
-use Rattle.m51_disasm_proof.proofs.PartLines.{whole, whole_is}
 use Rattle.m51_disasm_proof.proofs.PartPieces.{pieces_are}
-use Rattle.m51_disasm_proof.proofs.PartsInOrder.{AreInOrder}
-use Rattle.m51_disasm_proof.proofs.RoomForParts.{IsSmall, lines_room}
-use Rattle.m51_disasm_proof.proofs.SoundLines.{lines_sound}
+use Rattle.m51_disasm_proof.proofs.PartsInOrder.{AreInOrder, parts_in_order, parts_small}
+use Rattle.m51_disasm_proof.proofs.PartsPassed.{GiveFrom, PartThere, StatementThere, in_part, part_segment}
+use Rattle.m51_disasm_proof.proofs.PartsPassed.{parts_passed, statement_there}
+use Rattle.m51_disasm_proof.proofs.SoundLines.{of_whole, whole, whole_good}
 
-module _ (image : List ℕ) (bytes : AreBytes image) (parts : List CodeRange) (inside : AllByRecursion IsInside parts)
-    (order : AreInOrder 0 parts)
-    (a : Assignment) (f : Fits (read_from 1 (whole image parts)) a) where
-  abbrev ls : List SourceLine
-  ls = whole image parts
+-- the text of all lines is that of a disassembly
+text_is : (image : List ℕ) (parts : List CodeRange)
+    → read_at 0 (whole image parts) ≡ read_from 1 (lines_of image parts)
+text_is image parts =
+    of_whole image parts (λ ls. read_at 0 (whole image parts) ≡ read_from 1 ls)
+    (sym (read_is 0 1 (whole image parts) refl))
 
+module _ (image : List ℕ) (bytes : AreBytes image) (parts : List CodeRange) (order : AreInOrder 0 parts)
+    (a : Assignment) (f : Fits (read_from 1 (lines_of image parts)) a) where
   abbrev lines : List LineTree
-  lines = read_from 1 (whole image parts)
+  lines = read_at 0 (whole image parts)
 
-  sound : AllByRecursion IsSound ls
-  sound = subst (AllByRecursion IsSound) (whole_is image parts) (lines_sound image bytes parts inside)
+  all : LinesFrom lines a 0 (state opening 0 0) (whole image parts)
+  all =
+      at_start (whole image parts) a (subst (λ ls. Fits ls a) (sym (text_is image parts)) f)
+      (whole_good image bytes parts order)
 
-  ascends : Ascends 0 ls
-  ascends = subst (Ascends 0) (whole_is image parts) (lines_ascend image parts inside order)
+  gives : GiveFrom lines a image 0 opening 0 (whole image parts)
+  gives = whole_gives image bytes parts order all
 
-  gives : GiveFrom lines a image 0 0 ls
-  gives =
-      subst (λ xs. GiveFrom (read_from 1 xs) a image 0 0 ls) (whole_is image parts)
-      (all_give image bytes parts inside order a (subst (λ xs. Fits (read_from 1 xs) a) (sym (whole_is image parts)) f))
+  pub spot_is : (k : ℕ) (spot : Spot) → slice_get (spots_from 0 opening 0 (lines_of image parts)) k ≡ Some spot
+      → IsSpot a k spot
+  spot_is k spot =
+      let same : 0 + k ≡ k = omega arith in
+      of_whole image parts (λ ls. slice_get (spots_from 0 opening 0 ls) k ≡ Some spot → IsSpot a k spot)
+      (λ e. subst (λ i. IsSpot a i spot) same (spots_are (whole image parts) 0 all refl k spot e))
 
-  -- no line has a fault by the lines above it
-  free : AllByRecursion IsSmall parts → length parts ≤ 254 → AreFree lines a (length lines)
-  unfolding segments_before
-  free sizes few j less =
-      let count = length_read 1 ls in
-      let here : 0 + j ≡ j = omega arith in
-      ap (placed_fault lines a) (sym here)
-      ∙ none_placed lines a f (none_external 1 ls) ls 0 opening 0 0 sound (record { kind_is = refl; fixed = refl })
-      (at_start lines a f) (says_all ls)
-      (omega arith) (lines_room image parts inside sizes few)
-      (λ i below.
-      let same : 0 + i ≡ i = omega arith in
-      let l : SourceLine = get_or ls i line.End in
-      ap (is_repeated lines) same
-      ∙ none_repeated ls ascends i l
-      (slice_get_read ls (length ls) i l refl below (get_or_default ls i line.End l below)))
-      j (omega (arith, less, count))
+  part_there : (before : List CodeRange) (part : CodeRange) (after : List CodeRange) → parts ≡ before ++ part ∷ after
+      → PartThere lines a image (lines_before image before) (part ∷ after)
+  part_there before part after is =
+      parts_passed image before (part ∷ after) 1 (lines_before image before)
+      (subst (PartThere lines a image 1) is
+      (record { least = 0; order = order; start = _; from = next all; give = gives.1 }))
+      (omega arith)
 
-  -- nor has one a fault in its content
-  whole_faultless : AllByRecursion IsSmall parts → length parts ≤ 254 → AreFaultless lines a
-  whole_faultless sizes few =
-      record { placed = free sizes few; content = nothing.no_content_faults lines a image 1 0 0 ls gives }
+  statement_is : (before : List CodeRange) (part : CodeRange) (after : List CodeRange)
+      → parts ≡ before ++ part ∷ after → (j : ℕ) (s : Statement) → slice_get (statements_of image part) j ≡ Some s
+      → StatementThere lines a image (lines_before image before + suc j)
+      (part_segment (lines_before image before) part) s
+  statement_is before part after is j s e =
+      let p = part_there before part after is in
+      statement_there (statements_of image part) _ (in_part p.from) p.give.1 j s e (omega arith)
+
+  pub statement_spot : (before : List CodeRange) (part : CodeRange) (after : List CodeRange)
+      → parts ≡ before ++ part ∷ after → (j : ℕ) (s : Statement) → slice_get (statements_of image part) j ≡ Some s
+      → IsSpot a (lines_before image before + suc j)
+      (record { segment = part_segment (lines_before image before) part; address = s.at })
+  statement_spot before part after is j s e = (statement_is before part after is j s e).spot
+
+  pub statement_gives_bytes : (before : List CodeRange) (part : CodeRange) (after : List CodeRange)
+      → parts ≡ before ++ part ∷ after → (j : ℕ) (s : Statement) → slice_get (statements_of image part) j ≡ Some s
+      → LineGives (read_from 1 (lines_of image parts)) a image (lines_before image before + suc j) s.at
+      (length_in s.content)
+  statement_gives_bytes before part after is j s e =
+      subst (λ ls. LineGives ls a image (lines_before image before + suc j) s.at (length_in s.content))
+      (text_is image parts) (statement_is before part after is j s e).gives
+
+  pub label_is : (before : List CodeRange) (part : CodeRange) (after : List CodeRange)
+      → parts ≡ before ++ part ∷ after → (j : ℕ) (s : Statement) → slice_get (statements_of image part) j ≡ Some s
+      → is_among (targets (statements_of image part)) s.at ≡ true → (k : ℕ)
+      → a.value k (label_text s.at) ≡ Some (code_value (lines_before image before + 2) s.at)
+  label_is before part after is j s e led k =
+      let p = part_there before part after is in
+      label_known (statements_of image part) (in_part p.from) p.order.1.ends s.at
+      (begins_there (statements_of image part) j s e) led k
+
+  -- no line has a fault
+  own_faultless : AreSmall parts → length parts ≤ 254 → AreFaultless lines a
+  own_faultless sizes few = record {
+    placed = whole_free image parts order sizes few all;
+    content = nothing.no_content_faults lines a image 0 opening 0 (whole image parts) gives;
+  }
+
+  pub faultless : AreSmall parts → length parts ≤ 254 → AreFaultless (read_from 1 (lines_of image parts)) a
+  faultless sizes few = subst (λ ls. AreFaultless ls a) (text_is image parts) (own_faultless sizes few)
 
   segments : object_segments lines a ≡ map range_segment parts
-  segments = ap (map (λ (s : Kept). s.segment)) (kept_are image parts a f inside sound)
-      ∙ nothing.segments_are image 1 parts
+  segments = ap (map (λ (s : Kept). s.segment)) (kept_are image parts order all) ∙ nothing.segments_are image 1 parts
 
   module_is : (file : List ℕ) → module_parts file lines a ≡ module_of file image parts
   unfolding module_parts
   module_is file = (λ i. record {
-    name = nothing.no_name (module_name file) 1 ls i;
+    name = nothing.no_name (module_name file) 0 (whole image parts) i;
     version = ((ap version_of segments ∙ nothing.first_version parts) i);
     segments = segments i;
-    publics = nothing.no_publics a 1 ls (length lines) i;
-    externals = nothing.no_externals 1 ls i;
-    pieces = pieces_are image parts a f inside sound gives i;
-    fixups = nothing.no_fixups lines a image (kept lines a) ls gives i;
-    banks = nothing.no_banks a 1 ls i;
+    publics = nothing.no_publics a (whole image parts) (length lines) i;
+    externals = nothing.no_externals 0 (whole image parts) i;
+    pieces = pieces_are image parts order all gives i;
+    fixups = nothing.no_fixups a image (kept lines a) (whole image parts) gives i;
+    banks = nothing.no_banks a (whole image parts) i;
   })
 
-  whole_answer : (file : List ℕ) → AllByRecursion IsSmall parts → length parts ≤ 254
-      → answer_of_lines file lines a ≡ Gives (module_of file image parts) (rows lines a)
-  whole_answer file sizes few =
-      let none = whole_faultless sizes few in
-      content_answer file lines a none.placed
-      ∙ ap (content_or_faults file lines a) none.content
-      ∙ ap (λ p. Gives p (rows lines a)) (module_is file)
+  -- the lines give the module of the parts
+  pub answer_is : (file : List ℕ) → AreSmall parts → length parts ≤ 254
+      → answer_of_lines file (read_from 1 (lines_of image parts)) a
+      ≡ Gives (module_of file image parts) (rows (read_from 1 (lines_of image parts)) a)
+  answer_is file sizes few =
+      let none = own_faultless sizes few in
+      subst (λ ls. answer_of_lines file ls a ≡ Gives (module_of file image parts) (rows ls a)) (text_is image parts)
+      (content_answer file lines a none.placed ∙ ap (content_or_faults file lines a) none.content
+      ∙ ap (λ p. Gives p (rows lines a)) (module_is file))
 
--- no line of a disassembly has a fault
-pub faultless : (image : List ℕ) (bytes : AreBytes image) (parts : List CodeRange)
-    (inside : AllByRecursion IsInside parts) (order : AreInOrder 0 parts) (a : Assignment)
-    → Fits (read_from 1 (lines_of image parts)) a → AllByRecursion IsSmall parts → length parts ≤ 254
-    → AreFaultless (read_from 1 (lines_of image parts)) a
-faultless image bytes parts inside order a f sizes few =
-    subst (λ xs. Fits (read_from 1 xs) a → AreFaultless (read_from 1 xs) a) (sym (whole_is image parts))
-    (λ g. whole_faultless image bytes parts inside order a g sizes few) f
-
--- the lines of a disassembly give the module of its parts
-pub module_given : (image : List ℕ) (bytes : AreBytes image) (parts : List CodeRange)
-    (inside : AllByRecursion IsInside parts) (order : AreInOrder 0 parts) (a : Assignment)
-    → Fits (read_from 1 (lines_of image parts)) a → (file : List ℕ) → AllByRecursion IsSmall parts → length parts ≤ 254
-    → answer_of_lines file (read_from 1 (lines_of image parts)) a
-    ≡ Gives (module_of file image parts) (rows (read_from 1 (lines_of image parts)) a)
-module_given image bytes parts inside order a f file sizes few =
-    subst (λ xs. Fits (read_from 1 xs) a
-    → answer_of_lines file (read_from 1 xs) a ≡ Gives (module_of file image parts) (rows (read_from 1 xs) a))
-    (sym (whole_is image parts))
-    (λ g. whole_answer image bytes parts inside order a g file sizes few) f
+-- the answer is the module of the parts
+pub image_back : (l : LayoutParts) (image text : List ℕ) (source : SourceFile) (answer : AnswerTree) → IsSoundLayout l
+    → HaveSizes l → AreBytes image → disassembled l image ≡ Ok text
+    → source.bytes ≡ text → IsAnswer source [] answer → GivesModule (module_of source.name image (code_ranges l)) answer
+image_back l image text source answer sound sizes bytes is source_is answers =
+    let parts : List CodeRange = code_ranges l in
+    let lines : List LineTree = read_from 1 (lines_of image parts) in
+    let of_lines : IsAnswerOf source.name (Lines lines) answer =
+    subst (λ t. IsAnswerOf source.name t answer) (disassembly_read l image text source sound bytes is source_is)
+    answers in
+    subst (GivesModule (module_of source.name image parts))
+    (sym (of_lines (fitting lines) (fits lines)
+    ∙ answer_is image bytes parts (parts_in_order l sound) (fitting lines) (fits lines) source.name
+    (parts_small l sound sizes) (given l image text is).parts)) refl

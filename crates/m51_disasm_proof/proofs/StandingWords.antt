@@ -1,25 +1,25 @@
 -- Names, numbers and signs are cut as tokens of their own before bytes that do not continue them.
-use Rattle.m51_disasm_proof.proofs.Common.{◌≡◌, ℕ, ◌+◌, ◌-◌, ◌*◌, ◌/◌, ◌%◌, ◌<◌, ◌==◌, ◌||◌, nat_le, Bool, true, false}
-use Rattle.m51_disasm_proof.proofs.Common.{List, [], ◌∷◌, ◌++◌, length, take, Some, refl, ap, ◌∙◌, arith, slice_index}
-use Rattle.m51_disasm_proof.proofs.Common.{digit_glyph, list_all, common_steps, name_of, Word, name_word, number_word}
-use Rattle.m51_disasm_proof.proofs.Common.{sign_word, left, is_character, byte_text, word_text}
-use Rattle.std.specs.Char.{is_ascii_alphanumeric}
-use Rattle.std.specs.List.{prefix_len}
+use Rattle.m51_disasm_proof.proofs.Common.{◌%◌, ◌*◌, ◌++◌, ◌+◌, ◌-◌, ◌/◌, ◌<◌, ◌==◌, ◌||◌, ◌∙◌, ◌∷◌, ◌≡◌, Bool, List}
+use Rattle.m51_disasm_proof.proofs.Common.{Some, Word, [], ap, arith, byte_text, common_steps, digit_glyph, false}
+use Rattle.m51_disasm_proof.proofs.Common.{is_character, left, length, list_all, name_of, name_word, nat_le}
+use Rattle.m51_disasm_proof.proofs.Common.{number_word, refl, sign_word, slice_index, take, true, word_text, ℕ}
 use Rattle.std.proofs.Math.Seq.{take-append_seam}
 use Rattle.std.proofs.lemmas.Bool.{or_parts}
+use Rattle.std.specs.Char.{is_ascii_alphanumeric}
+use Rattle.std.specs.List.{prefix_len}
+use Rattle.m51_cells.proofs.NameLaws.{name_parts, named_is_name}
+use Rattle.m51_cells.proofs.Passing.{weaker}
 use Rattle.m51_cells.specs.Hex.{hex2, hex4}
 use Rattle.m51_cells.specs.Name as cells
 use Rattle.m51_cells.specs.Name.{is_name}
-use Rattle.m51_cells.proofs.NameLaws.{named_is_name, name_parts}
-use Rattle.m51_cells.proofs.Passing.{weaker}
-use Rattle.m51_lex.specs.declared.token.What.TheVariants as what
+use Rattle.m51_isa.specs.Spelling.{text}
 use Rattle.m51_lex.specs.Characters.{is_name_byte}
-use Rattle.m51_lex.specs.Number.{number_of, value_in, of_16_bits}
 use Rattle.m51_lex.specs.Lexeme.{lexeme_of, name_lexeme, number_or_fault}
-use Rattle.m51_lex.specs.Tokens.{Cut, put_front, after_lexeme}
+use Rattle.m51_lex.specs.Number.{number_of, of_16_bits, value_in}
+use Rattle.m51_lex.specs.Tokens.{Cut, after_lexeme, put_front}
+use Rattle.m51_lex.specs.declared.token.What.TheVariants as what
 use Rattle.m51_stmt.proofs.LineCuts.{token_at}
-use Rattle.m51_stmt.proofs.WordCuts.{right, name_first, at_most_31, digit_step}
-use Rattle.m51_stmt.proofs.WordCuts.{in_16_bits, glyph_run}
+use Rattle.m51_stmt.proofs.WordCuts.{at_most_31, digit_step, glyph_run, in_16_bits, name_first, right}
 use Rattle.m51_disasm_proof.proofs.CutLines.{Stands}
 
 -- these bytes continue no name and no number

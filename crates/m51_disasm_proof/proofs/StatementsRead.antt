@@ -1,33 +1,33 @@
 -- Each line of a disassembly is read as the statement that is meant.
-use Rattle.m51_disasm_proof.proofs.Common.{◌≡◌, ℕ, ◌<◌, true, false, map, List, [], ◌∷◌, ◌++◌, append_assoc, append-nil}
-use Rattle.m51_disasm_proof.proofs.Common.{Option, Some, None, option_map, Ok, refl, sym, ap, ◌∙◌, subst, arith, codes}
-use Rattle.m51_disasm_proof.proofs.Common.{list_all, name_of, Instr, text_of, BodyTree, OperandTree, Word, symbol}
-use Rattle.m51_disasm_proof.proofs.Common.{name_word, number_word, sign_word, is_character, SourceLine, Target, Content}
-use Rattle.m51_disasm_proof.proofs.Common.{byte_text, word_text, label_text, body_of, meant, IsContent, IsSound}
-use Rattle.m51_cells.specs.declared.kind.Kind.TheVariants as kind
+use Rattle.m51_disasm_proof.proofs.Common.{◌++◌, ◌<◌, ◌∙◌, ◌∷◌, ◌≡◌, BodyTree, Content, Instr, IsContent, IsSound, List}
+use Rattle.m51_disasm_proof.proofs.Common.{None, Ok, OperandTree, Option, Some, SourceLine, Target, [], ap, append-nil}
+use Rattle.m51_disasm_proof.proofs.Common.{append_assoc, arith, body_of, byte_text, codes, false, is_character}
+use Rattle.m51_disasm_proof.proofs.Common.{label_text, list_all, map, meant, name_of, name_word, number_word}
+use Rattle.m51_disasm_proof.proofs.Common.{option_map, refl, sign_word, subst, sym, symbol, text_of, true, word_text, ℕ}
 use Rattle.m51_cells.proofs.NameLaws.{named_is_name}
-use Rattle.m51_expr.specs.declared.symbol.Symbol.TheVariants as symbols
+use Rattle.m51_cells.specs.declared.kind.Kind.TheVariants as kind
+use Rattle.m51_isa.specs.Spelling.{text}
 use Rattle.m51_expr.specs.Tree as tree
-use Rattle.m51_stmt.specs.Statement as body
-use Rattle.m51_stmt.specs.Statement.{StmtTree}
+use Rattle.m51_expr.specs.declared.symbol.Symbol.TheVariants as symbols
+use Rattle.m51_stmt.proofs.Derives.{statement_reads}
+use Rattle.m51_stmt.proofs.PrintedBodies.{IsBody, body_said, body_words}
+use Rattle.m51_stmt.proofs.PrintedParts.{name_symbol}
+use Rattle.m51_stmt.proofs.PrintedStatements.{labelled, name_line}
 use Rattle.m51_stmt.specs.Control as control
 use Rattle.m51_stmt.specs.Directives.{directive_of, select_of}
 use Rattle.m51_stmt.specs.Grammar as grammar
-use Rattle.m51_stmt.specs.Lines.{statement, token_line, any_line}
-use Rattle.m51_stmt.proofs.PrintedParts.{name_symbol}
-use Rattle.m51_stmt.proofs.PrintedBodies.{IsBody, body_words, body_said}
-use Rattle.m51_stmt.proofs.Derives.{statement_reads}
-use Rattle.m51_stmt.proofs.PrintedStatements.{name_line, labelled}
+use Rattle.m51_stmt.specs.Lines.{any_line, statement, token_line}
+use Rattle.m51_stmt.specs.Statement as body
+use Rattle.m51_stmt.specs.Statement.{StmtTree}
+use Rattle.m51_disasm.specs.Texts.{content_text, label_front, line_text, operand_after, spelled, statement_text}
 use Rattle.m51_disasm.specs.declared.line.SourceLine.TheVariants as line
 use Rattle.m51_disasm.specs.declared.statement.Content.TheVariants as content
-use Rattle.m51_disasm.specs.Texts.{operand_after, spelled, content_text, label_front}
-use Rattle.m51_disasm.specs.Texts.{statement_text, line_text}
 use Rattle.m51_disasm_proof.specs.Meaning.{without_label}
 use Rattle.m51_disasm_proof.specs.Sound.{IsLabel}
-use Rattle.m51_disasm_proof.proofs.CutLines.{IsCutInto, no_words, after_blank, after_word, words_read}
-use Rattle.m51_disasm_proof.proofs.StandingWords.{name_stands, colon_stands, byte_word, byte_stands, word_stands}
+use Rattle.m51_disasm_proof.proofs.CutLines.{IsCutInto, after_blank, after_word, no_words, words_read}
+use Rattle.m51_disasm_proof.proofs.InstructionsCut.{instruction_is_code, instruction_read}
 use Rattle.m51_disasm_proof.proofs.Labels.{label_is_free}
-use Rattle.m51_disasm_proof.proofs.InstructionsCut.{instruction_read, instruction_is_code}
+use Rattle.m51_disasm_proof.proofs.StandingWords.{byte_stands, byte_word, colon_stands, name_stands, word_stands}
 
 -- a text that begins with a name
 pub record Begins (line : List ℕ) : Type 0 where
@@ -44,9 +44,7 @@ begun_line line b = subst (λ l. any_line l ≡ token_line l) (sym b.is)
 pub record IsReadBody (text : List ℕ) (b : BodyTree) : Type 0 where
   pub begins : Begins text
   pub good : (at : ℕ) → IsBody at b
-  pub words : List Word
-  pub symbols : map symbol words ≡ map symbol (body_words b)
-  pub cut : IsCutInto text words
+  pub cut : IsCutInto text (map symbol (body_words b))
 
 -- a text that is read as this statement, and that has only characters allowed in a line
 pub record IsRead (text : List ℕ) (s : StmtTree) : Type 0 where
@@ -58,8 +56,8 @@ bare_read : (text : List ℕ) (b : BodyTree) → IsReadBody text b → IsRead te
 bare_read text b r = record {
   says =
       begun_line text r.begins
-      ∙ words_read text r.words (without_label b) r.cut
-      (ap statement r.symbols ∙ statement_reads (map symbol (body_words b)) (without_label b)
+      ∙ words_read text (map symbol (body_words b)) (without_label b) r.cut
+      (statement_reads (map symbol (body_words b)) (without_label b)
       (grammar.Bare (body_said false 0 (λ _. refl) b (r.good 0))));
   characters = r.cut.characters;
 }
@@ -70,21 +68,19 @@ labelled_read address text b h r =
     let name = label_text address in
     let free = label_is_free address h in
     let line = name ++ 0x3A ∷ 32 ∷ text in
-    let ws : List Word = name_word name ∷ sign_word 0x3A ∷ r.words in
-    let c : IsCutInto line ws =
-    after_word (name_word name) (0x3A ∷ 32 ∷ text) (sign_word 0x3A ∷ r.words)
-    (name_stands name (0x3A ∷ 32 ∷ text) free.leaf.written refl)
-    (after_word (sign_word 0x3A) (32 ∷ text) r.words (colon_stands (32 ∷ text)) (after_blank text r.words r.cut)) in
-    let says : statement (map symbol ws) ≡ Some (labelled name b) =
-    ap (λ l. statement (symbol (name_word name) ∷ symbols.Colon ∷ l)) r.symbols
-    ∙ ap (λ s. statement (s ∷ symbols.Colon ∷ map symbol (body_words b))) (name_symbol name free.leaf)
-    ∙ statement_reads (symbols.Name name ∷ symbols.Colon ∷ map symbol (body_words b)) (labelled name b)
+    let said = map symbol (body_words b) in
+    let c : IsCutInto line (symbol (name_word name) ∷ symbols.Colon ∷ said) =
+    after_word (name_word name) (0x3A ∷ 32 ∷ text) _ (name_stands name (0x3A ∷ 32 ∷ text) free.leaf.written refl)
+    (after_word (sign_word 0x3A) (32 ∷ text) _ (colon_stands (32 ∷ text)) (after_blank text said r.cut)) in
+    let says : statement (symbol (name_word name) ∷ symbols.Colon ∷ said) ≡ Some (labelled name b) =
+    ap (λ s. statement (s ∷ symbols.Colon ∷ said)) (name_symbol name free.leaf)
+    ∙ statement_reads (symbols.Name name ∷ symbols.Colon ∷ said) (labelled name b)
     (grammar.Labelled free.free (body_said true 2 (λ e. absurd (cc e)) b (r.good 2))) in
     subst (λ l. IsRead l (labelled name b)) (sym (append_assoc name (codes ": ") text))
     (record {
       says =
           begun_line line (record { name = name; rest = 0x3A ∷ 32 ∷ text; is = refl; written = free.leaf.written })
-          ∙ words_read line ws (labelled name b) c says;
+          ∙ words_read line _ (labelled name b) c says;
       characters = c.characters;
     })
 
@@ -97,12 +93,10 @@ byte_read t byte h =
     record {
       begins = record { name = codes "DB"; rest = 32 ∷ byte_text byte; is = refl; written = refl };
       good = λ at. (few, tt);
-      words = name_word (codes "DB") ∷ byte_word byte ∷ [];
-      symbols = refl;
       cut = after_word (name_word (codes "DB")) (32 ∷ byte_text byte) _
           (name_stands (codes "DB") (32 ∷ byte_text byte) refl refl)
           (after_blank (byte_text byte) _
-          (subst (λ l. IsCutInto l (byte_word byte ∷ [])) (append-nil (byte_text byte))
+          (subst (λ l. IsCutInto l (symbol (byte_word byte) ∷ [])) (append-nil (byte_text byte))
           (after_word (byte_word byte) [] [] (byte_stands byte [] h refl) no_words)));
     }
 
@@ -126,8 +120,6 @@ code_read t i h =
         written = code.written;
       };
       good = λ at. code;
-      words = r.words;
-      symbols = r.symbols;
       cut = r.cut;
     })
 
@@ -149,13 +141,11 @@ unfolding directive_of select_of
 segment_read base h = record {
   begins = record { name = codes "CSEG"; rest = 32 ∷ (codes "AT " ++ word_text base); is = refl; written = refl };
   good = λ at. (refl, h);
-  words = name_word (codes "CSEG") ∷ name_word (codes "AT") ∷ number_word base ∷ [];
-  symbols = refl;
   cut = after_word (name_word (codes "CSEG")) (32 ∷ (codes "AT " ++ word_text base)) _
       (name_stands (codes "CSEG") _ refl refl)
       (after_blank _ _ (after_word (name_word (codes "AT")) (32 ∷ word_text base) _
       (name_stands (codes "AT") _ refl refl)
-      (after_blank _ _ (subst (λ l. IsCutInto l (number_word base ∷ [])) (append-nil (word_text base))
+      (after_blank _ _ (subst (λ l. IsCutInto l (symbol (number_word base) ∷ [])) (append-nil (word_text base))
       (after_word (number_word base) [] [] (word_stands base [] h refl) no_words)))));
 }
 
@@ -163,8 +153,6 @@ end_read : IsReadBody (codes "END") body.End
 end_read = record {
   begins = record { name = codes "END"; rest = []; is = refl; written = refl };
   good = λ at. tt;
-  words = name_word (codes "END") ∷ [];
-  symbols = refl;
   cut = after_word (name_word (codes "END")) [] [] (name_stands (codes "END") [] refl refl) no_words;
 }
 

@@ -1,33 +1,34 @@
 -- The text of a disassembly is read as its lines, and no line has a fault.
-use Rattle.m51_disasm_proof.proofs.Common.{◌≡◌, ℕ, zero, suc, ◌+◌, ◌-◌, ◌<◌, ◌≤◌, ◌&&◌, ◌||◌, not, nat_lt, Bool, true}
-use Rattle.m51_disasm_proof.proofs.Common.{false, cond, List, [], ◌∷◌, ◌++◌, length, length-append, take, map, get_or}
-use Rattle.m51_disasm_proof.proofs.Common.{Some, None, Ok, refl, ap, ◌∙◌, append_assoc, arith, codes, AllByRecursion}
-use Rattle.m51_disasm_proof.proofs.Common.{list_all, list_any, ne_eqb, common_steps, SourceFile, left, is_character}
-use Rattle.m51_disasm_proof.proofs.Common.{Lines, SourceLine, Target, Content, body_of, meant, read_from, IsSound}
+use Rattle.m51_disasm_proof.proofs.Common.{◌&&◌, ◌++◌, ◌+◌, ◌-◌, ◌<◌, ◌||◌, ◌∙◌, ◌∷◌, ◌≡◌, ◌≤◌, AllByRecursion, Bool}
+use Rattle.m51_disasm_proof.proofs.Common.{IsSound, Lines, List, None, Ok, Some, SourceFile, SourceLine, [], above, ap}
+use Rattle.m51_disasm_proof.proofs.Common.{append_assoc, arith, codes, common_steps, cond, false, get_or, is_character}
+use Rattle.m51_disasm_proof.proofs.Common.{left, length, length-append, list_all, list_any, map, meant, nat_lt, ne_eqb}
+use Rattle.m51_disasm_proof.proofs.Common.{not, read_from, refl, suc, take, true, zero, ℕ}
 use Rattle.std.proofs.Common.{Err}
 use Rattle.std.proofs.Math.Bool.{and-false}
-use Rattle.std.specs.List.{slice_split}
-use Rattle.std.specs.Str.Lines.{lines, lines_of_parts, strip_carriage_return}
 use Rattle.std.proofs.lemmas.List.{take_all}
 use Rattle.std.proofs.lemmas.List.Elements.{All-from_recursion}
 use Rattle.std.proofs.lemmas.List.Folds.{list_any-append}
-use Rattle.std.proofs.lemmas.List.Splits.{slice_split_at, length-slice_split}
-use Rattle.m51_cells.specs.declared.fault.TheConstants.{BAD_BYTE, TOO_MANY}
-use Rattle.m51_cells.specs.Lines.{is_line_feed}
+use Rattle.std.proofs.lemmas.List.Splits.{length-slice_split, slice_split_at}
+use Rattle.std.specs.List.{slice_split}
+use Rattle.std.specs.Str.Lines.{lines, lines_of_parts, strip_carriage_return}
 use Rattle.m51_cells.proofs.LineLaws.{ended}
+use Rattle.m51_cells.specs.Lines.{is_line_feed}
+use Rattle.m51_cells.specs.declared.fault.TheConstants.{BAD_BYTE, TOO_MANY}
+use Rattle.m51_isa.specs.Spelling.{text}
 use Rattle.m51_lex.specs.declared.fault.TheConstants.{LONG_LINE}
-use Rattle.m51_stmt.specs.Lines.{any_line, statement_of}
-use Rattle.m51_stmt.proofs.WordCuts.{right}
 use Rattle.m51_stmt.proofs.ReadStatements.{at_most_255}
-use Rattle.m51_text.specs.Said.{said, is_end_body, is_end, has_content, include_name, asked}
-use Rattle.m51_text.specs.Text.{TextLine, brought, lines_with, inclusion_by, include_lines, text_lines}
-use Rattle.m51_text.specs.Faults.{ends_source, fault_with, fault_on_line, fault_by_place, before, faults_from}
+use Rattle.m51_stmt.proofs.WordCuts.{right}
+use Rattle.m51_stmt.specs.Lines.{any_line, statement_of}
+use Rattle.m51_text.specs.Answer.{faults_or_lines, statements_of, text_of, with_statement}
+use Rattle.m51_text.specs.Faults.{before, ends_source, fault_by_place, fault_on_line, fault_with, faults_from}
 use Rattle.m51_text.specs.Faults.{faults_of}
-use Rattle.m51_text.specs.Answer.{with_statement, statements_of, faults_or_lines, text_of}
-use Rattle.m51_disasm.specs.declared.line.SourceLine.TheVariants as line
-use Rattle.m51_disasm.specs.declared.statement.Content.TheVariants as content
+use Rattle.m51_text.specs.Said.{asked, has_content, include_name, is_end, is_end_body, said}
+use Rattle.m51_text.specs.Text.{TextLine, brought, include_lines, inclusion_by, lines_with, text_lines}
 use Rattle.m51_disasm.specs.Texts.{line_text, text_of_lines}
+use Rattle.m51_disasm.specs.declared.line.SourceLine.TheVariants as line
 use Rattle.m51_disasm_proof.proofs.LineLengths.{line_few}
+use Rattle.m51_disasm_proof.proofs.MeantLines.{by_line}
 use Rattle.m51_disasm_proof.proofs.StatementsRead.{line_read}
 
 -- ---- each line says what is meant
@@ -81,15 +82,9 @@ lines_are (l ∷ ls) is = first_line (line_text l) (text_of_lines ls) (line_read
 
 -- ---- the lines are only those of the source
 
-nothing_asked_of : (t : Target) (c : Content) → include_name (body_of t c) ≡ None
-nothing_asked_of t (content.Byte byte) = refl
-nothing_asked_of t (content.Code i) = refl
-
 nothing_asked : (l : SourceLine) → include_name (meant l).body ≡ None
-nothing_asked line.Nomod51 = refl
-nothing_asked (line.Segment base) = refl
-nothing_asked (line.Statement s) = nothing_asked_of s.target s.content
-nothing_asked line.End = refl
+nothing_asked =
+    by_line (λ l. include_name (meant l).body ≡ None) refl (λ base. refl) (λ o t byte. refl) (λ o t i. refl) refl
 
 none_brought : (l : SourceLine) → IsSound l → brought [] 8 (line_text l) ≡ []
 unfolding brought

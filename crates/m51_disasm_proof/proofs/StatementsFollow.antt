@@ -1,0 +1,73 @@
+-- The statements of a part follow one another from its base to its end.
+use Rattle.m51_disasm_proof.proofs.Common.{◌+◌, ◌-◌, ◌<◌, ◌∷◌, ◌≡◌, ◌≤◌, Bool, CodeRange, Instr, List, None, Option}
+use Rattle.m51_disasm_proof.proofs.Common.{Some, Statement, [], all_inside, and_parts, ap, arith, cond, content_of}
+use Rattle.m51_disasm_proof.proofs.Common.{false, length_in, nat_le, refl, slice_index, statements_of, suc, sym}
+use Rattle.m51_disasm_proof.proofs.Common.{text_of, true, zero, ℕ}
+use Rattle.std.proofs.lemmas.Bool.{leb-true}
+use Rattle.m51_isa.proofs.Codes.{rows_are_short}
+use Rattle.m51_isa.specs.Table.{length_of}
+use Rattle.m51_asm.proofs.AnAssignment.{fits}
+use Rattle.m51_disasm.specs.Statements.{can_stand, instr_in_image, statement_at, statements_from}
+use Rattle.m51_disasm.specs.declared.statement.Content.TheVariants as content
+
+-- a statement of a part with this end: that at an address of the part, within it
+pub record IsHere (image : List ℕ) (end at : ℕ) (s : Statement) : Type 0 where
+  pub at_is : at ≡ s.at
+  pub is : s ≡ statement_at image end at
+  pub some : 1 ≤ length_in s.content
+  pub ends : at + length_in s.content ≤ end
+
+-- these statements are those of the part from an address on
+abbrev pub Follow : List ℕ → ℕ → ℕ → List Statement → Type 0
+Follow image end at [] = at ≡ end
+Follow image end at (s ∷ statements) =
+    IsHere image end at s × Follow image end (at + length_in s.content) statements
+
+code_within : (at end byte : ℕ) (i : Instr) (b : Bool) → can_stand end at i ≡ b → at < end
+    → (1 ≤ length_in (cond b (content.Code i) (content.Byte byte)))
+    × (at + length_in (cond b (content.Code i) (content.Byte byte)) ≤ end)
+unfolding can_stand
+code_within at end byte i true h below = (
+  (rows_are_short i).one,
+  leb-true (at + length_of i) end
+      (and_parts (nat_le (at + length_of i) end) (all_inside (at + length_of i) (text_of i)) h).0,
+)
+code_within at end byte i false h below = (omega arith, omega (arith, below))
+
+-- a statement has a byte, and does not pass the end
+content_within : (at end byte : ℕ) (o : Option Instr) → at < end
+    → (1 ≤ length_in (content_of end at byte o)) × (at + length_in (content_of end at byte o) ≤ end)
+content_within at end byte None below = (omega arith, omega (arith, below))
+content_within at end byte (Some i) below = code_within at end byte i (can_stand end at i) refl below
+
+follow : (image : List ℕ) (end passed at more from : ℕ) → from ≡ at + passed → at + more ≡ end → passed ≤ more
+    → Follow image end from (statements_from image end passed at more)
+unfolding statements_from statement_at
+follow image end passed at zero from e ends fits = omega (arith, e, ends, fits)
+follow image end (suc passed) at (suc more) from e ends fits =
+    follow image end passed (at + 1) more from (omega (arith, e)) (omega (arith, ends)) (omega (arith, fits))
+follow image end zero at (suc more) from e ends fits =
+    let here : from ≡ at = omega (arith, e) in
+    let s : Statement = statement_at image end at in
+    let within = content_within at end (slice_index image at) (instr_in_image image at) (omega (arith, ends)) in
+    let some : 1 ≤ length_in s.content = within.0 in
+    let last : at + length_in s.content ≤ end = within.1 in (
+      record {
+        at_is = here;
+        is = ap (statement_at image end) (sym here);
+        some = some;
+        ends = omega (arith, here, last);
+      },
+      follow image end (length_in s.content - 1) (at + 1) more (from + length_in s.content)
+          (omega (arith, here, some)) (omega (arith, ends)) (omega (arith, last, some, ends)),
+    )
+
+pub part_follows : (image : List ℕ) (part : CodeRange)
+    → Follow image (part.base + part.size) part.base (statements_of image part)
+part_follows image part =
+    follow image (part.base + part.size) 0 part.base part.size part.base (omega arith) refl (omega arith)
+
+-- they end at the end of the part
+pub follows_to : (image : List ℕ) (end at : ℕ) (statements : List Statement) → Follow image end at statements → at ≤ end
+follows_to image end at [] h = let e = h in omega (arith, e)
+follows_to image end at (s ∷ statements) h = let some = h.0.some in let ends = h.0.ends in omega (arith, some, ends)

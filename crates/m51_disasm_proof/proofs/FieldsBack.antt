@@ -41,15 +41,15 @@ rel_by : (next rel : ℕ) (b : Bool) → nat_lt rel 128 ≡ b → next < 65536 �
 rel_by next rel true test low small h =
     let less : rel < 128 = ltb-true rel 128 test in
     let ends : next + rel < 65536 = ltb-true (next + rel) 65536 h in
-    let d : distance next ((next + rel) % 65536) ≡ rel = omega (arith, low, less, ends) in
+    let d : distance next ((next + rel) % 65536) ≡ rel = omega arith in
     ap (λ n. cond (is_near n) (Some (Number (n % 256))) None) d
-    ∙ taken_if rel rel (near_low rel (omega (arith, less))) (omega (arith, small))
+    ∙ taken_if rel rel (near_low rel (omega arith)) (omega arith)
 rel_by next rel false test low small h =
     let more : 128 ≤ rel = ltb-false rel 128 test in
     let ends : 256 ≤ next + rel = leb-true 256 (next + rel) h in
-    let d : distance next ((next + 65280 + rel) % 65536) ≡ 65280 + rel = omega (arith, low, small, more, ends) in
+    let d : distance next ((next + 65280 + rel) % 65536) ≡ 65280 + rel = omega arith in
     ap (λ n. cond (is_near n) (Some (Number (n % 256))) None) d
-    ∙ taken_if (65280 + rel) rel (near_high (65280 + rel) (omega (arith, more))) (omega (arith, small))
+    ∙ taken_if (65280 + rel) rel (near_high (65280 + rel) (omega arith)) (omega arith)
 
 rel_back : (next rel : ℕ) → next < 65536 → rel < 256 → ends_inside next rel ≡ true
     → rel_of next (relative next rel) ≡ Some (Number rel)
@@ -60,8 +60,8 @@ block_back : (next address : ℕ) → next < 65536 → address < 2048
     → addr11_of next (near next address % 65536) ≡ Some (Number address)
 block_back next address low small =
     let to = near next address % 65536 in
-    let same : to / 2048 ≡ next / 2048 = omega (arith, low, small) in
-    let part : to % 2048 ≡ address = omega (arith, low, small) in
+    let same : to / 2048 ≡ next / 2048 = omega arith in
+    let part : to % 2048 ≡ address = omega arith in
     (λ i. cond (eq-eqb (to / 2048) (next / 2048) same i) (Some (Number (part i))) None)
 
 -- ---- values that count as an address
@@ -121,16 +121,16 @@ module _ (names : Meanings) (segment at : ℕ) (s : StandsAt names segment at) w
   address_back own field.Rel next number address holds inside leads =
       let p = and_parts (nat_lt next 0x10000) (ends_inside next number) inside in
       let low : next < 65536 = ltb-true next 65536 p.0 in
-      let same : next % 65536 ≡ next = omega (arith, low) in
-      let small : number < 256 = omega (arith, holds) in
+      let same : next % 65536 ≡ next = omega arith in
+      let small : number < 256 = omega arith in
       let to : relative next number ≡ address = same_Some _ address leads in
       ap (λ n. field_of names field.Rel n (as_value own segment address)) same
       ∙ rel_given own next address
       ∙ ap (rel_of next) (sym to) ∙ rel_back next number low small p.1
   address_back own field.Addr11 next number address holds inside leads =
       let low : next < 65536 = ltb-true next 65536 inside in
-      let same : next % 65536 ≡ next = omega (arith, low) in
-      let small : number < 2048 = omega (arith, holds) in
+      let same : next % 65536 ≡ next = omega arith in
+      let small : number < 2048 = omega arith in
       let to : near next number % 65536 ≡ address = same_Some _ address leads in
       ap (λ n. field_of names field.Addr11 n (as_value own segment address)) same
       ∙ block_given own next address
@@ -142,13 +142,13 @@ module _ (names : Meanings) (segment at : ℕ) (s : StandsAt names segment at) w
 -- ---- numbers that a field holds as they are
 
 byte_taken : (n : ℕ) → n < 256 → nat_le n 0xFF ≡ true
-byte_taken n h = le-leb n 255 (omega (arith, h))
+byte_taken n h = le-leb n 255 (omega arith)
 
 pub data_back : (names : Meanings) (next n : ℕ) → n < 256
     → field_of names field.Data next (plain n kind.Number) ≡ Some (Number n)
 unfolding field_of
 data_back names next n h =
-    let same : n % 256 ≡ n = omega (arith, h) in
+    let same : n % 256 ≡ n = omega arith in
     (λ i. cond (byte_taken n h i || nat_le 0xFF00 n) (Some (Number (same i))) None)
 
 pub data16_back : (names : Meanings) (next n : ℕ) → field_of names field.Data16 next (plain n kind.Number)

@@ -38,11 +38,10 @@ pub record IsClosed (lines : List LineTree) (a : Assignment) (k : ℕ) (ls : Lis
 closed : {lines : List LineTree} {a : Assignment} (ls : List SourceLine) {k : ℕ} {s : State} → LinesFrom lines a k s ls
     → (id : ℕ) → id < k + 2 → s.segment.id ≢ id → IsClosed lines a k ls id (filled lines a id k)
 closed {lines} {a} [] {k} h id low ne =
-    let count = h.count in
-    let here : length lines ≡ k = omega (arith, count) in
+    let here : length lines ≡ k = omega arith in
     record { filled = ap (filled lines a id) here; runs = refl }
 closed {lines} {a} (l ∷ ls) {k} {s} h id low ne =
-    let c = closed ls (next h) id (omega (arith, low)) (other_segment k id s.segment l low ne) in
+    let c = closed ls (next h) id (omega arith) (other_segment k id s.segment l low ne) in
     record { filled = c.filled ∙ passes h id ne; runs = skips h id ne ∙ c.runs }
 
 -- a line that gives nothing
@@ -85,19 +84,17 @@ module _ {lines : List LineTree} {a : Assignment} {k : ℕ} {s : State} {l : Sou
 pub ends : {lines : List LineTree} {a : Assignment} {k : ℕ} {s : State} (image : List ℕ) (parts : List CodeRange)
     → LinesFrom lines a k s (rest_of image parts) → IsClosed lines a k (rest_of image parts) s.segment.id s.given
 ends {lines} {a} {k} {s} image [] h =
-    let count = h.count in
-    let last : length lines ≡ suc k = omega (arith, count) in
+    let last : length lines ≡ suc k = omega arith in
     let none : s.given + 0 ≡ s.given = omega arith in
     record { filled = ap (filled lines a s.segment.id) last ∙ adds h ∙ none; runs = bare_runs image h tt s.segment.id }
 ends {lines} {a} {k} {s} image (part ∷ parts) h =
-    let low = h.known in
     let none : s.given + 0 ≡ s.given = omega arith in
     let c = closed (lines_in image part parts (statements_of image part)) (next h) s.segment.id
-    (omega (arith, low)) (λ e. omega (arith, low, e)) in
+    (omega arith) (λ e. omega arith) in
     record { filled = c.filled ∙ adds h ∙ none; runs = bare_runs image h tt s.segment.id ∙ c.runs }
 
 some_filled : (s : TextSegment) (size : ℕ) → 0 < size → if_filled s size ≡ absolute_of s size ∷ []
-some_filled s zero h = absurd (omega (arith, h))
+some_filled s zero h = absurd (omega arith)
 some_filled s (suc size) h = refl
 
 -- the segments of parts come after those of the lines before
@@ -105,8 +102,7 @@ parts_kept : {lines : List LineTree} {a : Assignment} (image : List ℕ) (parts 
     (low : ℕ) → AreInOrder low parts → LinesFrom lines a k s (rest_of image parts)
     → kept_before lines a (length lines) ≡ kept_before lines a k ++ kept_parts image k parts
 parts_kept {lines} {a} image [] {k} low order h =
-    let count = h.count in
-    let last : length lines ≡ suc k = omega (arith, count) in
+    let last : length lines ≡ suc k = omega arith in
     ap (kept_before lines a) last ∙ kept_same h refl ∙ sym (append-nil (kept_before lines a k))
 parts_kept {lines} {a} image (part ∷ parts) {k} low order h =
     let p = part_passed h in

@@ -14,11 +14,11 @@ by_test : (d : ℕ) (b : Bool) → nat_lt d 10 ≡ b → d < 16 → number_of (c
 by_test d true test low =
     let less : d < 10 = ltb-true d 10 test in
     let same : 48 + d - 48 ≡ d = omega arith in
-    ap (λ b. cond b (48 + d - 48) (48 + d - 55)) (lt-ltb (48 + d) 58 (omega (arith, less))) ∙ same
+    ap (λ b. cond b (48 + d - 48) (48 + d - 55)) (lt-ltb (48 + d) 58 (omega arith)) ∙ same
 by_test d false test low =
     let more : 10 ≤ d = ltb-false d 10 test in
     let same : 55 + d - 55 ≡ d = omega arith in
-    ap (λ b. cond b (55 + d - 48) (55 + d - 55)) (le-ltb (55 + d) 58 (omega (arith, more))) ∙ same
+    ap (λ b. cond b (55 + d - 48) (55 + d - 55)) (le-ltb (55 + d) 58 (omega arith)) ∙ same
 
 digit_back : (d : ℕ) → d < 16 → number_of (digit_glyph true d) ≡ d
 digit_back d low = by_test d (nat_lt d 10) refl low
@@ -31,7 +31,7 @@ address_in l =
 
 address_back : (address : ℕ) → address < 65536 → address_in (label_text address) ≡ address
 address_back address low =
-    let a = digit_back (address / 256 / 16) (omega (arith, low)) in
+    let a = digit_back (address / 256 / 16) (omega arith) in
     let b = digit_back (address / 256 % 16) (omega arith) in
     let c = digit_back (address % 256 / 16) (omega arith) in
     let d = digit_back (address % 256 % 16) (omega arith) in

@@ -74,5 +74,5 @@ module _ (p q r s : ℕ) (a : IsGlyph p) (b : IsGlyph q) (c : IsGlyph r) (d : Is
 -- a statement may define the name of a label, and an expression may have it
 pub label_is_free : (address : ℕ) → address < 65536 → IsFree (label_text address)
 label_is_free address h =
-    free_name _ _ _ _ (glyph (address / 256 / 16) (omega (arith, h))) (glyph (address / 256 % 16) (omega arith))
+    free_name _ _ _ _ (glyph (address / 256 / 16) (omega arith)) (glyph (address / 256 % 16) (omega arith))
     (glyph (address % 256 / 16) (omega arith)) (glyph (address % 256 % 16) (omega arith))

@@ -32,7 +32,7 @@ are_sound low (l ∷ ls) h = (h.0, are_sound (after_label low (label_of l)) ls h
 -- what comes after a label comes after what is before it
 pub still_from : (low address : ℕ) (o : Option ℕ) → LiesFrom low o → after_label low o ≤ address → low ≤ address
 still_from low address None lies from = from
-still_from low address (Some other) lies from = let first = lies.0 in omega (arith, first, from)
+still_from low address (Some other) lies from = omega arith
 
 with_none : (o : Option ℕ) (ds : List Defined) → ds ≡ []
     → label_defined (option_map label_text o) ++ ds ≡ label_defined (option_map label_text o)
@@ -55,4 +55,4 @@ pub found_below : (address : ℕ) (o : Option ℕ) (low : ℕ) → after_label l
     → LiesFrom low o → found_with address o ≡ None
 found_below address None low h small lies = refl
 found_below address (Some other) low h small lies =
-    ap (λ b. cond b (Some Label) None) (other_label address other small lies.1 (λ e. omega (arith, h, e)))
+    ap (λ b. cond b (Some Label) None) (other_label address other small lies.1 (λ e. omega arith))

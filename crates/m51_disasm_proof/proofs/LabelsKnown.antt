@@ -20,7 +20,7 @@ use Rattle.m51_disasm_proof.proofs.PartsPassed.{StatementsFrom, next_statement}
 pub place_value : (a : Assignment) (k address : ℕ) (segment : TextSegment) → address < 65536 → IsCode segment
     → IsSpot a k (record { segment = segment; address = address }) → here_at a k ≡ code_value segment.id address
 place_value a k address segment small code spot =
-    let same : address % 65536 ≡ address = omega (arith, small) in
+    let same : address % 65536 ≡ address = omega arith in
     (λ i. record {
       number = spot.address i % 65536;
       class = (spot.segment i).kind;
@@ -60,16 +60,12 @@ label_known {lines} {a} {image} {part} (x ∷ statements) {at} {k} {s} h inside 
     by_test false test there more = more there
     by_test true test there more =
         let same : x.at ≡ address = eqb-true x.at address test in
-        let at_is = h.place in
-        let here = h.follow.0.at_is in
-        let some = h.follow.0.some in
-        let last = h.follow.0.ends in
-        let place : s.segment.base + s.given ≡ address = omega (arith, at_is, here, same) in
+        let place : s.segment.base + s.given ≡ address = omega arith in
         label_here h.from address
         (ap (λ b. cond b (Some x.at) None) (ap (is_among (targets (statements_of image part))) same ∙ target)
         ∙ ap (λ n. Some n) same) j
         ∙ ap (λ v. Some v)
-        (place_value a k address s.segment (omega (arith, place, at_is, some, last, inside)) h.from.code
+        (place_value a k address s.segment (omega arith) h.from.code
         (subst (λ p. IsSpot a k (record { segment = s.segment; address = p })) place (spot_here h.from)))
 
 -- a statement begins at its address

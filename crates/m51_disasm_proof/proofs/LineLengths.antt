@@ -28,15 +28,15 @@ plain_few t f n = target_few t
 
 operand_few : (t : Target) (s : Slot) → length (operand_text t s) ≤ 7
 unfolding operand_text
-operand_few t (Imm f) = let few = data_few f.field f.number in omega (arith, few)
-operand_few t (Plain f) = let few = plain_few t f.field f.number in omega (arith, few)
+operand_few t (Imm f) = let few = data_few f.field f.number in omega arith
+operand_few t (Plain f) = let few = plain_few t f.field f.number in omega arith
 operand_few t s = omega arith
 
 after_few : (sign : List ℕ) (t : Target) (s : Slot) → length sign ≤ 1 → length (operand_after sign t s) ≤ 8
 unfolding operand_after
 after_few sign t Nothing h = omega arith
 after_few sign t s h = let few = operand_few t s in let e = length-append sign (operand_text t s) in
-    omega (arith, few, e, h)
+    omega arith
 
 mnemonic_few : (i : Instr) → length (text_of i).mnemonic ≤ 5
 mnemonic_few Nop = omega arith
@@ -48,7 +48,7 @@ joined_few m a b c h k l n =
     let one = length-append ((m ++ a) ++ b) c in
     let two = length-append (m ++ a) b in
     let three = length-append m a in
-    omega (arith, one, two, three, h, k, l, n)
+    omega arith
 
 content_few : (t : Target) (c : Content) → length (content_text t c) ≤ 29
 unfolding content_text spelled
@@ -75,5 +75,5 @@ line_few (line.Statement s) =
     let e = length-append (label_front s.label) (content_text s.target s.content) in
     let label = label_few s.label in
     let content = content_few s.target s.content in
-    omega (arith, e, label, content)
+    omega arith
 line_few line.End = omega arith

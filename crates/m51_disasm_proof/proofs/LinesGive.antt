@@ -99,11 +99,9 @@ module _ (lines : List LineTree) (a : Assignment) (image : List ℕ) (bytes : Ar
     unfolding final
     stands_at =
         let spot = spot_here h.from in
-        let some = h.follow.0.some in
-        let last = h.follow.0.ends in
         record {
           here = ap (object_value (segment_number lines a))
-              (place_value a k at s.segment (omega (arith, some, last, inside)) h.from.code
+              (place_value a k at s.segment (omega arith) h.from.code
               (record { segment = spot.segment; address = spot.address ∙ sym h.place })
               ∙ ap (λ n. code_value n at) same);
           absolute = fixed (segment_number lines a id);
@@ -137,9 +135,8 @@ module _ (lines : List LineTree) (a : Assignment) (image : List ℕ) (bytes : Ar
       → GiveFrom lines a image n s.segment given (rest_of image parts)
       → GiveFrom lines a image k s.segment s.given (lines_in image part parts statements)
   statements_give [] {parts} {at} {k} {s} n given h lead same last all more =
-      let ends = h.follow in
-      let here : n ≡ k = omega (arith, last) in
-      let none : given ≡ s.given = omega (arith, all, ends) in
+      let here : n ≡ k = omega arith in
+      let none : given ≡ s.given = omega arith in
       subst (λ m. GiveFrom lines a image m s.segment s.given (rest_of image parts)) here
       (subst (λ g. GiveFrom lines a image n s.segment g (rest_of image parts)) none more)
   statements_give (x ∷ statements) {parts} {at} n given h lead same last all more =
@@ -148,7 +145,7 @@ module _ (lines : List LineTree) (a : Assignment) (image : List ℕ) (bytes : Ar
             (λ address e. lead address (among_first (statement_target x) address (targets statements) e)),
         statements_give statements n given (next_statement h)
             (λ address e. lead address (among_more (statement_target x) address (targets statements) e)) same
-            (omega (arith, last)) (omega (arith, all, below)) more,
+            (omega arith) (omega arith) more,
       )
 
 parts_give : {lines : List LineTree} {a : Assignment} (image : List ℕ) → AreBytes image → AreFixed lines a
@@ -159,7 +156,8 @@ parts_give {lines} {a} image bytes fixed (part ∷ parts) {k} low order h =
     let statements : List Statement = statements_of image part in (
       bare_gives image h tt,
       statements_give lines a image bytes fixed part order.1.ends (k + 2)
-          (label_known statements (in_part h) order.1.ends) statements (suc k + length statements) part.size (in_part h) (λ address e. e) refl refl (omega arith)
+          (label_known statements (in_part h) order.1.ends) statements (suc k + length statements) part.size
+          (in_part h) (λ address e. e) refl refl (omega arith)
           (parts_give image bytes fixed parts _ order.2 (part_passed h).from),
     )
 

@@ -60,20 +60,18 @@ statements_room : {lines : List LineTree} {a : Assignment} {image : List ℕ} {p
     → count ≤ 253 → HaveRoom n s.segment part.size count (rest_of image parts)
     → HaveRoom k s.segment s.given count (lines_in image part parts statements)
 statements_room {image = image} {part = part} {parts = parts} [] {at} {k} {s} n count h last all inside small few room =
-    let stop = h.follow in
-    let here : n ≡ k = omega (arith, last) in
-    let none : part.size ≡ s.given = omega (arith, all, stop) in
+    let here : n ≡ k = omega arith in
+    let none : part.size ≡ s.given = omega arith in
     subst (λ m. HaveRoom m s.segment s.given count (rest_of image parts)) here
     (subst (λ g. HaveRoom n s.segment g count (rest_of image parts)) none room)
 statements_room {image = image} {part = part} (x ∷ statements) {at} n count h last all inside small few room =
-    let place = h.place in
     let below = follows_to image (part.base + part.size) (at + length_in x.content) statements h.follow.1 in (
       record {
-        address = omega (arith, place, below, inside);
-        size = omega (arith, small, all, below);
-        few = omega (arith, few);
+        address = omega arith;
+        size = omega arith;
+        few = omega arith;
       },
-      statements_room statements n count (next_statement h) (omega (arith, last)) (omega (arith, all, below)) inside
+      statements_room statements n count (next_statement h) (omega arith) (omega arith) inside
           small few room,
     )
 
@@ -86,16 +84,16 @@ parts_room : {lines : List LineTree} {a : Assignment} (image : List ℕ) (parts 
     → s.segment.base + s.given ≤ 65536 → s.given ≤ 65535
     → count + min 1 s.given + length parts ≤ 254 → HaveRoom k s.segment s.given count (rest_of image parts)
 parts_room image [] low count order sizes h address small few =
-    (record { address = omega (arith, address); size = omega (arith, small); few = omega (arith, few) }, tt)
+    (record { address = omega arith; size = omega arith; few = omega arith }, tt)
 parts_room image (part ∷ parts) {k} {s} low count order sizes h address small few =
     let inside = order.1.ends in
     let size = sizes part (in_first part parts) in
     let more = count + min 1 s.given in (
-      record { address = omega (arith, inside); size = omega arith; few = omega (arith, few) },
-      statements_room (statements_of image part) _ more (in_part h) refl (omega arith) inside (omega (arith, size))
-          (omega (arith, few))
+      record { address = omega arith; size = omega arith; few = omega arith },
+      statements_room (statements_of image part) _ more (in_part h) refl (omega arith) inside (omega arith)
+          (omega arith)
           (parts_room image parts _ more order.2 (λ p i. sizes p (in_later p part parts i)) (part_passed h).from inside
-          (omega (arith, size)) (omega (arith, few))),
+          (omega arith) (omega arith)),
     )
 
 -- ---- one line
@@ -143,8 +141,8 @@ counts given size = grind (arith, nat_tests)
 
 counted_after : (l : SourceLine) (given before count : ℕ) → before ≤ count + min 1 given
     → before + (min 1 (line_size l) - min 1 given) ≤ count_after count given l + min 1 (given_after given l)
-counted_after (line.Segment base) given before count h = omega (arith, h)
-counted_after l given before count h = omega (arith, h)
+counted_after (line.Segment base) given before count h = omega arith
+counted_after l given before count h = omega arith
 
 first_test : (b c d e : Bool) (o : Option ℕ) → b ≡ false → c ≡ false → d ≡ false → e ≡ false → o ≡ None
     → cond b (Some DEFINED_TWICE) (cond c (Some PAST_THE_END) (cond d (Some BAD_FORM) (cond e (Some TOO_MANY) o)))
@@ -186,7 +184,7 @@ module _ {lines : List LineTree} {a : Assignment} {k : ℕ} {s : State} {l : Sou
       ap one_if (ap (is_numbered_by lines a k) (body_is h) ∙ numbered_as lines a k l)
       ∙ (λ i. one_if (abs i && ((gave i == 0) && not (size_is_of h i == 0)))) ∙ counts s.given (line_size l) in
       let after = counted_after l s.given (segments_before lines a k) count few in
-      omega (arith, one, after)
+      omega arith
 
   -- the fault of one line
   no_fault_here : (count : ℕ) → externals_before lines (suc k) ≡ 0 → segments_before lines a k ≤ count + min 1 s.given
@@ -201,15 +199,12 @@ module _ {lines : List LineTree} {a : Assignment} {k : ℕ} {s : State} {l : Sou
       let gave : filled lines a (a.segment (suc k)).id (suc k) ≡ given_after s.given l =
       ap (λ (x : TextSegment). filled lines a x.id (suc k)) n.segment ∙ n.given in
       let place : a.place (suc k) ≡ t.base + given_after s.given l = (spot_here n).address in
-      let ends = room.address in
-      let small = room.size in
-      let most = room.few in
       let counted = count_next count few in
       let not_past : is_past lines a k ≡ false =
-      (λ i. le-ltb (kind_end (a.segment (suc k)).kind) (a.place (suc k)) (omega (arith, end_is, place, ends)) i
-      || le-ltb 65535 (filled lines a (a.segment (suc k)).id (suc k)) (omega (arith, gave, small)) i) in
+      (λ i. le-ltb (kind_end (a.segment (suc k)).kind) (a.place (suc k)) (omega arith) i
+      || le-ltb 65535 (filled lines a (a.segment (suc k)).id (suc k)) (omega arith) i) in
       let not_many : is_too_many lines a k ≡ false =
-      (λ i. le-ltb 254 (segments_before lines a (suc k)) (omega (arith, counted, most)) i || nat_lt 255 (none i)) in
+      (λ i. le-ltb 254 (segments_before lines a (suc k)) (omega arith) i || nat_lt 255 (none i)) in
       first_test (is_repeated lines k) (is_past lines a k) (is_misplaced (a.segment k) (body_at lines k))
       (is_too_many lines a k) (operand_fault lines (above lines a k) k (body_at lines k))
       not_repeated not_past ((λ i. is_misplaced (h.segment i) (body_is h i)) ∙ stands_well s.segment h.code l) not_many
@@ -220,14 +215,14 @@ none_placed : {lines : List LineTree} {a : Assignment} (ls : List SourceLine) {k
     → ((j : ℕ) → externals_before lines j ≡ 0) → LinesFrom lines a k s ls
     → segments_before lines a k ≤ count + min 1 s.given → HaveRoom k s.segment s.given count ls
     → (j : ℕ) → j < length ls → placed_fault lines a (k + j) ≡ None
-none_placed [] count none h few room j less = absurd (omega (arith, less))
+none_placed [] count none h few room j less = absurd (omega arith)
 none_placed {lines} {a} (l ∷ ls) {k} count none h few room zero less =
     let here : k + 0 ≡ k = omega arith in
     ap (placed_fault lines a) here ∙ no_fault_here h count (none (suc k)) few room.0
 none_placed {lines} {a} (l ∷ ls) {k} {s} count none h few room (suc j) less =
     let moved : k + suc j ≡ suc k + j = omega arith in
     ap (placed_fault lines a) moved
-    ∙ none_placed ls (count_after count s.given l) none (next h) (count_next h count few) room.1 j (omega (arith, less))
+    ∙ none_placed ls (count_after count s.given l) none (next h) (count_next h count few) room.1 j (omega arith)
 
 -- few and small parts have no fault
 pub whole_free : {a : Assignment} (image : List ℕ) (parts : List CodeRange) → AreInOrder 0 parts → AreSmall parts
@@ -237,9 +232,8 @@ pub whole_free : {a : Assignment} (image : List ℕ) (parts : List CodeRange) �
 unfolding segments_before
 whole_free {a} image parts order sizes few h j less =
     let here : j ≡ 0 + j = omega arith in
-    let count = h.count in
     ap (placed_fault (read_at 0 (whole image parts)) a) here
     ∙ none_placed (whole image parts) 0 (none_external (whole image parts)) h (omega arith) (
       record { address = omega arith; size = omega arith; few = omega arith },
-      parts_room image parts 0 0 order sizes (next h) (omega arith) (omega arith) (omega (arith, few)),
-    ) j (omega (arith, less, count))
+      parts_room image parts 0 0 order sizes (next h) (omega arith) (omega arith) (omega arith),
+    ) j (omega arith)

@@ -40,7 +40,7 @@ segment_is lines k names last s =
 -- a segment of an earlier line that is not open before a line is not open after it
 pub other_segment : (k id : ℕ) (s : TextSegment) (l : SourceLine) → id < k + 2 → s.id ≢ id
     → (segment_after k s l).id ≢ id
-other_segment k id s (line.Segment base) low ne = λ e. omega (arith, low, e)
+other_segment k id s (line.Segment base) low ne = λ e. omega arith
 other_segment k id s l low ne = ne
 
 -- an absolute segment of CODE
@@ -150,8 +150,7 @@ module _ {lines : List LineTree} {a : Assignment} {k : ℕ} {s : State} {l : Sou
 
   fresh_next : (id : ℕ) → k + 2 ≤ id → IsFresh lines a (suc k) ls id
   fresh_next id le =
-      let low = h.known in
-      let ne : s.segment.id ≢ id = λ e. omega (arith, low, le, e) in
+      let ne : s.segment.id ≢ id = λ e. omega arith in
       let f = h.fresh id le in
       record { filled = passes id ne ∙ f.filled; runs = f.runs ∙ skips id ne }
 
@@ -163,7 +162,7 @@ module _ {lines : List LineTree} {a : Assignment} {k : ℕ} {s : State} {l : Sou
 
   known_by : (x : SourceLine) → (segment_after k s.segment x).id < suc k + 2
   known_by (line.Segment base) = omega arith
-  known_by x = let low = h.known in omega (arith, low)
+  known_by x = omega arith
 
   labels_next : (address : ℕ) → after_label s.low (label_of l) ≤ address → address < 65536
       → IsNew lines (suc k) ls address
@@ -183,13 +182,13 @@ module _ {lines : List LineTree} {a : Assignment} {k : ℕ} {s : State} {l : Sou
   next = record {
     fits = h.fits;
     says = h.says.1;
-    count = (let e = h.count in omega (arith, e));
+    count = (omega arith);
     good = h.good.2;
     segment = next_segment;
     code = still_code k s.segment l h.code;
     given = given_by l (fresh_next (k + 2) (omega arith)).filled adds;
     known = known_by l;
-    fresh = λ id le. fresh_next id (omega (arith, le));
+    fresh = λ id le. fresh_next id (omega arith);
     labels = labels_next;
   }
 
@@ -211,7 +210,7 @@ at_start ls a f good = record {
   fits = f;
   says = says_from (read_at 0 ls) 0 ls
       (λ j. let same : 0 + j ≡ j = omega arith in ap (slice_get (read_at 0 ls)) same);
-  count = (let e = length_read 0 ls in omega (arith, e));
+  count = (let e = length_read 0 ls in omega arith);
   good = good;
   segment = f.first;
   code = record { kind_is = refl; fixed = refl };
@@ -224,7 +223,7 @@ at_start ls a f good = record {
 place_is : (k : ℕ) (s : TextSegment) (given address : ℕ) (l : SourceLine) → address ≡ s.base + given
     → place_after address l ≡ (segment_after k s l).base + given_after given l
 place_is k s given address (line.Segment base) at = omega arith
-place_is k s given address l at = omega (arith, at)
+place_is k s given address l at = omega arith
 
 -- each line is in its spot
 pub spots_are : {lines : List LineTree} {a : Assignment} (ls : List SourceLine) {k : ℕ} {s : State} (address : ℕ)

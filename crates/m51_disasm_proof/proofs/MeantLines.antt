@@ -34,7 +34,7 @@ read_at k (l ∷ ls) = read_line k l ∷ read_at (suc k) ls
 pub read_is : (k n : ℕ) (ls : List SourceLine) → n ≡ k + 1 → read_from n ls ≡ read_at k ls
 read_is k n [] e = refl
 read_is k n (l ∷ ls) e = (λ i. record { file = 0; line = e i; stmt = meant l }
-    ∷ read_is (suc k) (n + 1) ls (omega (arith, e)) i)
+    ∷ read_is (suc k) (n + 1) ls (omega arith) i)
 
 pub length_read : (k : ℕ) (ls : List SourceLine) → length (read_at k ls) ≡ length ls
 length_read k [] = refl

@@ -73,7 +73,7 @@ register_looks n h = of_register (λ n. looks.look_of (meant.R n) ≡ isa.look_o
 pointer_looks : (n : ℕ) → n < 2 → looks.look_of (meant.AtR n) ≡ isa.look_of (AtR n)
 pointer_looks zero h = refl
 pointer_looks (suc zero) h = refl
-pointer_looks (suc (suc n)) h = absurd (omega (arith, h))
+pointer_looks (suc (suc n)) h = absurd (omega arith)
 
 low_byte : (n : ℕ) → n % 256 < 65536
 low_byte n = omega arith
@@ -179,7 +179,7 @@ slot_read t (AtR n) there h = record {
   good = h;
   look = pointer_looks n h;
   cut = λ rest ws ends c. after_word (sign_word 0x40) ((codes "R" ++ digit_text n) ++ rest) _ (at_stands _)
-      (register_one n (omega (arith, h)) rest ws ends c);
+      (register_one n (omega arith) rest ws ends c);
 }
 slot_read t (Imm f) there h = data_read t f.field f.byte f.number h
 slot_read t (Plain f) there h = address_read t f.field f.byte f.number h

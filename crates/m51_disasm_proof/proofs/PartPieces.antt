@@ -57,20 +57,19 @@ statements_run : {lines : List LineTree} {a : Assignment} {image : List ℕ} {pa
     → runs_from lines a s.segment.id k (read_at k (lines_in image part parts statements))
     ≡ if_bytes s.given (bytes_at image at (part.base + part.size - at)) []
 statements_run {lines} {a} {image} {part} {parts} [] {at} {k} {s} n h gives last none =
-    let ends = h.follow in
-    let here : k ≡ n = omega (arith, last) in
-    let size : 0 ≡ part.base + part.size - at = omega (arith, ends) in
+    let here : k ≡ n = omega arith in
+    let size : 0 ≡ part.base + part.size - at = omega arith in
     ap (λ i. runs_from lines a s.segment.id i (read_at i (rest_of image parts))) here ∙ none
     ∙ ap (λ i. if_bytes s.given (bytes_at image at i) []) size
 statements_run {lines} {a} {image} {part} {parts} (x ∷ statements) {at} {k} {s} n h gives last none =
     let len = length_in x.content in
     let end = part.base + part.size in
     let below = follows_to image end (at + len) statements h.follow.1 in
-    let size : len + (end - (at + len)) ≡ end - at = omega (arith, below) in
+    let size : len + (end - (at + len)) ≡ end - at = omega arith in
     let xs : List ℕ = bytes_at image at len in
     let ys : List ℕ = bytes_at image (at + len) (end - (at + len)) in
     let more = runs_from lines a s.segment.id (suc k) (read_at (suc k) (lines_in image part parts statements)) in
-    let later = statements_run statements n (next_statement h) gives.1 (omega (arith, last)) none in
+    let later = statements_run statements n (next_statement h) gives.1 (omega arith) none in
     let gave : offset_at lines a k ≡ s.given =
     ap (λ (y : TextSegment). filled lines a y.id k) h.from.segment ∙ h.from.given in
     let content : content_at lines a k ≡ only_bytes xs =
@@ -83,7 +82,7 @@ statements_run {lines} {a} {image} {part} {parts} (x ∷ statements) {at} {k} {s
     (bytes_joined image at len (end - (at + len)) ∙ ap (bytes_at image at) size)
 
 some_run : (image : List ℕ) (at n : ℕ) → 0 < n → if_bytes 0 (bytes_at image at n) [] ≡ (0, bytes_at image at n) ∷ []
-some_run image at zero h = absurd (omega (arith, h))
+some_run image at zero h = absurd (omega arith)
 some_run image at (suc n) h = refl
 
 -- a part is one run
@@ -111,9 +110,8 @@ place_after : (xs ys : List Kept) (y : Kept) → AreBelow y.id xs → place_in (
 place_after [] ys y below =
     ap (λ b. cond b (Some 0) (option_map (λ n. suc n) (place_in (ids ys) y.id))) (eq-eqb y.id y.id refl)
 place_after (x ∷ xs) ys y below =
-    let less = below.0 in
     ap (λ b. cond b (Some 0) (option_map (λ n. suc n) (place_in (ids (xs ++ y ∷ ys)) y.id)))
-    (ne_eqb x.id y.id (λ e. omega (arith, less, e)))
+    (ne_eqb x.id y.id (λ e. omega arith))
     ∙ ap (option_map (λ n. suc n)) (place_after xs ys y below.1)
 
 number_after : (all xs ys : List Kept) (y : Kept) → all ≡ xs ++ y ∷ ys → AreBelow y.id xs
@@ -125,7 +123,7 @@ number_after all xs ys y is below = ap (λ ks. from_one (place_in (ids ks) y.id)
 one_below : (m n : ℕ) (xs : List Kept) (y : Kept) → m ≤ n → AreBelow m xs → y.id < n → AreBelow n (xs ++ y ∷ [])
 one_below m n [] y le below less = (less, tt)
 one_below m n (x ∷ xs) y le below less =
-    let first = below.0 in (omega (arith, first, le), one_below m n xs y le below.1 less)
+    let first = below.0 in (omega arith, one_below m n xs y le below.1 less)
 
 -- ---- the pieces of parts, before whose segments there are others
 
@@ -143,7 +141,7 @@ parts_pieces {lines} {a} image (part ∷ parts) {k} xs low order h gives all bel
     let number : segment_number lines a y.id ≡ suc (length xs) =
     number_after (kept lines a) xs (kept_parts image later parts) y all below in
     let more : suc (length (xs ++ y ∷ [])) ≡ suc (suc (length xs)) =
-    (let e = length-append xs (y ∷ []) in omega (arith, e)) in
+    (let e = length-append xs (y ∷ []) in omega arith) in
     let rest = parts_pieces image parts (xs ++ y ∷ []) _ order.2 p.from (p.give gives.1)
     (all ∙ sym (append_assoc xs (y ∷ []) (kept_parts image later parts)))
     (one_below (k + 2) (later + 2) xs y (omega arith) below (omega arith)) in

@@ -33,7 +33,7 @@ unfolding Pairs Every
 pairs_by R [] h = tt
 pairs_by R (x ∷ xs) h = (
   λ y i. let at = at_in xs y i in h 0 (suc at.index) x y (omega arith) refl at.got,
-  pairs_by R xs (λ i j u v less one two. h (suc i) (suc j) u v (omega (arith, less)) one two),
+  pairs_by R xs (λ i j u v less one two. h (suc i) (suc j) u v (omega arith) one two),
 )
 
 kept_by : {A : Type 0} (b : Bool) (x y : A) (xs : List A) → In y (cond b (x ∷ xs) xs) → ((b ≡ true) × (x ≡ y)) ⊎ In y xs
@@ -95,12 +95,12 @@ no_meeting a b m n none some more =
     (λ (under : a < b + n). absurd (⊎_elim
     (λ (first : a < b). none (
       code_cell b,
-      record { space = refl; from = omega (arith, first); below = below },
-      record { space = refl; from = omega arith; below = omega (arith, more) },
+      record { space = refl; from = omega arith; below = below },
+      record { space = refl; from = omega arith; below = omega arith },
     ))
     (λ (first : b ≤ a). none (
       code_cell a,
-      record { space = refl; from = omega arith; below = omega (arith, some) },
+      record { space = refl; from = omega arith; below = omega arith },
       record { space = refl; from = first; below = under },
     ))
     (order a b)))
@@ -134,7 +134,7 @@ module _ (l : LayoutParts) (sound : IsSound l) where
       (pairs_by (λ s t. Apart (unit_part s) (unit_part t)) l.units (λ u v s t less one two.
       let p = sound.is_code u s one in
       let q = sound.is_code v t two in
-      let ne : s ≢ t = λ e. let same = sound.once u v t (one ∙ ap (λ x. Some x) e) two in omega (arith, less, same) in
+      let ne : s ≢ t = λ e. let same = sound.once u v t (one ∙ ap (λ x. Some x) e) two in omega arith in
       subst (λ o. Apart (placed_range o) (unit_part t)) (sym p.1)
       (subst (λ o. Apart (placed_range (Some p.0)) (placed_range o)) (sym q.1)
       (placed_apart s t p.0 q.0 ne p.1 q.1 p.2 q.2))))
@@ -158,10 +158,10 @@ module _ (l : LayoutParts) (sound : IsSound l) where
   unfolding parts_below
   below_from zero p i = absurd (no_element p i)
   below_from (suc n) p i = elim (in_append p (parts_below all n) (filter (λ unit. unit.base == n) all) i) [
-    | inl j ↦ let r = below_from n p j in let less = r.1 in (r.0, omega (arith, less))
+    | inl j ↦ let r = below_from n p j in let less = r.1 in (r.0, omega arith)
     | inr j ↦
         let r = in_filter (λ (unit : CodeRange). unit.base == n) all p j in
-        let same = eqb-true p.base n r.0 in (r.1, omega (arith, same))
+        let same = eqb-true p.base n r.0 in (r.1, omega arith)
   ]
 
   at_base : (n : ℕ) (p : CodeRange) → In p (filter (λ unit. unit.base == n) all) → In p all × (p.base ≡ n)
@@ -169,14 +169,14 @@ module _ (l : LayoutParts) (sound : IsSound l) where
 
   not_here : (n : ℕ) (p q : CodeRange) → p.base ≡ n → q.base ≡ n → 0 < p.size → 0 < q.size → Apart p q → Before p q
   not_here n p q one two some more apart = elim (apart some more) [
-    | inl e ↦ absurd (omega (arith, e, one, two, some))
-    | inr e ↦ absurd (omega (arith, e, one, two, more))
+    | inl e ↦ absurd (omega arith)
+    | inr e ↦ absurd (omega arith)
   ]
 
   earlier : (n : ℕ) (p q : CodeRange) → p.base < n → q.base ≡ n → 0 < p.size → 0 < q.size → Apart p q → Before p q
   earlier n p q one two some more apart = elim (apart some more) [
     | inl e ↦ e
-    | inr e ↦ absurd (omega (arith, e, one, two, more))
+    | inr e ↦ absurd (omega arith)
   ]
 
   below_ordered : (n : ℕ) → Pairs Before (parts_below all n)
@@ -195,7 +195,7 @@ module _ (l : LayoutParts) (sound : IsSound l) where
       let less = a.1 in
       let same = b.1 in
       let ne : p ≢ q = λ e. let f : p.base ≡ q.base = ap (λ (x : CodeRange). x.base) e in
-      omega (arith, f, less, same) in
+      omega arith in
       earlier n p q less same (inside p a.0).some (inside q b.0).some
       (pairs_both Apart all apart_back all_apart p q ne a.0 b.0))
 

@@ -45,11 +45,10 @@ module _ {lines : List LineTree} {a : Assignment} {k : ℕ} {s : State} {l : Sou
   -- a line that keeps the segment adds none
   pub kept_same : segment_after k s.segment l ≡ s.segment → kept_before lines a (suc k) ≡ kept_before lines a k
   kept_same same =
-      let low = h.known in
       kept_next
       ∙ ap (λ x. kept_before lines a k ++ begun_by lines a k x) same
       ∙ ap (λ b. kept_before lines a k ++ cond b (if_filled s.segment (size_of lines a s.segment.id)) [])
-      (ne_eqb s.segment.id (k + 2) (λ e. omega (arith, low, e)))
+      (ne_eqb s.segment.id (k + 2) (λ e. omega arith))
       ∙ append-nil (kept_before lines a k)
 
 -- the segment of a part that begins at line k
@@ -83,23 +82,22 @@ module _ {lines : List LineTree} {a : Assignment} {image : List ℕ} {part : Cod
       → StatementsFrom lines a image part parts (at + length_in x.content) (suc k) (after k s (line_in image part x))
       statements
   next_statement h =
-      let place = h.place in record { follow = h.follow.1; place = omega (arith, place); from = next h.from }
+      let place = h.place in record { follow = h.follow.1; place = omega arith; from = next h.from }
 
   statements_passed : (statements : List Statement) {at k : ℕ} {s : State} (n given : ℕ)
       → StatementsFrom lines a image part parts at k s statements → n ≡ k + length statements
       → given ≡ s.given + (part.base + part.size - at)
       → Passed lines a image parts k s (lines_in image part parts statements) n given
   statements_passed [] {at} {k} {s} n given h last all =
-      let ends = h.follow in
-      let here : k ≡ n = omega (arith, last) in
-      let none : s.given ≡ given = omega (arith, all, ends) in
+      let here : k ≡ n = omega arith in
+      let none : s.given ≡ given = omega arith in
       subst (λ m. Passed lines a image parts k s (rest_of image parts) m given) here
       (subst (λ g. Passed lines a image parts k s (rest_of image parts) k g) none
       (record { low = s.low; from = h.from; kept = refl; give = λ gives. gives }))
   statements_passed (x ∷ statements) {at} n given h last all =
       let below = follows_to image (part.base + part.size) (at + length_in x.content) statements h.follow.1 in
-      let p = statements_passed statements n given (next_statement h) (omega (arith, last))
-      (omega (arith, all, below)) in
+      let p = statements_passed statements n given (next_statement h) (omega arith)
+      (omega arith) in
       record { low = p.low; from = p.from; kept = p.kept ∙ kept_same h.from refl; give = λ gives. p.give gives.1 }
 
   -- the lines after those of a part
@@ -122,7 +120,7 @@ pub parts_passed : {lines : List LineTree} {a : Assignment} (image : List ℕ) (
     → PartThere lines a image n parts
 unfolding part_lines
 parts_passed {lines} {a} image [] parts k n h e =
-    let here : k ≡ n = omega (arith, e) in subst (λ m. PartThere lines a image m parts) here h
+    let here : k ≡ n = omega arith in subst (λ m. PartThere lines a image m parts) here h
 parts_passed image (part ∷ before) parts k n h e =
     let statements : List Statement = statements_of image part in
     let p = part_passed h.from in
@@ -130,7 +128,7 @@ parts_passed image (part ∷ before) parts k n h e =
     let two = length-map statements (line_in image part) in
     parts_passed image before parts (suc k + length statements) n
     (record { least = _; order = h.order.2; start = _; from = p.from; give = p.give h.give.1 })
-    (omega (arith, e, one, two))
+    (omega arith)
 
 -- ---- one statement
 
@@ -148,7 +146,7 @@ pub statement_there : {lines : List LineTree} {a : Assignment} {image : List ℕ
 statement_there [] n h gives j x e is = absurd (cc e)
 statement_there {lines} {a} {image} (y ∷ statements) {at} {k} {s} n h gives zero x e is =
     let same : y ≡ x = cc e in
-    let here : k ≡ n = omega (arith, is) in
+    let here : k ≡ n = omega arith in
     let place : s.segment.base + s.given ≡ y.at = sym h.place ∙ h.follow.0.at_is in
     subst (StatementThere lines a image n s.segment) same
     (subst (λ m. StatementThere lines a image m s.segment y) here (record {
@@ -156,4 +154,4 @@ statement_there {lines} {a} {image} (y ∷ statements) {at} {k} {s} n h gives ze
       gives = subst (λ p. LineGives lines a image k p (length_in y.content)) place gives.0;
     }))
 statement_there (y ∷ statements) n h gives (suc j) x e is =
-    statement_there statements n (next_statement h) gives.1 j x e (omega (arith, is))
+    statement_there statements n (next_statement h) gives.1 j x e (omega arith)

@@ -29,8 +29,8 @@ FitsSlot s = Unit {0}
 kept_is : (at : Field) (n : ℕ) → FitsIn at n → kept at n ≡ n
 kept_is field.Data16 n h = refl
 kept_is field.Addr16 n h = refl
-kept_is field.Addr11 n h = let same : n % 2048 ≡ n = omega (arith, h) in same
-kept_is at n h = let same : n % 256 ≡ n = omega (arith, h) in same
+kept_is field.Addr11 n h = let same : n % 2048 ≡ n = omega arith in same
+kept_is at n h = let same : n % 256 ≡ n = omega arith in same
 
 -- so a field holds it
 pub slot_kept : (s : Slot) → FitsSlot s → HasRoom s
@@ -114,21 +114,21 @@ module _ (second third : ℕ) where
   written_is : (first : ℕ) → second < 256 → third < 256 → (b c : Bool)
       → written_by first b c ≡ first ∷ second ∷ third ∷ []
   written_is first s t true c =
-      let high : first % 32 + 32 * ((first / 32 * 256 + second) / 256) ≡ first = omega (arith, s) in
-      let low : (first / 32 * 256 + second) % 256 ≡ second = omega (arith, s) in
+      let high : first % 32 + 32 * ((first / 32 * 256 + second) / 256) ≡ first = omega arith in
+      let low : (first / 32 * 256 + second) % 256 ≡ second = omega arith in
       cc
   written_is first s t false true =
-      let high : (second * 256 + third) / 256 ≡ second = omega (arith, t) in
-      let low : (second * 256 + third) % 256 ≡ third = omega (arith, t) in
+      let high : (second * 256 + third) / 256 ≡ second = omega arith in
+      let low : (second * 256 + third) % 256 ≡ third = omega arith in
       cc
   written_is first s t false false = refl
 
   -- and their numbers have room
   field_fits : (first : ℕ) → first < 256 → second < 256 → third < 256 → (at : Field) (byte : ℕ)
       → FitsIn at (in_field first at byte)
-  field_fits first f s t field.Data16 byte = omega (arith, s, t)
-  field_fits first f s t field.Addr16 byte = omega (arith, s, t)
-  field_fits first f s t field.Addr11 byte = omega (arith, f, s)
+  field_fits first f s t field.Data16 byte = omega arith
+  field_fits first f s t field.Addr16 byte = omega arith
+  field_fits first f s t field.Addr11 byte = omega arith
   field_fits first f s t at byte = one_of (byte == 1)
     where
       one_of : (b : Bool) → cond b second third < 256

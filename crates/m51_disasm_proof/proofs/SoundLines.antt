@@ -84,8 +84,8 @@ address_sound t next at number usual fits led = absurd (cc usual)
 data_sound : (at : Field) (number : ℕ) → FitsIn at number → number < 65536
 data_sound field.Data16 number h = h
 data_sound field.Addr16 number h = h
-data_sound field.Addr11 number h = omega (arith, h)
-data_sound at number h = omega (arith, h)
+data_sound field.Addr11 number h = omega arith
+data_sound at number h = omega arith
 
 slot_sound : (t : Target) (next : ℕ) (s : Slot) → is_usual s ≡ true → FitsSlot s
     → IsLed t (slot_address next (field_in s))
@@ -121,7 +121,7 @@ decoded_here image bytes at =
 label_first : (b : Bool) (low at next : ℕ) → low ≤ at → at < 65536 → at + 1 ≤ next
     → LiesFrom low (cond b (Some at) None) × (after_label low (cond b (Some at) None) ≤ next)
 label_first true low at next from small le = ((from, small), le)
-label_first false low at next from small le = (tt, omega (arith, from, le))
+label_first false low at next from small le = (tt, omega arith)
 
 module _ (image : List ℕ) (bytes : AreBytes image) where
   code_sound : (begin : List ℕ) (at byte : ℕ) (i : Instr) (b : Bool) → byte < 256 → IsDecoded (three_at image at) i
@@ -153,14 +153,11 @@ module _ (image : List ℕ) (bytes : AreBytes image) where
       → Follow image end at statements → end ≤ 65536 → low ≤ at → ((next : ℕ) → next ≤ end → AreGood next rest)
       → AreGood low (map (line_of begin led) statements ++ rest)
   statements_good begin led [] end at low rest follow ends from more =
-      more low (let e = follow in omega (arith, e, from))
+      more low (omega arith)
   statements_good begin led (s ∷ statements) end at low rest follow ends from more =
       let here = follow.0 in
-      let at_is = here.at_is in
-      let some = here.some in
-      let last = here.ends in
-      let label = label_first (is_among led s.at) low s.at (at + length_in s.content) (omega (arith, at_is, from))
-      (omega (arith, at_is, some, last, ends)) (omega (arith, at_is, some)) in (
+      let label = label_first (is_among led s.at) low s.at (at + length_in s.content) (omega arith)
+      (omega arith) (omega arith) in (
         record {
           label = label_sound low (cond (is_among led s.at) (Some s.at) None) label.0;
           content = subst (λ (x : Statement). IsContent (written_target begin (statement_target x)) x.content)
@@ -174,14 +171,12 @@ module _ (image : List ℕ) (bytes : AreBytes image) where
       → AreGood next (rest_of image parts)
   parts_good [] low next order le = (tt, tt, tt)
   parts_good (part ∷ parts) low next order le =
-      let first = order.0 in
-      let some = order.1.some in
       let ends = order.1.ends in
       let statements : List Statement = statements_of image part in (
-        omega (arith, some, ends),
+        omega arith,
         tt,
         statements_good (beginnings statements) (targets statements) statements (part.base + part.size) part.base next
-            (rest_of image parts) (part_follows image part) ends (omega (arith, first, le))
+            (rest_of image parts) (part_follows image part) ends (omega arith)
             (λ n below. parts_good parts (part.base + part.size) n order.2 below),
       )
 

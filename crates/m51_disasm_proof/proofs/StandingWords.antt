@@ -118,7 +118,7 @@ no_run b h = (or_parts (is_ascii_alphanumeric b) (63 == b || (95 == b || false))
 two_digits : (v b : ℕ) (cs : List ℕ) → b < 256 → value_in 16 v (hex2 b ++ cs) ≡ value_in 16 (v * 256 + b) cs
 two_digits v b cs h =
     let same : (v * 16 + b / 16) * 16 + b % 16 ≡ v * 256 + b = omega arith in
-    digit_step v (b / 16) (digit_glyph true (b % 16) ∷ cs) (omega (arith, h))
+    digit_step v (b / 16) (digit_glyph true (b % 16) ∷ cs) (omega arith)
     ∙ digit_step (v * 16 + b / 16) (b % 16) cs (omega arith)
     ∙ ap (λ n. value_in 16 n cs) same
 
@@ -126,25 +126,25 @@ byte_number : (n : ℕ) → n < 256 → number_of (byte_text n) ≡ Some n
 unfolding number_of
 byte_number n h =
     let same : 0 * 256 + n ≡ n = omega arith in
-    ap of_16_bits (two_digits 0 n [] h ∙ ap Some same) ∙ in_16_bits n (omega (arith, h))
+    ap of_16_bits (two_digits 0 n [] h ∙ ap Some same) ∙ in_16_bits n (omega arith)
 
 word_number : (n : ℕ) → n < 65536 → number_of (word_text n) ≡ Some n
 unfolding number_of
 word_number n h =
     let same : (0 * 256 + n / 256) * 256 + n % 256 ≡ n = omega arith in
-    ap of_16_bits (two_digits 0 (n / 256) (hex2 (n % 256)) (omega (arith, h))
+    ap of_16_bits (two_digits 0 (n / 256) (hex2 (n % 256)) (omega arith)
     ∙ two_digits (0 * 256 + n / 256) (n % 256) [] (omega arith) ∙ ap Some same)
     ∙ in_16_bits n h
 
 byte_run : (n : ℕ) → n < 256 → list_all is_ascii_alphanumeric (byte_text n) ≡ true
 byte_run n h =
-    let high = glyph_run (n / 16) (omega (arith, h)) in
+    let high = glyph_run (n / 16) (omega arith) in
     let low = glyph_run (n % 16) (omega arith) in
     rw high (rw low refl)
 
 word_run : (n : ℕ) → n < 65536 → list_all is_ascii_alphanumeric (word_text n) ≡ true
 word_run n h =
-    let a = glyph_run (n / 256 / 16) (omega (arith, h)) in
+    let a = glyph_run (n / 256 / 16) (omega arith) in
     let b = glyph_run (n / 256 % 16) (omega arith) in
     let c = glyph_run (n % 256 / 16) (omega arith) in
     let d = glyph_run (n % 256 % 16) (omega arith) in

@@ -75,7 +75,7 @@ module _ (image : List ℕ) (bytes : AreBytes image) (begin : List ℕ) (end at 
   byte_gives : Gives (content.Byte byte)
   byte_gives named =
       let low = bytes at in
-      let same : byte % 256 ≡ byte = omega (arith, low) in
+      let same : byte % 256 ≡ byte = omega arith in
       record {
         content =
             ap (λ r. followed_by (item_given Byte (item.Value (tree.Number byte)) r) nothing) byte_field

@@ -32,34 +32,34 @@ code_within at end byte i true h below = (
   leb-true (at + length_of i) end
       (and_parts (nat_le (at + length_of i) end) (all_inside (at + length_of i) (text_of i)) h).0,
 )
-code_within at end byte i false h below = (omega arith, omega (arith, below))
+code_within at end byte i false h below = (omega arith, omega arith)
 
 -- a statement has a byte, and does not pass the end
 content_within : (at end byte : ℕ) (o : Option Instr) → at < end
     → (1 ≤ length_in (content_of end at byte o)) × (at + length_in (content_of end at byte o) ≤ end)
-content_within at end byte None below = (omega arith, omega (arith, below))
+content_within at end byte None below = (omega arith, omega arith)
 content_within at end byte (Some i) below = code_within at end byte i (can_stand end at i) refl below
 
 follow : (image : List ℕ) (end passed at more from : ℕ) → from ≡ at + passed → at + more ≡ end → passed ≤ more
     → Follow image end from (statements_from image end passed at more)
 unfolding statements_from statement_at
-follow image end passed at zero from e ends fits = omega (arith, e, ends, fits)
+follow image end passed at zero from e ends fits = omega arith
 follow image end (suc passed) at (suc more) from e ends fits =
-    follow image end passed (at + 1) more from (omega (arith, e)) (omega (arith, ends)) (omega (arith, fits))
+    follow image end passed (at + 1) more from (omega arith) (omega arith) (omega arith)
 follow image end zero at (suc more) from e ends fits =
-    let here : from ≡ at = omega (arith, e) in
+    let here : from ≡ at = omega arith in
     let s : Statement = statement_at image end at in
-    let within = content_within at end (slice_index image at) (instr_in_image image at) (omega (arith, ends)) in
+    let within = content_within at end (slice_index image at) (instr_in_image image at) (omega arith) in
     let some : 1 ≤ length_in s.content = within.0 in
     let last : at + length_in s.content ≤ end = within.1 in (
       record {
         at_is = here;
         is = ap (statement_at image end) (sym here);
         some = some;
-        ends = omega (arith, here, last);
+        ends = omega arith;
       },
       follow image end (length_in s.content - 1) (at + 1) more (from + length_in s.content)
-          (omega (arith, here, some)) (omega (arith, ends)) (omega (arith, last, some, ends)),
+          (omega arith) (omega arith) (omega arith),
     )
 
 pub part_follows : (image : List ℕ) (part : CodeRange)
@@ -69,5 +69,5 @@ part_follows image part =
 
 -- they end at the end of the part
 pub follows_to : (image : List ℕ) (end at : ℕ) (statements : List Statement) → Follow image end at statements → at ≤ end
-follows_to image end at [] h = let e = h in omega (arith, e)
-follows_to image end at (s ∷ statements) h = let some = h.0.some in let ends = h.0.ends in omega (arith, some, ends)
+follows_to image end at [] h = omega arith
+follows_to image end at (s ∷ statements) h = let some = h.0.some in omega arith

@@ -89,7 +89,7 @@ byte_read : (t : Target) (byte : ℕ) → byte < 256
     → IsReadBody (content_text t (content.Byte byte)) (body_of t (content.Byte byte))
 unfolding content_text
 byte_read t byte h =
-    let few : byte < 65536 = omega (arith, h) in
+    let few : byte < 65536 = omega arith in
     record {
       begins = record { name = codes "DB"; rest = 32 ∷ byte_text byte; is = refl; written = refl };
       good = λ at. (few, tt);

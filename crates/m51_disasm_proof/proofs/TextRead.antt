@@ -58,7 +58,7 @@ no_feed (c ∷ text) h =
     )
 
 at_return : (text : List ℕ) (index : ℕ) → list_all is_character text ≡ true → get_or text index 0 ≡ 13 → ⊥
-at_return [] index h e = absurd (omega (arith, e))
+at_return [] index h e = absurd (omega arith)
 at_return (c ∷ text) zero h e = no_return c (left (is_character c) (list_all is_character text) h) e
 at_return (c ∷ text) (suc index) h e = at_return text index (right (is_character c) (list_all is_character text) h) e
 
@@ -116,7 +116,7 @@ all_lines source ls is few bytes =
     ap (λ b. take 65536 (lines_with (brought [] 8) 8 0 1 (lines b))) bytes
     ∙ ap (λ parts. take 65536 (lines_with (brought [] 8) 8 0 1 parts)) (lines_are ls is)
     ∙ ap (take 65536) (own_lines 1 ls is)
-    ∙ take_all 65536 (numbered 1 ls) (let e = count 1 ls in omega (arith, e, few))
+    ∙ take_all 65536 (numbered 1 ls) (let e = count 1 ls in omega arith)
 
 -- ---- no line has a fault
 
@@ -155,7 +155,7 @@ no_fault above n l is none few =
     ∙ ap (λ b. fault_by_place (b && has_content s || is_end (Ok s) && false) (inclusion_by [] 8 None) (length above))
     none
     ∙ ap (λ b. fault_by_place b (inclusion_by [] 8 None) (length above)) (and-false (is_end_body s.body))
-    ∙ ap (λ b. cond b (Some TOO_MANY) None) (ne_eqb (length above) 65535 (λ e. omega (arith, e, few)))
+    ∙ ap (λ b. cond b (Some TOO_MANY) None) (ne_eqb (length above) 65535 (λ e. omega arith))
 
 no_faults : (above : List TextLine) (n : ℕ) (ls : List SourceLine) → AllByRecursion IsSound ls → EndsOnce ls
     → list_any ends_source above ≡ false → length above + length ls ≤ 65535
@@ -163,7 +163,7 @@ no_faults : (above : List TextLine) (n : ℕ) (ls : List SourceLine) → AllByRe
 no_faults above n [] is e none few = absurd e
 no_faults above n (l ∷ []) is e none few =
     let this : TextLine = record { file = 0; line = n; levels = 8; bytes = line_text l } in
-    ap (λ o. before this o []) (no_fault above n l is.0 none (omega (arith, few)))
+    ap (λ o. before this o []) (no_fault above n l is.0 none (omega arith))
 no_faults above n (l ∷ m ∷ ls) is e none few =
     let this : TextLine = record { file = 0; line = n; levels = 8; bytes = line_text l } in
     let rest = numbered (n + 1) (m ∷ ls) in
@@ -171,8 +171,8 @@ no_faults above n (l ∷ m ∷ ls) is e none few =
     list_any-append ends_source above (this ∷ []) ∙ (λ i. none i || (((ends_said n l is.0 ∙ e.0) i) || false)) in
     let size = length-append above (this ∷ []) in
     ap (λ o. before this o (faults_from [] false (above ++ this ∷ []) rest))
-    (no_fault above n l is.0 none (omega (arith, few)))
-    ∙ no_faults (above ++ this ∷ []) (n + 1) (m ∷ ls) is.1 e.1 still (omega (arith, few, size))
+    (no_fault above n l is.0 none (omega arith))
+    ∙ no_faults (above ++ this ∷ []) (n + 1) (m ∷ ls) is.1 e.1 still (omega arith)
 
 statements_are : (n : ℕ) (ls : List SourceLine) → AllByRecursion IsSound ls
     → statements_of (numbered n ls) ≡ read_from n ls
@@ -189,7 +189,7 @@ faults_are (l ∷ ls) is e few =
     let all = numbered 1 (l ∷ ls) in
     ap (λ b. faults_from [] (nat_lt (length all) 65536 && not b) [] all) (has_end 1 (l ∷ ls) is e)
     ∙ ap (λ b. faults_from [] b [] all) (and-false (nat_lt (length all) 65536))
-    ∙ no_faults [] 1 (l ∷ ls) is e refl (omega (arith, few))
+    ∙ no_faults [] 1 (l ∷ ls) is e refl (omega arith)
 
 -- the text of lines is read as these lines
 pub text_read : (source : SourceFile) (ls : List SourceLine) → AllByRecursion IsSound ls → EndsOnce ls

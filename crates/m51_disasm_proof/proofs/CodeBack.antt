@@ -22,7 +22,6 @@ use Rattle.m51_encode.specs.declared.outcome.OperandOutcome.TheVariants.{Stands}
 use Rattle.m51_encode.specs.declared.reference.Reference.{Reference}
 use Rattle.m51_disasm.specs.Statements.{slot_address, stays_inside}
 use Rattle.m51_disasm_proof.proofs.InstructionsCut.{instruction_read}
-use Rattle.m51_disasm_proof.proofs.LinesStand.{next}
 use Rattle.m51_disasm_proof.proofs.OperandsBack.{byte_in, held_in, slot_given}
 use Rattle.m51_disasm_proof.proofs.OperandsLed.{AreLed, IsLed, is_usual, rows_usual}
 
@@ -167,31 +166,24 @@ module _ (names : Meanings) (segment at : ℕ) (s : StandsAt names segment at) (
       (stays_inside next (field_in (text_of i).second)) p.0 in
       (q.0, q.1, p.1)
 
-  given_first : filled names (address_after names (row_length row)) (field_in (text_of row).first)
-      (operand_of t (text_of i).first) ≡ Ok (held_in (text_of i).first)
-  given_first = given (text_of i).first (text_of row).first n1 (ap (λ (x : Text). x.first) text_same)
-      (rows_usual i).0 has.first
-      all_in.0 led.first
-
-  given_second : filled names (address_after names (row_length row)) (field_in (text_of row).second)
-      (operand_of t (text_of i).second) ≡ Ok (held_in (text_of i).second)
-  given_second = given (text_of i).second (text_of row).second n2 (ap (λ (x : Text). x.second) text_same)
-      (rows_usual i).1 has.second all_in.1 led.second
-
-  given_third : filled names (address_after names (row_length row)) (field_in (text_of row).third)
-      (operand_of t (text_of i).third) ≡ Ok (held_in (text_of i).third)
-  given_third = given (text_of i).third (text_of row).third n3 (ap (λ (x : Text). x.third) text_same)
-      (rows_usual i).2 has.third all_in.2 led.third
-
   -- an instruction is coded as the row that it was decoded from
   pub code_back : IsCodedAs names (text_of i).mnemonic (operands_of t (text_of i)) form i
   unfolding coded outcomes
-  code_back = record {
-    code =
-        ap (coded_line names) (line_is t i form h) ∙ ap (coded_by names own_line) (row_is_found ∙ the_row.is)
-        ∙ (λ j. gathered row (given_first j) (given_second j) (given_third j))
-        ∙ (λ j. Ok (coded_from (the_row.same j) (none_held (text_of i).first (text_of i).second (text_of i).third j)));
-    comes_to =
-        ap (outcomes_line names) (line_is t i form h) ∙ ap (outcomes_by names own_line) (row_is_found ∙ the_row.is)
-        ∙ (λ j. three_outcomes (given_first j) (given_second j) (given_third j));
-  }
+  code_back =
+      let usual = rows_usual i in
+      let a = given (text_of i).first (text_of row).first n1 (ap (λ (x : Text). x.first) text_same) usual.0 has.first
+      all_in.0 led.first in
+      let b = given (text_of i).second (text_of row).second n2 (ap (λ (x : Text). x.second) text_same) usual.1 has.second
+      all_in.1 led.second in
+      let c = given (text_of i).third (text_of row).third n3 (ap (λ (x : Text). x.third) text_same) usual.2 has.third
+      all_in.2 led.third in
+      record {
+        code =
+            ap (coded_line names) (line_is t i form h) ∙ ap (coded_by names own_line) (row_is_found ∙ the_row.is)
+            ∙ (λ j. gathered row (a j) (b j) (c j))
+            ∙ (λ j. Ok (coded_from (the_row.same j)
+            (none_held (text_of i).first (text_of i).second (text_of i).third j)));
+        comes_to =
+            ap (outcomes_line names) (line_is t i form h) ∙ ap (outcomes_by names own_line) (row_is_found ∙ the_row.is)
+            ∙ (λ j. three_outcomes (a j) (b j) (c j));
+      }

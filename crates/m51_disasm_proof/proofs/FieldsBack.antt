@@ -1,9 +1,11 @@
 -- The fields of a disassembled instruction take the numbers that they were decoded with.
 use Rattle.m51_disasm_proof.proofs.Common.{◌%◌, ◌&&◌, ◌+◌, ◌/◌, ◌<◌, ◌||◌, ◌∙◌, ◌≡◌, ◌≤◌, Bool, Field, Meanings, None}
-use Rattle.m51_disasm_proof.proofs.Common.{Number, Some, StandsAt, and_parts, ap, arith, code_value, cond, eq-eqb}
-use Rattle.m51_disasm_proof.proofs.Common.{false, ltb-true, nat_le, nat_lt, not, refl, sym, true, ℕ}
-use Rattle.std.proofs.Math.Bool.{and-false, or-true}
+use Rattle.m51_disasm_proof.proofs.Common.{Number, Option, Some, StandsAt, and_parts, ap, arith, code_value, cond}
+use Rattle.m51_disasm_proof.proofs.Common.{eq-eqb, false, ltb-true, nat_le, nat_lt, not, refl, sym, true, ℕ, ⊎_elim}
+use Rattle.std.proofs.Common.{◌⊎◌, inl, inr}
+use Rattle.std.proofs.Math.Bool.{and-false}
 use Rattle.std.proofs.lemmas.Bool.{le-leb, leb-true, ltb-false}
+use Rattle.std.proofs.lemmas.Bool.Decides.{nat_tests}
 use Rattle.std.proofs.lemmas.Option.{same_Some}
 use Rattle.m51_cells.specs.declared.kind.Base.TheVariants as base
 use Rattle.m51_cells.specs.declared.kind.Kind.TheVariants as kind
@@ -19,20 +21,18 @@ use Rattle.m51_encode.specs.Reference.{reference_of}
 use Rattle.m51_encode.specs.declared.reference.FieldValue.{FieldValue}
 use Rattle.m51_encode.specs.declared.reference.FieldValue.TheVariants.{Linked}
 use Rattle.m51_disasm.specs.Statements.{address_by, ends_inside, leads_inside}
-use Rattle.m51_disasm_proof.proofs.LinesStand.{next}
 
 -- ---- numbers
 
+abbrev if_near : ℕ → Option FieldValue
+if_near d = cond (is_near d) (Some (Number (d % 256))) None
+
 -- distances of a signed byte
-near_low : (d : ℕ) → d ≤ 127 → is_near d ≡ true
-near_low d h = ap (λ b. b || nat_le 65408 d) (le-leb d 127 h)
-
-near_high : (d : ℕ) → 65408 ≤ d → is_near d ≡ true
-near_high d h = ap (λ b. nat_le d 127 || b) (le-leb 65408 d h) ∙ or-true (nat_le d 127)
-
-taken_if : (d rel : ℕ) → is_near d ≡ true → d % 256 ≡ rel
-    → cond (is_near d) (Some (Number (d % 256))) None ≡ Some (Number rel)
-taken_if d rel h e = (λ i. cond (h i) (Some (Number (e i))) None)
+near_is : (d rel : ℕ) → (d ≤ 127) ⊎ (65408 ≤ d) → d % 256 ≡ rel → if_near d ≡ Some (Number rel)
+near_is d rel h e =
+    let near : is_near d ≡ true = ⊎_elim (λ (low : d ≤ 127). grind (arith, nat_tests))
+    (λ (high : 65408 ≤ d). grind (arith, nat_tests)) h in
+    (λ i. cond (near i) (Some (Number (e i))) None)
 
 -- the byte to the address that a byte leads to
 rel_by : (next rel : ℕ) (b : Bool) → nat_lt rel 128 ≡ b → next < 65536 → rel < 256
@@ -42,14 +42,12 @@ rel_by next rel true test low small h =
     let less : rel < 128 = ltb-true rel 128 test in
     let ends : next + rel < 65536 = ltb-true (next + rel) 65536 h in
     let d : distance next ((next + rel) % 65536) ≡ rel = omega arith in
-    ap (λ n. cond (is_near n) (Some (Number (n % 256))) None) d
-    ∙ taken_if rel rel (near_low rel (omega arith)) (omega arith)
+    ap if_near d ∙ near_is rel rel (inl (omega arith)) (omega arith)
 rel_by next rel false test low small h =
     let more : 128 ≤ rel = ltb-false rel 128 test in
     let ends : 256 ≤ next + rel = leb-true 256 (next + rel) h in
     let d : distance next ((next + 65280 + rel) % 65536) ≡ 65280 + rel = omega arith in
-    ap (λ n. cond (is_near n) (Some (Number (n % 256))) None) d
-    ∙ taken_if (65280 + rel) rel (near_high (65280 + rel) (omega arith)) (omega arith)
+    ap if_near d ∙ near_is (65280 + rel) rel (inr (omega arith)) (omega arith)
 
 rel_back : (next rel : ℕ) → next < 65536 → rel < 256 → ends_inside next rel ≡ true
     → rel_of next (relative next rel) ≡ Some (Number rel)

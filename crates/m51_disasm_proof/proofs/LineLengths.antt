@@ -1,7 +1,7 @@
 -- The lines of a disassembly are short.
-use Rattle.m51_disasm_proof.proofs.Common.{◌++◌, ◌≤◌, Content, Field, Imm, Instr, List, None, Nop, Nothing, Option}
-use Rattle.m51_disasm_proof.proofs.Common.{Plain, Slot, Some, SourceLine, Target, arith, codes, length, length-append}
-use Rattle.m51_disasm_proof.proofs.Common.{text_of, ℕ}
+use Rattle.m51_disasm_proof.proofs.Common.{◌≤◌, Content, Field, Imm, Instr, List, None, Nop, Nothing, Option, Plain}
+use Rattle.m51_disasm_proof.proofs.Common.{Slot, Some, SourceLine, Target, arith, codes, length, length-append, text_of}
+use Rattle.m51_disasm_proof.proofs.Common.{ℕ}
 use Rattle.m51_isa.specs.declared.slot.Field.TheVariants as field
 use Rattle.m51_disasm.specs.Texts.{content_text, data_text, label_front, line_text, operand_after, operand_text}
 use Rattle.m51_disasm.specs.Texts.{plain_text, spelled, statement_text, target_text}
@@ -35,31 +35,21 @@ operand_few t s = omega arith
 after_few : (sign : List ℕ) (t : Target) (s : Slot) → length sign ≤ 1 → length (operand_after sign t s) ≤ 8
 unfolding operand_after
 after_few sign t Nothing h = omega arith
-after_few sign t s h = let few = operand_few t s in let e = length-append sign (operand_text t s) in
-    omega arith
+after_few sign t s h = let few = operand_few t s in simp length-append (omega arith)
 
 mnemonic_few : (i : Instr) → length (text_of i).mnemonic ≤ 5
 mnemonic_few Nop = omega arith
 mnemonic_few i = omega arith
 
-joined_few : (m a b c : List ℕ) → length m ≤ 5 → length a ≤ 8 → length b ≤ 8 → length c ≤ 8
-    → length (((m ++ a) ++ b) ++ c) ≤ 29
-joined_few m a b c h k l n =
-    let one = length-append ((m ++ a) ++ b) c in
-    let two = length-append (m ++ a) b in
-    let three = length-append m a in
-    omega arith
-
 content_few : (t : Target) (c : Content) → length (content_text t c) ≤ 29
 unfolding content_text spelled
 content_few t (content.Byte byte) = omega arith
 content_few t (content.Code i) =
-    joined_few (text_of i).mnemonic (operand_after (codes " ") t (text_of i).first)
-    (operand_after (codes ",") t (text_of i).second)
-    (operand_after (codes ",") t (text_of i).third)
-    (mnemonic_few i) (after_few (codes " ") t (text_of i).first (omega arith))
-    (after_few (codes ",") t (text_of i).second (omega arith))
-    (after_few (codes ",") t (text_of i).third (omega arith))
+    let m = mnemonic_few i in
+    let a = after_few (codes " ") t (text_of i).first (omega arith) in
+    let b = after_few (codes ",") t (text_of i).second (omega arith) in
+    let c = after_few (codes ",") t (text_of i).third (omega arith) in
+    simp length-append (omega arith)
 
 label_few : (label : Option ℕ) → length (label_front label) ≤ 7
 unfolding label_front
@@ -72,8 +62,5 @@ unfolding line_text statement_text
 line_few line.Nomod51 = omega arith
 line_few (line.Segment base) = omega arith
 line_few (line.Statement s) =
-    let e = length-append (label_front s.label) (content_text s.target s.content) in
-    let label = label_few s.label in
-    let content = content_few s.target s.content in
-    omega arith
+    let label = label_few s.label in let text = content_few s.target s.content in simp length-append (omega arith)
 line_few line.End = omega arith

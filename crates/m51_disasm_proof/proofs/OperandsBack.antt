@@ -15,7 +15,6 @@ use Rattle.m51_asm.proofs.ContentFields.{Held}
 use Rattle.m51_disasm.specs.Statements.{address_by, leads_inside, slot_address, stays_inside}
 use Rattle.m51_disasm_proof.specs.Meaning.{target_operand}
 use Rattle.m51_disasm_proof.proofs.FieldsBack.{address_back, bit_back, data16_back, data_back, direct_back}
-use Rattle.m51_disasm_proof.proofs.LinesStand.{next}
 use Rattle.m51_disasm_proof.proofs.OperandsLed.{ByLabel, ByNumber, IsLed, LeadsTo, is_bit, is_data, is_usual}
 
 abbrev field_at : Field → ℕ → ℕ → FieldSlot

@@ -1,5 +1,5 @@
 -- The parts of a sound layout are in order, and none of them reaches into the next.
-use Rattle.m51_disasm_proof.proofs.Common.{◌+◌, ◌<◌, ◌==◌, ◌∙◌, ◌∷◌, ◌≡◌, ◌≢◌, ◌≤◌, Bool, CodeRange, IsInside}
+use Rattle.m51_disasm_proof.proofs.Common.{◌+◌, ◌-◌, ◌<◌, ◌==◌, ◌∙◌, ◌∷◌, ◌≡◌, ◌≢◌, ◌≤◌, Bool, CodeRange, IsInside}
 use Rattle.m51_disasm_proof.proofs.Common.{LayoutParts, List, Some, [], ap, arith, cond, false, map, order, refl}
 use Rattle.m51_disasm_proof.proofs.Common.{slice_get, subst, suc, sym, true, zero, ℕ, ⊎_elim}
 use Rattle.std.proofs.Common.{◌⊎◌, inl, inr}
@@ -7,7 +7,6 @@ use Rattle.std.proofs.lemmas.Bool.{eqb-true}
 use Rattle.std.proofs.lemmas.List.Elements.{All-contains}
 use Rattle.std.specs.List.{filter}
 use Rattle.m51_cells.specs.Extent.{Meet, extent_of}
-use Rattle.m51_cells.specs.declared.extent.Extent.{Extent}
 use Rattle.m51_cells.specs.declared.kind.Kind.TheVariants as kind
 use Rattle.m51_module.specs.Cells.{code_cell, extent_at}
 use Rattle.m51_module.specs.Conflict.{FirstPlain}
@@ -92,18 +91,11 @@ no_meeting a b m n none some more =
     ⊎_elim
     (λ (below : b < a + m).
     ⊎_elim
-    (λ (under : a < b + n). absurd (⊎_elim
-    (λ (first : a < b). none (
-      code_cell b,
-      record { space = refl; from = omega arith; below = below },
+    (λ (under : a < b + n). absurd (none (
+      code_cell (a + (b - a)),
       record { space = refl; from = omega arith; below = omega arith },
-    ))
-    (λ (first : b ≤ a). none (
-      code_cell a,
       record { space = refl; from = omega arith; below = omega arith },
-      record { space = refl; from = first; below = under },
-    ))
-    (order a b)))
+    )))
     (λ over. inr over)
     (order a (b + n)))
     (λ over. inl over)
@@ -118,16 +110,13 @@ module _ (l : LayoutParts) (sound : IsSound l) where
       let same : over.0 ≡ p = cc (over.1, placed) in
       (sound.fit s p placed).code code.kind (ap (λ (x : Placed). x.mark) (sym same) ∙ over.2)
 
-  code_extent : (p : Placed) → p.kind ≡ kind.Code → extent_at p ≡ extent_of kind.Code p.base p.size
-  code_extent p e = ap (λ k. extent_of k p.base p.size) e
-
   placed_apart : (s t : ℕ) (p q : Placed) → s ≢ t → IsPlaced l s p → IsPlaced l t q → IsCodeSegment p → IsCodeSegment q
       → Apart (placed_range (Some p)) (placed_range (Some q))
   placed_apart s t p q ne one two code other =
       no_meeting p.base q.base p.size q.size
       (λ meet. sound.apart s t p q one two ne (FirstPlain (plain s p one code))
-      (subst (λ (e : Extent). Meet e (extent_at q)) (sym (code_extent p code.kind))
-      (subst (Meet (extent_of kind.Code p.base p.size)) (sym (code_extent q other.kind)) meet)))
+      (subst (λ k. Meet (extent_of k p.base p.size) (extent_at q)) (sym code.kind)
+      (subst (λ k. Meet (extent_of kind.Code p.base p.size) (extent_of k q.base q.size)) (sym other.kind) meet)))
 
   units_apart : Pairs Apart (map unit_part l.units)
   units_apart = pairs_map unit_part Apart l.units
@@ -154,30 +143,25 @@ module _ (l : LayoutParts) (sound : IsSound l) where
   abbrev Before : CodeRange → CodeRange → Type 0
   Before p q = p.base + p.size ≤ q.base
 
+  at_base : (n : ℕ) (p : CodeRange) → In p (filter (λ unit. unit.base == n) all) → In p all × (p.base ≡ n)
+  at_base n p i = let r = in_filter (λ (unit : CodeRange). unit.base == n) all p i in (r.1, eqb-true p.base n r.0)
+
   below_from : (n : ℕ) (p : CodeRange) → In p (parts_below all n) → In p all × (p.base < n)
   unfolding parts_below
   below_from zero p i = absurd (no_element p i)
   below_from (suc n) p i = elim (in_append p (parts_below all n) (filter (λ unit. unit.base == n) all) i) [
     | inl j ↦ let r = below_from n p j in let less = r.1 in (r.0, omega arith)
-    | inr j ↦
-        let r = in_filter (λ (unit : CodeRange). unit.base == n) all p j in
-        let same = eqb-true p.base n r.0 in (r.1, omega arith)
+    | inr j ↦ let r = at_base n p j in let same = r.1 in (r.0, omega arith)
   ]
 
-  at_base : (n : ℕ) (p : CodeRange) → In p (filter (λ unit. unit.base == n) all) → In p all × (p.base ≡ n)
-  at_base n p i = let r = in_filter (λ (unit : CodeRange). unit.base == n) all p i in (r.1, eqb-true p.base n r.0)
-
-  not_here : (n : ℕ) (p q : CodeRange) → p.base ≡ n → q.base ≡ n → 0 < p.size → 0 < q.size → Apart p q → Before p q
-  not_here n p q one two some more apart = elim (apart some more) [
-    | inl e ↦ absurd (omega arith)
-    | inr e ↦ absurd (omega arith)
-  ]
-
-  earlier : (n : ℕ) (p q : CodeRange) → p.base < n → q.base ≡ n → 0 < p.size → 0 < q.size → Apart p q → Before p q
-  earlier n p q one two some more apart = elim (apart some more) [
-    | inl e ↦ e
-    | inr e ↦ absurd (omega arith)
-  ]
+  in_turn : (p q : CodeRange) → p.base ≤ q.base → In p all → In q all → Apart p q → Before p q
+  in_turn p q le i j apart =
+      let some = (inside p i).some in
+      let more = (inside q j).some in
+      elim (apart some more) [
+        | inl e ↦ e
+        | inr e ↦ absurd (omega arith)
+      ]
 
   below_ordered : (n : ℕ) → Pairs Before (parts_below all n)
   unfolding parts_below Pairs
@@ -186,17 +170,13 @@ module _ (l : LayoutParts) (sound : IsSound l) where
       let here : List CodeRange = filter (λ unit. unit.base == n) all in
       pairs_append Before (parts_below all n) here (below_ordered n)
       (pairs_weaker Apart Before here
-      (λ p q i j apart. let a = at_base n p i in let b = at_base n q j in
-      not_here n p q a.1 b.1 (inside p a.0).some (inside q b.0).some apart)
+      (λ p q i j apart. let a = at_base n p i in let b = at_base n q j in in_turn p q (omega arith) a.0 b.0 apart)
       (pairs_filter Apart (λ (unit : CodeRange). unit.base == n) all all_apart))
       (λ p q i j.
       let a = below_from n p i in
       let b = at_base n q j in
-      let less = a.1 in
-      let same = b.1 in
-      let ne : p ≢ q = λ e. let f : p.base ≡ q.base = ap (λ (x : CodeRange). x.base) e in
-      omega arith in
-      earlier n p q less same (inside p a.0).some (inside q b.0).some
+      let ne : p ≢ q = λ e. let f : p.base ≡ q.base = ap (λ (x : CodeRange). x.base) e in omega arith in
+      in_turn p q (omega arith) a.0 b.0
       (pairs_both Apart all apart_back all_apart p q ne a.0 b.0))
 
   in_order : (low : ℕ) (ps : List CodeRange) → ((p : CodeRange) → In p ps → low ≤ p.base)

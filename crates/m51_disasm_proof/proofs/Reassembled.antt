@@ -71,36 +71,31 @@ module _ (image : List ℕ) (bytes : AreBytes image) (parts : List CodeRange) (o
       (record { least = 0; order = order; start = _; from = next all; give = gives.1 }))
       (omega arith)
 
-  statement_is : (before : List CodeRange) (part : CodeRange) (after : List CodeRange)
-      → parts ≡ before ++ part ∷ after → (j : ℕ) (s : Statement) → slice_get (statements_of image part) j ≡ Some s
-      → StatementThere lines a image (lines_before image before + suc j)
-      (part_segment (lines_before image before) part) s
-  statement_is before part after is j s e =
-      let p = part_there before part after is in
-      statement_there (statements_of image part) _ (in_part p.from) p.give.1 j s e (omega arith)
+  -- a statement of a part
+  module _ (before : List CodeRange) (part : CodeRange) (after : List CodeRange) (is : parts ≡ before ++ part ∷ after)
+      (j : ℕ) (s : Statement) (e : slice_get (statements_of image part) j ≡ Some s) where
+    statement_is : StatementThere lines a image (lines_before image before + suc j)
+        (part_segment (lines_before image before) part) s
+    statement_is =
+        let p = part_there before part after is in
+        statement_there (statements_of image part) _ (in_part p.from) p.give.1 j s e (omega arith)
 
-  pub statement_spot : (before : List CodeRange) (part : CodeRange) (after : List CodeRange)
-      → parts ≡ before ++ part ∷ after → (j : ℕ) (s : Statement) → slice_get (statements_of image part) j ≡ Some s
-      → IsSpot a (lines_before image before + suc j)
-      (record { segment = part_segment (lines_before image before) part; address = s.at })
-  statement_spot before part after is j s e = (statement_is before part after is j s e).spot
+    pub statement_spot : IsSpot a (lines_before image before + suc j)
+        (record { segment = part_segment (lines_before image before) part; address = s.at })
+    statement_spot = statement_is.spot
 
-  pub statement_gives_bytes : (before : List CodeRange) (part : CodeRange) (after : List CodeRange)
-      → parts ≡ before ++ part ∷ after → (j : ℕ) (s : Statement) → slice_get (statements_of image part) j ≡ Some s
-      → LineGives (read_from 1 (lines_of image parts)) a image (lines_before image before + suc j) s.at
-      (length_in s.content)
-  statement_gives_bytes before part after is j s e =
-      subst (λ ls. LineGives ls a image (lines_before image before + suc j) s.at (length_in s.content))
-      (text_is image parts) (statement_is before part after is j s e).gives
+    pub statement_gives_bytes : LineGives (read_from 1 (lines_of image parts)) a image
+        (lines_before image before + suc j) s.at (length_in s.content)
+    statement_gives_bytes =
+        subst (λ ls. LineGives ls a image (lines_before image before + suc j) s.at (length_in s.content))
+        (text_is image parts) statement_is.gives
 
-  pub label_is : (before : List CodeRange) (part : CodeRange) (after : List CodeRange)
-      → parts ≡ before ++ part ∷ after → (j : ℕ) (s : Statement) → slice_get (statements_of image part) j ≡ Some s
-      → is_among (targets (statements_of image part)) s.at ≡ true → (k : ℕ)
-      → a.value k (label_text s.at) ≡ Some (code_value (lines_before image before + 2) s.at)
-  label_is before part after is j s e led k =
-      let p = part_there before part after is in
-      label_known (statements_of image part) (in_part p.from) p.order.1.ends s.at
-      (begins_there (statements_of image part) j s e) led k
+    pub label_is : is_among (targets (statements_of image part)) s.at ≡ true → (k : ℕ)
+        → a.value k (label_text s.at) ≡ Some (code_value (lines_before image before + 2) s.at)
+    label_is led k =
+        let p = part_there before part after is in
+        label_known (statements_of image part) (in_part p.from) p.order.1.ends s.at
+        (begins_there (statements_of image part) j s e) led k
 
   -- no line has a fault
   own_faultless : AreSmall parts → length parts ≤ 254 → AreFaultless lines a

@@ -83,85 +83,79 @@ module _ (second third : ℕ) where
   abbrev written : ℕ → List ℕ
   written first = written_by first (first % 16 == 1) (first == 0x02 || (first == 0x12 || first == 0x90))
 
-  abbrev numbers : (Slot → ℕ) → Instr → List ℕ
-  numbers f i = f (text_of i).first ∷ f (text_of i).second ∷ f (text_of i).third ∷ []
-
+  -- what is compared: the bytes, the numbers, and whether registers exist
   abbrev Seen : Type 0
   Seen = List ℕ × List ℕ × Bool
 
-  abbrev seen : Instr → Seen
-  seen i = (encoded i, numbers number_of_slot i, all_fit (text_of i))
+  abbrev seen : List ℕ → (Slot → ℕ) → Bool → Text → Seen
+  seen bytes number fit t = (bytes, number t.first ∷ number t.second ∷ number t.third ∷ [], fit)
 
-  abbrev wanted : ℕ → Instr → Seen
-  wanted first i = (take (length_of i) (written first), numbers (in_slot first) i, true)
+  abbrev of_row : ℕ → Instr → Seen
+  of_row first i = seen (encoded i) number_of_slot (all_fit (text_of i)) (text_of i)
 
-  abbrev seen_at : ℕ → Option Seen
-  seen_at first = option_map seen (decoded_at first second third)
+  abbrev of_bytes : ℕ → Instr → Seen
+  of_bytes first i = seen (take (length_of i) (written first)) (in_slot first) true (text_of i)
 
-  abbrev wanted_at : ℕ → Option Seen
-  wanted_at first = option_map (wanted first) (decoded_at first second third)
+  abbrev decoded_as : (ℕ → Instr → Seen) → ℕ → Option Seen
+  decoded_as f first = option_map (f first) (decoded_at first second third)
 
-  all_are : map seen_at (range_with_len 0 256) ≡ map wanted_at (range_with_len 0 256)
+  all_are : map (decoded_as of_row) (range_with_len 0 256) ≡ map (decoded_as of_bytes) (range_with_len 0 256)
   all_are = refl
 
-  one_is : (first : ℕ) → first < 256 → seen_at first ≡ wanted_at first
+  one_is : (first : ℕ) → first < 256 → decoded_as of_row first ≡ decoded_as of_bytes first
   one_is first f =
-      sym (get_or-map-range_with_len seen_at 0 256 first first None f (omega arith))
+      sym (get_or-map-range_with_len (decoded_as of_row) 0 256 first first None f (omega arith))
       ∙ ap (λ l. get_or l first None) all_are
-      ∙ get_or-map-range_with_len wanted_at 0 256 first first None f (omega arith)
+      ∙ get_or-map-range_with_len (decoded_as of_bytes) 0 256 first first None f (omega arith)
 
-  -- they are these bytes
-  written_is : (first : ℕ) → second < 256 → third < 256 → (b c : Bool)
-      → written_by first b c ≡ first ∷ second ∷ third ∷ []
-  written_is first s t true c =
+module _ (first second third : ℕ) (f : first < 256) (s : second < 256) (t : third < 256) where
+  written_is : (b c : Bool) → written_by second third first b c ≡ first ∷ second ∷ third ∷ []
+  written_is true c =
       let high : first % 32 + 32 * ((first / 32 * 256 + second) / 256) ≡ first = omega arith in
       let low : (first / 32 * 256 + second) % 256 ≡ second = omega arith in
       cc
-  written_is first s t false true =
+  written_is false true =
       let high : (second * 256 + third) / 256 ≡ second = omega arith in
       let low : (second * 256 + third) % 256 ≡ third = omega arith in
       cc
-  written_is first s t false false = refl
+  written_is false false = refl
 
-  -- and their numbers have room
-  field_fits : (first : ℕ) → first < 256 → second < 256 → third < 256 → (at : Field) (byte : ℕ)
-      → FitsIn at (in_field first at byte)
-  field_fits first f s t field.Data16 byte = omega arith
-  field_fits first f s t field.Addr16 byte = omega arith
-  field_fits first f s t field.Addr11 byte = omega arith
-  field_fits first f s t at byte = one_of (byte == 1)
+  field_fits : (at : Field) (byte : ℕ) → FitsIn at (in_field second third first at byte)
+  field_fits field.Data16 byte = omega arith
+  field_fits field.Addr16 byte = omega arith
+  field_fits field.Addr11 byte = omega arith
+  field_fits at byte = one_of (byte == 1)
     where
       one_of : (b : Bool) → cond b second third < 256
       one_of true = s
       one_of false = t
 
-  slot_fits : (first : ℕ) → first < 256 → second < 256 → third < 256 → (x : Slot) → is_fit x ≡ true
-      → number_of_slot x ≡ in_slot first x → FitsSlot x
-  slot_fits first f s t (R n) fit e = ltb-true n 8 fit
-  slot_fits first f s t (AtR n) fit e = ltb-true n 2 fit
-  slot_fits first f s t (Imm x) fit e = subst (FitsIn x.field) (sym e) (field_fits first f s t x.field x.byte)
-  slot_fits first f s t (Plain x) fit e = subst (FitsIn x.field) (sym e) (field_fits first f s t x.field x.byte)
-  slot_fits first f s t (NotBit x) fit e = subst (FitsIn x.field) (sym e) (field_fits first f s t x.field x.byte)
-  slot_fits first f s t x fit e = tt
+  slot_fits : (x : Slot) → is_fit x ≡ true → number_of_slot x ≡ in_slot second third first x → FitsSlot x
+  slot_fits (R n) fit e = ltb-true n 8 fit
+  slot_fits (AtR n) fit e = ltb-true n 2 fit
+  slot_fits (Imm x) fit e = subst (FitsIn x.field) (sym e) (field_fits x.field x.byte)
+  slot_fits (Plain x) fit e = subst (FitsIn x.field) (sym e) (field_fits x.field x.byte)
+  slot_fits (NotBit x) fit e = subst (FitsIn x.field) (sym e) (field_fits x.field x.byte)
+  slot_fits x fit e = tt
 
-  by_row : (first : ℕ) → first < 256 → second < 256 → third < 256 → (o : Option Instr)
-      → option_map seen o ≡ option_map (wanted first) o → IfSome o (IsDecoded (first ∷ second ∷ third ∷ []))
-  by_row first f s t None e = tt
-  by_row first f s t (Some i) e =
-      let same : seen i ≡ wanted first i = cc e in
+  by_row : (o : Option Instr)
+      → option_map (of_row second third first) o ≡ option_map (of_bytes second third first) o
+      → IfSome o (IsDecoded (first ∷ second ∷ third ∷ []))
+  by_row None e = tt
+  by_row (Some i) e =
+      let same : of_row second third first i ≡ of_bytes second third first i = cc e in
       let fit = and_all (is_fit (text_of i).first) (is_fit (text_of i).second) (is_fit (text_of i).third)
-      (ap (λ (x : Seen). x.2) same) in
-      let numbers = ap (λ (x : Seen). x.1) same in
+      (ap (λ (x : Seen second third). x.2) same) in
+      let numbers = ap (λ (x : Seen second third). x.1) same in
       record {
-        row = ap (λ (x : Seen). x.0) same
-            ∙ ap (take (length_of i)) (written_is first s t (first % 16 == 1)
+        row = ap (λ (x : Seen second third). x.0) same
+            ∙ ap (take (length_of i)) (written_is (first % 16 == 1)
             (first == 0x02 || (first == 0x12 || first == 0x90)));
-        first = slot_fits first f s t (text_of i).first fit.0 (cc numbers);
-        second = slot_fits first f s t (text_of i).second fit.1 (cc numbers);
-        third = slot_fits first f s t (text_of i).third fit.2 (cc numbers);
+        first = slot_fits (text_of i).first fit.0 (cc numbers);
+        second = slot_fits (text_of i).second fit.1 (cc numbers);
+        third = slot_fits (text_of i).third fit.2 (cc numbers);
       }
 
-  -- what three bytes are decoded as is written with them
-  pub decoded_rows : (first : ℕ) → first < 256 → second < 256 → third < 256
-      → IfSome (decoded_at first second third) (IsDecoded (first ∷ second ∷ third ∷ []))
-  decoded_rows first f s t = by_row first f s t (decoded_at first second third) (one_is first f)
+  -- what three bytes are decoded as is written with them, and its numbers have room
+  pub decoded_rows : IfSome (decoded_at first second third) (IsDecoded (first ∷ second ∷ third ∷ []))
+  decoded_rows = by_row (decoded_at first second third) (one_is second third first f)

@@ -115,7 +115,7 @@ pub decoded_here : (image : List ℕ) → AreBytes image → (at : ℕ)
     → IfSome (instr_in_image image at) (IsDecoded (three_at image at))
 unfolding instr_in_image
 decoded_here image bytes at =
-    decoded_rows (slice_index image (at + 1)) (slice_index image (at + 2)) (slice_index image at) (bytes at)
+    decoded_rows (slice_index image at) (slice_index image (at + 1)) (slice_index image (at + 2)) (bytes at)
     (bytes (at + 1)) (bytes (at + 2))
 
 label_first : (b : Bool) (low at next : ℕ) → low ≤ at → at < 65536 → at + 1 ≤ next

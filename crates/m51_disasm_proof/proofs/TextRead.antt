@@ -7,9 +7,9 @@ use Rattle.m51_disasm_proof.proofs.Common.{not, read_from, refl, suc, take, true
 use Rattle.std.proofs.Common.{Err}
 use Rattle.std.proofs.Math.Bool.{and-false}
 use Rattle.std.proofs.lemmas.List.{take_all}
-use Rattle.std.proofs.lemmas.List.Elements.{All-from_recursion}
 use Rattle.std.proofs.lemmas.List.Folds.{list_any-append}
 use Rattle.std.proofs.lemmas.List.Splits.{length-slice_split, slice_split_at}
+use Rattle.std.proofs.lemmas.List.Sums.{AllPass-from_list_all}
 use Rattle.std.specs.List.{slice_split}
 use Rattle.std.specs.Str.Lines.{lines, lines_of_parts, strip_carriage_return}
 use Rattle.m51_cells.proofs.LineLaws.{ended}
@@ -49,14 +49,6 @@ feed c h = grind (arith, common_steps, h)
 no_return : (c : ℕ) → is_character c ≡ true → c ≡ 13 → ⊥
 no_return c h e = grind (arith, common_steps, h, e)
 
-no_feed : (text : List ℕ) → list_all is_character text ≡ true → AllByRecursion (λ c. is_line_feed c ≡ false) text
-no_feed [] h = tt
-no_feed (c ∷ text) h =
-    let first : is_character c ≡ true = left (is_character c) (list_all is_character text) h in (
-      feed c first,
-      no_feed text (right (is_character c) (list_all is_character text) h),
-    )
-
 at_return : (text : List ℕ) (index : ℕ) → list_all is_character text ≡ true → get_or text index 0 ≡ 13 → ⊥
 at_return [] index h e = absurd (omega arith)
 at_return (c ∷ text) zero h e = no_return c (left (is_character c) (list_all is_character text) h) e
@@ -71,7 +63,7 @@ first_line : (text rest : List ℕ) → list_all is_character text ≡ true
 first_line text rest h =
     ap lines (append_assoc text (codes "\n") rest)
     ∙ ap lines_of_parts (slice_split_at is_line_feed text 10 rest
-    (All-from_recursion (λ c. is_line_feed c ≡ false) text (no_feed text h)) refl)
+    (λ k d below. feed (get_or text k d) (AllPass-from_list_all is_character text h k d below)) refl)
     ∙ ended text (slice_split is_line_feed rest) (omega (arith, length-slice_split is_line_feed rest))
     ∙ ap (λ (line : List ℕ). line ∷ lines rest) (kept text h)
 
@@ -92,18 +84,21 @@ none_brought l is =
     ap (λ r. include_lines [] (brought [] 7) 7 (inclusion_by [] 8 (asked r))) (line_said l is)
     ∙ ap (λ o. include_lines [] (brought [] 7) 7 (inclusion_by [] 8 o)) (nothing_asked l)
 
--- the lines of a text, from this number on
+-- the line of a text of (text_line n l) number
+abbrev text_line : ℕ → SourceLine → TextLine
+text_line n l = record { file = 0; line = n; levels = 8; bytes = line_text l }
+
+-- the lines of a text, from (text_line n l) number on
 abbrev numbered : ℕ → List SourceLine → List TextLine
 numbered n [] = []
-numbered n (l ∷ ls) = record { file = 0; line = n; levels = 8; bytes = line_text l } ∷ numbered (n + 1) ls
+numbered n (l ∷ ls) = text_line n l ∷ numbered (n + 1) ls
 
 own_lines : (n : ℕ) (ls : List SourceLine) → AllByRecursion IsSound ls
     → lines_with (brought [] 8) 8 0 n (map line_text ls) ≡ numbered n ls
 own_lines n [] is = refl
 own_lines n (l ∷ ls) is =
-    let this : TextLine = record { file = 0; line = n; levels = 8; bytes = line_text l } in
-    ap (λ more. this ∷ (more ++ lines_with (brought [] 8) 8 0 (n + 1) (map line_text ls))) (none_brought l is.0)
-    ∙ ap (λ more. this ∷ more) (own_lines (n + 1) ls is.1)
+    ap (λ more. text_line n l ∷ (more ++ lines_with (brought [] 8) 8 0 (n + 1) (map line_text ls))) (none_brought l is.0)
+    ∙ ap (λ more. text_line n l ∷ more) (own_lines (n + 1) ls is.1)
 
 count : (n : ℕ) (ls : List SourceLine) → length (numbered n ls) ≡ length ls
 count n [] = refl
@@ -131,24 +126,23 @@ or_true true b h = refl
 or_true false b h = h
 
 ends_said : (n : ℕ) (l : SourceLine) → IsSound l
-    → ends_source (record { file = 0; line = n; levels = 8; bytes = line_text l }) ≡ is_end_body (meant l).body
+    → ends_source (text_line n l) ≡ is_end_body (meant l).body
 ends_said n l is = ap is_end (line_said l is)
 
 has_end : (n : ℕ) (ls : List SourceLine) → AllByRecursion IsSound ls → EndsOnce ls
     → list_any ends_source (numbered n ls) ≡ true
 has_end n [] is e = absurd e
 has_end n (l ∷ []) is e = ap (λ b. b || false) (ends_said n l is.0 ∙ ap (λ l. is_end_body (meant l).body) e)
-has_end n (l ∷ m ∷ ls) is e = or_true (ends_source (record { file = 0; line = n; levels = 8; bytes = line_text l }))
+has_end n (l ∷ m ∷ ls) is e = or_true (ends_source (text_line n l))
     (list_any ends_source (numbered (n + 1) (m ∷ ls))) (has_end (n + 1) (m ∷ ls) is.1 e.1)
 
 -- a line without an END above it, before line 65,536
 no_fault : (above : List TextLine) (n : ℕ) (l : SourceLine) → IsSound l → list_any ends_source above ≡ false
     → length above < 65535
-    → fault_on_line [] above (record { file = 0; line = n; levels = 8; bytes = line_text l }) false ≡ None
+    → fault_on_line [] above (text_line n l) false ≡ None
 no_fault above n l is none few =
-    let this : TextLine = record { file = 0; line = n; levels = 8; bytes = line_text l } in
     let s = meant l in
-    ap (fault_with [] above this false) (line_said l is)
+    ap (fault_with [] above (text_line n l) false) (line_said l is)
     ∙ ap (λ o. fault_by_place (list_any ends_source above && has_content s || is_end (Ok s) && false)
     (inclusion_by [] 8 o)
     (length above)) (nothing_asked l)
@@ -162,24 +156,21 @@ no_faults : (above : List TextLine) (n : ℕ) (ls : List SourceLine) → AllByRe
     → faults_from [] false above (numbered n ls) ≡ []
 no_faults above n [] is e none few = absurd e
 no_faults above n (l ∷ []) is e none few =
-    let this : TextLine = record { file = 0; line = n; levels = 8; bytes = line_text l } in
-    ap (λ o. before this o []) (no_fault above n l is.0 none (omega arith))
+    ap (λ o. before (text_line n l) o []) (no_fault above n l is.0 none (omega arith))
 no_faults above n (l ∷ m ∷ ls) is e none few =
-    let this : TextLine = record { file = 0; line = n; levels = 8; bytes = line_text l } in
     let rest = numbered (n + 1) (m ∷ ls) in
-    let still : list_any ends_source (above ++ this ∷ []) ≡ false =
-    list_any-append ends_source above (this ∷ []) ∙ (λ i. none i || (((ends_said n l is.0 ∙ e.0) i) || false)) in
-    let size = length-append above (this ∷ []) in
-    ap (λ o. before this o (faults_from [] false (above ++ this ∷ []) rest))
+    let still : list_any ends_source (above ++ text_line n l ∷ []) ≡ false =
+    list_any-append ends_source above (text_line n l ∷ []) ∙ (λ i. none i || (((ends_said n l is.0 ∙ e.0) i) || false)) in
+    let size = length-append above (text_line n l ∷ []) in
+    ap (λ o. before (text_line n l) o (faults_from [] false (above ++ text_line n l ∷ []) rest))
     (no_fault above n l is.0 none (omega arith))
-    ∙ no_faults (above ++ this ∷ []) (n + 1) (m ∷ ls) is.1 e.1 still (omega arith)
+    ∙ no_faults (above ++ text_line n l ∷ []) (n + 1) (m ∷ ls) is.1 e.1 still (omega arith)
 
 statements_are : (n : ℕ) (ls : List SourceLine) → AllByRecursion IsSound ls
     → statements_of (numbered n ls) ≡ read_from n ls
 statements_are n [] is = refl
 statements_are n (l ∷ ls) is =
-    let this : TextLine = record { file = 0; line = n; levels = 8; bytes = line_text l } in
-    ap (λ r. with_statement this r (statements_of (numbered (n + 1) ls))) (line_said l is.0)
+    ap (λ r. with_statement (text_line n l) r (statements_of (numbered (n + 1) ls))) (line_said l is.0)
     ∙ ap (λ more. record { file = 0; line = n; stmt = meant l } ∷ more) (statements_are (n + 1) ls is.1)
 
 faults_are : (ls : List SourceLine) → AllByRecursion IsSound ls → EndsOnce ls → length ls ≤ 65535

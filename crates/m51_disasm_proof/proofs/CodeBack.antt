@@ -23,7 +23,7 @@ use Rattle.m51_encode.specs.declared.reference.Reference.{Reference}
 use Rattle.m51_disasm.specs.Statements.{slot_address, stays_inside}
 use Rattle.m51_disasm_proof.proofs.InstructionsCut.{instruction_read}
 use Rattle.m51_disasm_proof.proofs.OperandsBack.{byte_in, held_in, slot_given}
-use Rattle.m51_disasm_proof.proofs.OperandsLed.{AreLed, IsLed, is_usual, rows_usual}
+use Rattle.m51_disasm_proof.proofs.RowsDecoded.{AreLed, IsLed, is_usual, rows_usual}
 
 -- the operands of the line are those of the row
 line_is : (t : Target) (i : Instr) (form : Jump) → AreSlots t (text_of i)
@@ -173,8 +173,8 @@ module _ (names : Meanings) (segment at : ℕ) (s : StandsAt names segment at) (
       let usual = rows_usual i in
       let a = given (text_of i).first (text_of row).first n1 (ap (λ (x : Text). x.first) text_same) usual.0 has.first
       all_in.0 led.first in
-      let b = given (text_of i).second (text_of row).second n2 (ap (λ (x : Text). x.second) text_same) usual.1 has.second
-      all_in.1 led.second in
+      let b = given (text_of i).second (text_of row).second n2 (ap (λ (x : Text). x.second) text_same) usual.1
+      has.second all_in.1 led.second in
       let c = given (text_of i).third (text_of row).third n3 (ap (λ (x : Text). x.third) text_same) usual.2 has.third
       all_in.2 led.third in
       record {

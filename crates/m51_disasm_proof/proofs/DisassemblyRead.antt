@@ -16,7 +16,7 @@ use Rattle.m51_disasm.specs.Parts.{code_ranges}
 use Rattle.m51_disasm.specs.Texts.{text_of_lines}
 use Rattle.m51_disasm.specs.declared.line.SourceLine.TheVariants as line
 use Rattle.m51_disasm.specs.declared.statement.Content.TheVariants as content
-use Rattle.m51_disasm_proof.proofs.LabelsDefined.{are_sound}
+use Rattle.m51_disasm_proof.proofs.MeantLines.{are_sound}
 use Rattle.m51_disasm_proof.proofs.PartsInOrder.{parts_in_order}
 use Rattle.m51_disasm_proof.proofs.SoundLines.{of_whole, rest_of, whole, whole_good}
 use Rattle.m51_disasm_proof.proofs.TextRead.{EndsOnce, text_read}

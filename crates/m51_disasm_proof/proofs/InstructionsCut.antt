@@ -1,17 +1,20 @@
--- A disassembled instruction is cut into the words of the instruction that is meant.
-use Rattle.m51_disasm_proof.proofs.Common.{◌&&◌, ◌++◌, ◌||◌, ◌∙◌, ◌∷◌, ◌≡◌, AreSlots, Bool, Instr, IsSlot, Jump, List}
-use Rattle.m51_disasm_proof.proofs.Common.{None, Nop, Nothing, OperandTree, Slot, Some, Target, Word, [], ap}
-use Rattle.m51_disasm_proof.proofs.Common.{append-nil, append_assoc, codes, cons_option, false, look_of, map, name_of}
-use Rattle.m51_disasm_proof.proofs.Common.{name_word, not, operand_of, operands_of, order, refl, subst, sym, symbol}
+-- A disassembled instruction is cut into the words of the instruction that is meant, and has the length of its row.
+use Rattle.m51_disasm_proof.proofs.Common.{◌&&◌, ◌++◌, ◌||◌, ◌∙◌, ◌∷◌, ◌≡◌, AreSlots, Bool, Instr, IsSlot, IsSound}
+use Rattle.m51_disasm_proof.proofs.Common.{Jump, List, Meanings, None, Nop, Nothing, OperandTree, Slot, Some}
+use Rattle.m51_disasm_proof.proofs.Common.{SourceLine, Target, Word, [], ap, append-nil, append_assoc, codes}
+use Rattle.m51_disasm_proof.proofs.Common.{cons_option, false, line_size, look_of, map, meant, name_of, name_word, not}
+use Rattle.m51_disasm_proof.proofs.Common.{operand_of, operands_of, option_map, order, refl, subst, sym, symbol}
 use Rattle.m51_disasm_proof.proofs.Common.{text_of, true, ℕ}
-use Rattle.std.specs.Prelude.{option_and_then}
+use Rattle.std.specs.Prelude.{option_and_then, unwrap_or}
+use Rattle.m51_isa.proofs.RowsFilled.{rows_are_apart}
 use Rattle.m51_isa.specs.Arithmetic.{arithmetic}
 use Rattle.m51_isa.specs.Branches.{branches}
 use Rattle.m51_isa.specs.Jumps.{jumps}
 use Rattle.m51_isa.specs.Logic.{logic}
 use Rattle.m51_isa.specs.Moves.{moves}
-use Rattle.m51_isa.specs.Search.{has_row, row_for}
+use Rattle.m51_isa.specs.Search.{has_row, row_for, row_or, search}
 use Rattle.m51_isa.specs.Spelling.{text}
+use Rattle.m51_isa.specs.Table.{length_of as row_length}
 use Rattle.m51_expr.specs.Looks.{has_form}
 use Rattle.m51_expr.specs.Symbol.{arithmetic_word, operator_of, prefix_word, relation_word, word_symbol}
 use Rattle.m51_expr.specs.Words.{is_language_word}
@@ -21,11 +24,12 @@ use Rattle.m51_stmt.proofs.ListWords.{Each, comma_word}
 use Rattle.m51_stmt.proofs.PrintedBodies.{IsCode, body_words}
 use Rattle.m51_stmt.proofs.PrintedOperands.{IsOperand, operand_words}
 use Rattle.m51_stmt.specs.Statement.{Code}
-use Rattle.m51_encode.specs.Coding.{instruction_line, line, line_row}
+use Rattle.m51_encode.specs.Coding.{instruction_line, length_of, line, line_row}
+use Rattle.m51_asm.specs.Fitting.{size_by}
 use Rattle.m51_disasm.specs.Texts.{operand_after, operand_text, spelled}
-use Rattle.m51_disasm_proof.proofs.CutLines.{IsCutInto, after_blank, after_word, no_words}
+use Rattle.m51_disasm_proof.proofs.CutLines.{IsCutInto, after_blank, after_word, comma_stands, name_stands, no_words}
+use Rattle.m51_disasm_proof.proofs.MeantLines.{by_line}
 use Rattle.m51_disasm_proof.proofs.OperandsCut.{IsReadOperand, is_there, slot_read}
-use Rattle.m51_disasm_proof.proofs.StandingWords.{comma_stands, name_stands}
 
 -- no operand follows a missing one
 abbrev pub in_order : Slot → Slot → Slot → Bool
@@ -195,3 +199,39 @@ pub instruction_is_code : (t : Target) (i : Instr)
     → IsCode (text_of i).mnemonic r.operands
 instruction_is_code t i r =
     record { written = mnemonic_written i; word = mnemonic_word i; form = r.form ∙ row_is_found i; each = r.each }
+
+-- a row that is found has the length of the row
+found_length : (i : Instr)
+    → option_map row_length
+    (search (text_of i).mnemonic (look_of (text_of i).first) (look_of (text_of i).second) (look_of (text_of i).third))
+    ≡ Some (row_length i)
+unfolding arithmetic logic moves branches jumps
+found_length Nop = refl
+found_length i = refl
+
+row_length_is : (i : Instr) (form : Jump)
+    → option_map row_length
+    (row_for (text_of i).mnemonic form (look_of (text_of i).first) (look_of (text_of i).second)
+    (look_of (text_of i).third)) ≡ Some (row_length i)
+row_length_is i form =
+    let t = text_of i in
+    ap (λ verb. option_map row_length
+    (row_or form verb (search t.mnemonic (look_of t.first) (look_of t.second) (look_of t.third))))
+    (rows_are_apart i)
+    ∙ found_length i
+
+-- the length of a disassembled instruction, in whatever form
+pub code_length : (t : Target) (i : Instr) → AreSlots t (text_of i) → (form : Jump)
+    → length_of (text_of i).mnemonic (operands_of t (text_of i)) form ≡ Some (row_length i)
+unfolding length_of
+code_length t i h form =
+    let r = instruction_read t i h in
+    ap (λ os. length_of (text_of i).mnemonic os form) r.is
+    ∙ ap (option_map row_length) (r.row form) ∙ row_length_is i form
+
+-- the size of a line of a disassembly
+pub size_is : (names : Meanings) (form : Jump) (l : SourceLine) → IsSound l
+    → size_by names form (meant l).body ≡ line_size l
+size_is names form =
+    by_line (λ l. IsSound l → size_by names form (meant l).body ≡ line_size l) (λ h. refl) (λ base h. refl)
+    (λ o t byte h. refl) (λ o t i h. ap (λ n. unwrap_or n 0) (code_length t i h.content form)) (λ h. refl)

@@ -24,10 +24,9 @@ use Rattle.m51_asm.specs.PlacedFaults.{operand_fault, placed_fault, segments_bef
 use Rattle.m51_asm.specs.Repeats.{clashes, is_repeated, names_module, or_here, publics_again, publics_in, repeats_from}
 use Rattle.m51_disasm.specs.declared.line.SourceLine.TheVariants as line
 use Rattle.m51_disasm_proof.proofs.DisassemblyRead.{given}
-use Rattle.m51_disasm_proof.proofs.LabelsDefined.{LiesFrom, defines_label, label_of}
 use Rattle.m51_disasm_proof.proofs.LinesStand.{IsCode, LinesFrom, State, body_is, given_after, next, size_is_of}
 use Rattle.m51_disasm_proof.proofs.LinesStand.{spot_here, state}
-use Rattle.m51_disasm_proof.proofs.MeantLines.{body_read, by_line, read_at}
+use Rattle.m51_disasm_proof.proofs.MeantLines.{LiesFrom, body_read, by_line, defines_label, label_of, read_at}
 use Rattle.m51_disasm_proof.proofs.PartsInOrder.{AreInOrder}
 use Rattle.m51_disasm_proof.proofs.PartsPassed.{StatementsFrom, in_part, next_statement, part_passed}
 use Rattle.m51_disasm_proof.proofs.SoundLines.{lines_in, rest_of, whole}

@@ -19,11 +19,10 @@ use Rattle.m51_asm.specs.Pieces.{content_at, offset_at, runs_from}
 use Rattle.m51_asm.specs.Repeats.{or_here}
 use Rattle.m51_disasm.specs.declared.line.SourceLine.TheVariants as line
 use Rattle.m51_disasm_proof.specs.Places.{IsSpot, Spot, place_after}
-use Rattle.m51_disasm_proof.proofs.CodeSizes.{size_is}
 use Rattle.m51_disasm_proof.proofs.DisassemblyRead.{given}
-use Rattle.m51_disasm_proof.proofs.LabelsDefined.{AreGood, after_label, defines_label, found_below, label_of}
-use Rattle.m51_disasm_proof.proofs.LabelsDefined.{still_from}
-use Rattle.m51_disasm_proof.proofs.MeantLines.{by_line, length_read, read_at, read_line}
+use Rattle.m51_disasm_proof.proofs.InstructionsCut.{size_is}
+use Rattle.m51_disasm_proof.proofs.MeantLines.{AreGood, after_label, by_line, defines_label, found_below, label_of}
+use Rattle.m51_disasm_proof.proofs.MeantLines.{length_read, read_at, read_line, still_from}
 
 -- the number of CSEG AT
 number_is : (names : Meanings) (base : ℕ) → number_or_zero names (tree.Number base) ≡ base

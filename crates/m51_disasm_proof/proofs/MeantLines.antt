@@ -1,9 +1,13 @@
--- The cases of a line of a disassembly, and the lines as they are read.
-use Rattle.m51_disasm_proof.proofs.Common.{◌+◌, ◌∷◌, ◌≡◌, BodyTree, Content, Instr, LineTree, List, Option, SourceLine}
-use Rattle.m51_disasm_proof.proofs.Common.{Target, [], ap, arith, body_at, length, meant, read_from, refl, suc, zero, ℕ}
+-- The cases of a line of a disassembly, the lines as they are read, and their labels.
+use Rattle.m51_disasm_proof.proofs.Common.{◌++◌, ◌+◌, ◌<◌, ◌∷◌, ◌≡◌, ◌≤◌, AllByRecursion, BodyTree, Content, Instr}
+use Rattle.m51_disasm_proof.proofs.Common.{IsSound, LineTree, List, None, Option, Some, SourceLine, Target, [], ap}
+use Rattle.m51_disasm_proof.proofs.Common.{arith, body_at, cond, label_text, length, meant, option_map, read_from, refl}
+use Rattle.m51_disasm_proof.proofs.Common.{suc, zero, ℕ}
 use Rattle.m51_stmt.specs.Statement.{Empty}
+use Rattle.m51_asm.specs.Definitions.{Defined, Definition, Label, definitions_in, found_in, label_defined}
 use Rattle.m51_disasm.specs.declared.line.SourceLine.TheVariants as line
 use Rattle.m51_disasm.specs.declared.statement.Content.TheVariants as content
+use Rattle.m51_disasm_proof.proofs.Labels.{other_label, same_label}
 
 abbrev statement : Option ℕ → Target → Content → SourceLine
 statement label t c = line.Statement (record { label = label; content = c; target = t })
@@ -46,3 +50,53 @@ pub body_read : (P : BodyTree → Type 0) → P Empty → ((l : SourceLine) → 
 body_read P none each k [] j = none
 body_read P none each k (l ∷ ls) zero = each l
 body_read P none each k (l ∷ ls) (suc j) = body_read P none each (suc k) ls j
+
+-- the label of a line
+abbrev pub label_of : SourceLine → Option ℕ
+label_of (line.Statement s) = s.label
+label_of other = None
+
+abbrev pub LiesFrom : ℕ → Option ℕ → Type 0
+LiesFrom low None = Unit {0}
+LiesFrom low (Some address) = (low ≤ address) × (address < 65536)
+
+abbrev pub after_label : ℕ → Option ℕ → ℕ
+after_label low None = low
+after_label low (Some address) = address + 1
+
+-- these lines can be written, and their labels ascend from an address on
+abbrev pub AreGood : ℕ → List SourceLine → Type 0
+AreGood low [] = Unit {0}
+AreGood low (l ∷ ls) = IsSound l × LiesFrom low (label_of l) × AreGood (after_label low (label_of l)) ls
+
+pub are_sound : (low : ℕ) (ls : List SourceLine) → AreGood low ls → AllByRecursion IsSound ls
+are_sound low [] h = tt
+are_sound low (l ∷ ls) h = (h.0, are_sound (after_label low (label_of l)) ls h.2)
+
+-- what comes after a label comes after what is before it
+pub still_from : (low address : ℕ) (o : Option ℕ) → LiesFrom low o → after_label low o ≤ address → low ≤ address
+still_from low address None lies from = from
+still_from low address (Some other) lies from = omega arith
+
+with_none : (o : Option ℕ) (ds : List Defined) → ds ≡ []
+    → label_defined (option_map label_text o) ++ ds ≡ label_defined (option_map label_text o)
+with_none None ds e = e
+with_none (Some address) ds e = ap (λ d. (label_text address, Label) ∷ d) e
+
+-- a line defines only its label
+pub defines_label : (l : SourceLine) → definitions_in (meant l) ≡ label_defined (option_map label_text (label_of l))
+defines_label =
+    by_line (λ l. definitions_in (meant l) ≡ label_defined (option_map label_text (label_of l))) refl (λ base. refl)
+    (λ label t byte. with_none label [] refl) (λ label t i. with_none label [] refl) refl
+
+abbrev pub found_with : ℕ → Option ℕ → Option Definition
+found_with address o = found_in (label_defined (option_map label_text o)) (label_text address)
+
+pub found_here : (address : ℕ) → found_with address (Some address) ≡ Some Label
+found_here address = ap (λ b. cond b (Some Label) None) (same_label address)
+
+pub found_below : (address : ℕ) (o : Option ℕ) (low : ℕ) → after_label low o ≤ address → address < 65536
+    → LiesFrom low o → found_with address o ≡ None
+found_below address None low h small lies = refl
+found_below address (Some other) low h small lies =
+    ap (λ b. cond b (Some Label) None) (other_label address other small lies.1 (λ e. omega arith))

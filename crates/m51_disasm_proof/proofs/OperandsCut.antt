@@ -18,10 +18,9 @@ use Rattle.m51_disasm.specs.Texts.{data_text, digit_text, operand_text, plain_te
 use Rattle.m51_disasm.specs.declared.line.Target.TheVariants as target
 use Rattle.m51_disasm_proof.specs.Meaning.{target_operand}
 use Rattle.m51_disasm_proof.specs.Sound.{IsAddress, IsTarget}
-use Rattle.m51_disasm_proof.proofs.CutLines.{IsCutInto, after_word}
+use Rattle.m51_disasm_proof.proofs.CutLines.{Ends, IsCutInto, after_word, at_stands, byte_stands, byte_word}
+use Rattle.m51_disasm_proof.proofs.CutLines.{hash_stands, name_stands, plus_stands, slash_stands, word_stands}
 use Rattle.m51_disasm_proof.proofs.Labels.{label_is_free}
-use Rattle.m51_disasm_proof.proofs.StandingWords.{Ends, at_stands, byte_stands, byte_word, hash_stands, name_stands}
-use Rattle.m51_disasm_proof.proofs.StandingWords.{plus_stands, slash_stands, word_stands}
 
 -- an operand of a row as one of a line, and its text before a line of words
 pub record IsReadOperand (t : Target) (s : Slot) : Type 0 where

@@ -1,13 +1,17 @@
--- What bytes are decoded as has these bytes, and numbers that its fields have room for.
+-- What bytes are decoded as has these bytes, numbers that its fields have room for, and usual operands. At most one
+-- of them leads anywhere: to the target.
 use Rattle.m51_disasm_proof.proofs.Common.{◌%◌, ◌&&◌, ◌*◌, ◌+◌, ◌/◌, ◌<◌, ◌==◌, ◌||◌, ◌∙◌, ◌∷◌, ◌≡◌, AtR, Bool, Field}
-use Rattle.m51_disasm_proof.proofs.Common.{HasRoom, IfSome, Imm, Instr, List, None, NotBit, Option, Plain, R, Slot}
-use Rattle.m51_disasm_proof.proofs.Common.{Some, Text, [], and_parts, ap, arith, cond, encoded, false, get_or, ltb-true}
-use Rattle.m51_disasm_proof.proofs.Common.{map, nat_lt, option_map, refl, subst, sym, take, text_of, true, ℕ}
+use Rattle.m51_disasm_proof.proofs.Common.{HasRoom, IfSome, Imm, Instr, List, None, Nop, NotBit, Option, Plain, R, Slot}
+use Rattle.m51_disasm_proof.proofs.Common.{Some, Target, Text, [], and_parts, ap, arith, cond, encoded, false, field_in}
+use Rattle.m51_disasm_proof.proofs.Common.{get_or, is_among, ltb-true, map, nat_lt, not, option_map, option_or, refl}
+use Rattle.m51_disasm_proof.proofs.Common.{subst, sym, take, text_of, true, written_target, ℕ}
 use Rattle.std.proofs.lemmas.List.FromFn.{get_or-map-range_with_len}
 use Rattle.std.specs.List.{range_with_len}
 use Rattle.m51_isa.specs.Table.{decoded_at, length_of}
 use Rattle.m51_isa.specs.TextLaws.{kept, number_of_slot}
 use Rattle.m51_isa.specs.declared.slot.Field.TheVariants as field
+use Rattle.m51_disasm.specs.Statements.{address_by, address_of, slot_address}
+use Rattle.m51_disasm.specs.declared.line.Target.TheVariants as target
 
 -- ---- room in fields
 
@@ -159,3 +163,87 @@ module _ (first second third : ℕ) (f : first < 256) (s : second < 256) (t : th
   -- what three bytes are decoded as is written with them, and its numbers have room
   pub decoded_rows : IfSome (decoded_at first second third) (IsDecoded (first ∷ second ∷ third ∷ []))
   decoded_rows = by_row (decoded_at first second third) (one_is second third first f)
+
+abbrev pub is_data : Field → Bool
+is_data field.Data = true
+is_data field.Data16 = true
+is_data other = false
+
+abbrev pub is_bit : Field → Bool
+is_bit field.Bit = true
+is_bit other = false
+
+-- data are written after #, an address is not, and only a bit is written after /
+abbrev pub is_usual : Slot → Bool
+is_usual (Imm f) = is_data f.field
+is_usual (Plain f) = not (is_data f.field)
+is_usual (NotBit f) = is_bit f.field
+is_usual s = true
+
+abbrev are_usual : Text → Bool
+are_usual t = is_usual t.first && (is_usual t.second && is_usual t.third)
+
+all_usual : (i : Instr) → are_usual (text_of i) ≡ true
+all_usual Nop = refl
+all_usual i = refl
+
+pub rows_usual : (i : Instr) → (is_usual (text_of i).first ≡ true) × (is_usual (text_of i).second ≡ true)
+    × (is_usual (text_of i).third ≡ true)
+rows_usual i =
+    and_all (is_usual (text_of i).first) (is_usual (text_of i).second) (is_usual (text_of i).third) (all_usual i)
+
+-- a target that is written as a label or as a number
+pub data LeadsTo (address : ℕ) (t : Target) : Type 0 where
+  ByLabel : t ≡ target.Label address → LeadsTo address t
+  ByNumber : t ≡ target.Number address → LeadsTo address t
+
+-- the address to which an operand leads, if there is one, is that of the target
+abbrev pub IsLed : Target → Option ℕ → Type 0
+IsLed t o = (address : ℕ) → o ≡ Some address → LeadsTo address t
+
+pub record AreLed (t : Target) (next : ℕ) (x : Text) : Type 0 where
+  pub first : IsLed t (slot_address next (field_in x.first))
+  pub second : IsLed t (slot_address next (field_in x.second))
+  pub third : IsLed t (slot_address next (field_in x.third))
+
+abbrev at_most_one : Option ℕ → Option ℕ → Option ℕ → Bool
+at_most_one None None c = true
+at_most_one None (Some b) None = true
+at_most_one (Some a) None None = true
+at_most_one a b c = false
+
+one_leads : (next : ℕ) (i : Instr)
+    → at_most_one (slot_address next (field_in (text_of i).first)) (slot_address next (field_in (text_of i).second))
+    (slot_address next (field_in (text_of i).third)) ≡ true
+unfolding address_by
+one_leads next Nop = refl
+one_leads next i = refl
+
+written_as : (address : ℕ) (b : Bool) → LeadsTo address (cond b (target.Label address) (target.Number address))
+written_as address true = ByLabel refl
+written_as address false = ByNumber refl
+
+nowhere : (t : Target) → IsLed t None
+nowhere t address e = absurd (cc e)
+
+leads_to : (begin : List ℕ) (o : Option ℕ) → IsLed (written_target begin o) o
+leads_to begin o address e =
+    subst (λ x. LeadsTo address (written_target begin x)) (sym e) (written_as address (is_among begin address))
+
+by_option : (begin : List ℕ) (a b c : Option ℕ) → at_most_one a b c ≡ true
+    → let t = written_target begin (option_or a (option_or b c)) in IsLed t a × IsLed t b × IsLed t c
+by_option begin None None c one = (nowhere _, nowhere _, leads_to begin c)
+by_option begin None (Some b) None one = (nowhere _, leads_to begin (Some b), nowhere _)
+by_option begin (Some a) None None one = (leads_to begin (Some a), nowhere _, nowhere _)
+by_option begin None (Some b) (Some c) one = absurd (cc one)
+by_option begin (Some a) None (Some c) one = absurd (cc one)
+by_option begin (Some a) (Some b) c one = absurd (cc one)
+
+-- the operands of a row lead to the target that is written
+pub rows_led : (begin : List ℕ) (next : ℕ) (i : Instr)
+    → AreLed (written_target begin (address_of next (text_of i))) next (text_of i)
+rows_led begin next i =
+    let led = by_option begin (slot_address next (field_in (text_of i).first))
+    (slot_address next (field_in (text_of i).second)) (slot_address next (field_in (text_of i).third))
+    (one_leads next i) in
+    record { first = led.0; second = led.1; third = led.2 }

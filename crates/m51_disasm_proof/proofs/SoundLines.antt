@@ -16,11 +16,10 @@ use Rattle.m51_disasm.specs.Statements.{statement_target, target_by}
 use Rattle.m51_disasm.specs.declared.line.SourceLine.TheVariants as line
 use Rattle.m51_disasm.specs.declared.statement.Content.TheVariants as content
 use Rattle.m51_disasm_proof.specs.Sound.{IsAddress, IsLabel, IsTarget}
-use Rattle.m51_disasm_proof.proofs.LabelsDefined.{AreGood, LiesFrom, after_label}
-use Rattle.m51_disasm_proof.proofs.OperandsLed.{AreLed, ByLabel, ByNumber, IsLed, LeadsTo, is_data, is_usual, rows_led}
-use Rattle.m51_disasm_proof.proofs.OperandsLed.{rows_usual}
+use Rattle.m51_disasm_proof.proofs.MeantLines.{AreGood, LiesFrom, after_label}
 use Rattle.m51_disasm_proof.proofs.PartsInOrder.{AreInOrder}
-use Rattle.m51_disasm_proof.proofs.RowsDecoded.{FitsIn, FitsSlot, IsDecoded, decoded_rows}
+use Rattle.m51_disasm_proof.proofs.RowsDecoded.{AreLed, ByLabel, ByNumber, FitsIn, FitsSlot, IsDecoded, IsLed, LeadsTo}
+use Rattle.m51_disasm_proof.proofs.RowsDecoded.{decoded_rows, is_data, is_usual, rows_led, rows_usual}
 use Rattle.m51_disasm_proof.proofs.StatementsFollow.{Follow, part_follows}
 
 -- ---- the lines, part by part

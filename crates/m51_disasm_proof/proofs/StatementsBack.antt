@@ -20,9 +20,8 @@ use Rattle.m51_disasm.specs.declared.statement.Content.{Content as Written}
 use Rattle.m51_disasm.specs.declared.statement.Content.TheVariants as content
 use Rattle.m51_disasm_proof.specs.Standing.{GivesBytes, only_bytes}
 use Rattle.m51_disasm_proof.proofs.CodeBack.{code_back}
-use Rattle.m51_disasm_proof.proofs.FieldsBack.{data_back}
-use Rattle.m51_disasm_proof.proofs.OperandsLed.{rows_led}
-use Rattle.m51_disasm_proof.proofs.RowsDecoded.{IsDecoded, slot_kept}
+use Rattle.m51_disasm_proof.proofs.OperandsBack.{data_back}
+use Rattle.m51_disasm_proof.proofs.RowsDecoded.{IsDecoded, rows_led, slot_kept}
 use Rattle.m51_disasm_proof.proofs.SoundLines.{decoded_here, slots_sound, three_at}
 
 -- the bytes of a row come first in its code

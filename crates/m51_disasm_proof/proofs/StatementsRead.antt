@@ -1,12 +1,14 @@
--- Each line of a disassembly is read as the statement that is meant.
-use Rattle.m51_disasm_proof.proofs.Common.{◌++◌, ◌<◌, ◌∙◌, ◌∷◌, ◌≡◌, BodyTree, Content, Instr, IsContent, IsSound, List}
-use Rattle.m51_disasm_proof.proofs.Common.{None, Ok, OperandTree, Option, Some, SourceLine, Target, [], ap, append-nil}
-use Rattle.m51_disasm_proof.proofs.Common.{append_assoc, arith, body_of, byte_text, codes, false, is_character}
-use Rattle.m51_disasm_proof.proofs.Common.{label_text, list_all, map, meant, name_of, name_word, number_word}
+-- Each line of a disassembly is short, and is read as the statement that is meant.
+use Rattle.m51_disasm_proof.proofs.Common.{◌++◌, ◌<◌, ◌∙◌, ◌∷◌, ◌≡◌, ◌≤◌, BodyTree, Content, Field, Imm, Instr}
+use Rattle.m51_disasm_proof.proofs.Common.{IsContent, IsSound, List, None, Nop, Nothing, Ok, OperandTree, Option, Plain}
+use Rattle.m51_disasm_proof.proofs.Common.{Slot, Some, SourceLine, Target, [], ap, append-nil, append_assoc, arith}
+use Rattle.m51_disasm_proof.proofs.Common.{body_of, byte_text, codes, false, is_character, label_text, length}
+use Rattle.m51_disasm_proof.proofs.Common.{length-append, list_all, map, meant, name_of, name_word, number_word}
 use Rattle.m51_disasm_proof.proofs.Common.{option_map, refl, sign_word, subst, sym, symbol, text_of, true, word_text, ℕ}
 use Rattle.m51_cells.proofs.NameLaws.{named_is_name}
 use Rattle.m51_cells.specs.declared.kind.Kind.TheVariants as kind
 use Rattle.m51_isa.specs.Spelling.{text}
+use Rattle.m51_isa.specs.declared.slot.Field.TheVariants as field
 use Rattle.m51_expr.specs.Tree as tree
 use Rattle.m51_expr.specs.declared.symbol.Symbol.TheVariants as symbols
 use Rattle.m51_stmt.proofs.Derives.{statement_reads}
@@ -19,15 +21,73 @@ use Rattle.m51_stmt.specs.Grammar as grammar
 use Rattle.m51_stmt.specs.Lines.{any_line, statement, token_line}
 use Rattle.m51_stmt.specs.Statement as body
 use Rattle.m51_stmt.specs.Statement.{StmtTree}
-use Rattle.m51_disasm.specs.Texts.{content_text, label_front, line_text, operand_after, spelled, statement_text}
+use Rattle.m51_disasm.specs.Texts.{content_text, data_text, label_front, line_text, operand_after, operand_text}
+use Rattle.m51_disasm.specs.Texts.{plain_text, spelled, statement_text, target_text}
 use Rattle.m51_disasm.specs.declared.line.SourceLine.TheVariants as line
+use Rattle.m51_disasm.specs.declared.line.Target.TheVariants as target
 use Rattle.m51_disasm.specs.declared.statement.Content.TheVariants as content
 use Rattle.m51_disasm_proof.specs.Meaning.{without_label}
 use Rattle.m51_disasm_proof.specs.Sound.{IsLabel}
-use Rattle.m51_disasm_proof.proofs.CutLines.{IsCutInto, after_blank, after_word, no_words, words_read}
+use Rattle.m51_disasm_proof.proofs.CutLines.{IsCutInto, after_blank, after_word, byte_stands, byte_word, colon_stands}
+use Rattle.m51_disasm_proof.proofs.CutLines.{name_stands, no_words, word_stands, words_read}
 use Rattle.m51_disasm_proof.proofs.InstructionsCut.{instruction_is_code, instruction_read}
 use Rattle.m51_disasm_proof.proofs.Labels.{label_is_free}
-use Rattle.m51_disasm_proof.proofs.StandingWords.{byte_stands, byte_word, colon_stands, name_stands, word_stands}
+
+target_few : (t : Target) → length (target_text t) ≤ 6
+unfolding target_text
+target_few target.Nowhere = omega arith
+target_few (target.Label address) = omega arith
+target_few (target.Number address) = omega arith
+
+data_few : (f : Field) (n : ℕ) → length (data_text f n) ≤ 6
+unfolding data_text
+data_few field.Data16 n = omega arith
+data_few f n = omega arith
+
+plain_few : (t : Target) (f : Field) (n : ℕ) → length (plain_text t f n) ≤ 6
+unfolding plain_text
+plain_few t field.Direct n = omega arith
+plain_few t field.Bit n = omega arith
+plain_few t f n = target_few t
+
+operand_few : (t : Target) (s : Slot) → length (operand_text t s) ≤ 7
+unfolding operand_text
+operand_few t (Imm f) = let few = data_few f.field f.number in omega arith
+operand_few t (Plain f) = let few = plain_few t f.field f.number in omega arith
+operand_few t s = omega arith
+
+after_few : (sign : List ℕ) (t : Target) (s : Slot) → length sign ≤ 1 → length (operand_after sign t s) ≤ 8
+unfolding operand_after
+after_few sign t Nothing h = omega arith
+after_few sign t s h = let few = operand_few t s in simp length-append (omega arith)
+
+mnemonic_few : (i : Instr) → length (text_of i).mnemonic ≤ 5
+mnemonic_few Nop = omega arith
+mnemonic_few i = omega arith
+
+content_few : (t : Target) (c : Content) → length (content_text t c) ≤ 29
+unfolding content_text spelled
+content_few t (content.Byte byte) = omega arith
+content_few t (content.Code i) =
+    let m = mnemonic_few i in
+    let a = after_few (codes " ") t (text_of i).first (omega arith) in
+    let b = after_few (codes ",") t (text_of i).second (omega arith) in
+    let c = after_few (codes ",") t (text_of i).third (omega arith) in
+    simp length-append (omega arith)
+
+label_few : (label : Option ℕ) → length (label_front label) ≤ 7
+unfolding label_front
+label_few None = omega arith
+label_few (Some address) = omega arith
+
+-- so no line has more bytes than one may have
+pub line_few : (l : SourceLine) → length (line_text l) ≤ 255
+unfolding line_text statement_text
+line_few line.Nomod51 = omega arith
+line_few (line.Segment base) = omega arith
+line_few (line.Statement s) =
+    let label = label_few s.label in let text = content_few s.target s.content in simp length-append (omega arith)
+line_few line.End = omega arith
 
 -- a text that begins with a name
 pub record Begins (line : List ℕ) : Type 0 where

@@ -27,9 +27,8 @@ use Rattle.m51_text.specs.Said.{asked, has_content, include_name, is_end, is_end
 use Rattle.m51_text.specs.Text.{TextLine, brought, include_lines, inclusion_by, lines_with, text_lines}
 use Rattle.m51_disasm.specs.Texts.{line_text, text_of_lines}
 use Rattle.m51_disasm.specs.declared.line.SourceLine.TheVariants as line
-use Rattle.m51_disasm_proof.proofs.LineLengths.{line_few}
 use Rattle.m51_disasm_proof.proofs.MeantLines.{by_line}
-use Rattle.m51_disasm_proof.proofs.StatementsRead.{line_read}
+use Rattle.m51_disasm_proof.proofs.StatementsRead.{line_few, line_read}
 
 -- ---- each line says what is meant
 
@@ -97,7 +96,8 @@ own_lines : (n : ℕ) (ls : List SourceLine) → AllByRecursion IsSound ls
     → lines_with (brought [] 8) 8 0 n (map line_text ls) ≡ numbered n ls
 own_lines n [] is = refl
 own_lines n (l ∷ ls) is =
-    ap (λ more. text_line n l ∷ (more ++ lines_with (brought [] 8) 8 0 (n + 1) (map line_text ls))) (none_brought l is.0)
+    ap (λ more. text_line n l ∷ (more ++ lines_with (brought [] 8) 8 0 (n + 1) (map line_text ls)))
+    (none_brought l is.0)
     ∙ ap (λ more. text_line n l ∷ more) (own_lines (n + 1) ls is.1)
 
 count : (n : ℕ) (ls : List SourceLine) → length (numbered n ls) ≡ length ls
@@ -160,7 +160,8 @@ no_faults above n (l ∷ []) is e none few =
 no_faults above n (l ∷ m ∷ ls) is e none few =
     let rest = numbered (n + 1) (m ∷ ls) in
     let still : list_any ends_source (above ++ text_line n l ∷ []) ≡ false =
-    list_any-append ends_source above (text_line n l ∷ []) ∙ (λ i. none i || (((ends_said n l is.0 ∙ e.0) i) || false)) in
+    list_any-append ends_source above (text_line n l ∷ [])
+    ∙ (λ i. none i || (((ends_said n l is.0 ∙ e.0) i) || false)) in
     let size = length-append above (text_line n l ∷ []) in
     ap (λ o. before (text_line n l) o (faults_from [] false (above ++ text_line n l ∷ []) rest))
     (no_fault above n l is.0 none (omega arith))

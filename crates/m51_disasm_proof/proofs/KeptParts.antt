@@ -1,8 +1,8 @@
 -- The segments of the module of a disassembly: one for each part.
 use Rattle.m51_disasm_proof.proofs.Common.{◌++◌, ◌+◌, ◌<◌, ◌==◌, ◌∙◌, ◌∷◌, ◌≡◌, ◌≢◌, AllByRecursion, Assignment, Bool}
 use Rattle.m51_disasm_proof.proofs.Common.{CodeRange, Kept, LineTree, List, SourceLine, TextSegment, [], ap, append-nil}
-use Rattle.m51_disasm_proof.proofs.Common.{append_assoc, arith, body_at, cond, eq-eqb, false, length, line_size, meant}
-use Rattle.m51_disasm_proof.proofs.Common.{opening, order, refl, statements_of, subst, suc, sym, true, zero, ℕ}
+use Rattle.m51_disasm_proof.proofs.Common.{append_assoc, arith, body_at, cond, eq-eqb, false, length, meant, opening}
+use Rattle.m51_disasm_proof.proofs.Common.{order, refl, statements_of, subst, suc, sym, true, zero, ℕ}
 use Rattle.std.specs.Str.Lines.{lines}
 use Rattle.m51_encode.specs.declared.outcome.OperandOutcome.TheVariants.{Stands}
 use Rattle.m51_emit.specs.Content.{content_by}
@@ -14,7 +14,7 @@ use Rattle.m51_asm.specs.ObjectMeanings.{final}
 use Rattle.m51_asm.specs.ObjectSegments.{absolute_of, if_filled, kept, kept_before, size_of}
 use Rattle.m51_asm.specs.Pieces.{content_at, offset_at, runs_from}
 use Rattle.m51_disasm.specs.declared.line.SourceLine.TheVariants as line
-use Rattle.m51_disasm_proof.specs.Standing.{LineGives, only_bytes}
+use Rattle.m51_disasm_proof.specs.Standing.{LineGives}
 use Rattle.m51_disasm_proof.proofs.LinesStand.{LinesFrom, State, adds, body_is, next, other_segment, passes, skips}
 use Rattle.m51_disasm_proof.proofs.LinesStand.{state}
 use Rattle.m51_disasm_proof.proofs.MeantLines.{read_at}
@@ -50,7 +50,7 @@ IsBare (line.Statement s) = ⊥
 IsBare l = Unit {0}
 
 bare_line : (lines : List LineTree) (a : Assignment) (image : List ℕ) (k address : ℕ) (l : SourceLine) → IsBare l
-    → body_at lines k ≡ (meant l).body → LineGives lines a image k address (line_size l)
+    → body_at lines k ≡ (meant l).body → LineGives lines a image k address 0
 unfolding content_at line_outcomes
 bare_line lines a image k address (line.Statement s) bare is = absurd bare
 bare_line lines a image k address l bare is = record {
@@ -64,7 +64,7 @@ same_either false x = refl
 
 module _ {lines : List LineTree} {a : Assignment} {k : ℕ} {s : State} {l : SourceLine} {ls : List SourceLine}
     (image : List ℕ) (h : LinesFrom lines a k s (l ∷ ls)) (bare : IsBare l) where
-  pub bare_gives : LineGives lines a image k (s.segment.base + s.given) (line_size l)
+  pub bare_gives : LineGives lines a image k (s.segment.base + s.given) 0
   bare_gives = bare_line lines a image k (s.segment.base + s.given) l bare (body_is h)
 
   pub bare_runs : (id : ℕ)
@@ -72,13 +72,8 @@ module _ {lines : List LineTree} {a : Assignment} {k : ℕ} {s : State} {l : Sou
   bare_runs id =
       let more = runs_from lines a id (suc k) (read_at (suc k) ls) in
       ap (λ (c : EmittedContent). cond ((a.segment k).id == id) (if_bytes (offset_at lines a k) c.bytes more) more)
-      (no_bytes l bare bare_gives)
+      bare_gives.content
       ∙ same_either ((a.segment k).id == id) more
-    where
-      no_bytes : (x : SourceLine) → IsBare x → LineGives lines a image k (s.segment.base + s.given) (line_size x)
-          → content_at lines a k ≡ only_bytes []
-      no_bytes (line.Statement x) bare gives = absurd bare
-      no_bytes x bare gives = gives.content
 
 -- nor does the one that is open where a part begins or END comes
 pub ends : {lines : List LineTree} {a : Assignment} {k : ℕ} {s : State} (image : List ℕ) (parts : List CodeRange)

@@ -1,9 +1,10 @@
 -- The labels of a disassembly are names that a statement may define, and those of two addresses are two names.
-use Rattle.m51_disasm_proof.proofs.Common.{◌%◌, ◌&&◌, ◌*◌, ◌+◌, ◌-◌, ◌/◌, ◌<◌, ◌∙◌, ◌∷◌, ◌≡◌, ◌≢◌, ◌≤◌, Bool, List}
-use Rattle.m51_disasm_proof.proofs.Common.{None, Some, [], ap, arith, codes, common_steps, cond, digit_glyph, false}
-use Rattle.m51_disasm_proof.proofs.Common.{get_or, label_text, length, ltb-true, name_of, nat_lt, refl, sym, true, ℕ}
+use Rattle.m51_disasm_proof.proofs.Common.{◌%◌, ◌&&◌, ◌*◌, ◌+◌, ◌-◌, ◌/◌, ◌<◌, ◌∙◌, ◌∷◌, ◌≡◌, ◌≢◌, Bool, List, None}
+use Rattle.m51_disasm_proof.proofs.Common.{Some, [], ap, arith, codes, common_steps, cond, digit_glyph, false, get_or}
+use Rattle.m51_disasm_proof.proofs.Common.{label_text, length, name_of, nat_lt, refl, sym, true, ℕ}
 use Rattle.std.proofs.Common.{nat_eq}
-use Rattle.std.proofs.lemmas.Bool.{le-ltb, lt-ltb, ltb-false}
+use Rattle.std.proofs.Math.Bool.{and-false}
+use Rattle.std.proofs.lemmas.Bool.Decides.{nat_tests}
 use Rattle.std.proofs.lemmas.Slice.Eq.{bytes_eq-Decides}
 use Rattle.std.specs.Char.{to_ascii_uppercase}
 use Rattle.std.specs.Str.{bytes_eq}
@@ -35,9 +36,7 @@ other_length : (xs ys : List ℕ) → length xs ≢ length ys → bytes_eq xs ys
 other_length xs ys other = decided (bytes_eq xs ys) (λ same. other (ap length ((bytes_eq-Decides xs ys).0 same)))
 
 fourth_differs : (a b c d : Bool) → c ≡ false → (true && (a && (b && (c && d)))) ≡ false
-fourth_differs false b c d h = refl
-fourth_differs true false c d h = refl
-fourth_differs true true c d h = ap (λ x. x && d) h
+fourth_differs a b c d h = simp (h, and-false)
 
 module _ (p q r s : ℕ) (a : IsGlyph p) (b : IsGlyph q) (c : IsGlyph r) (d : IsGlyph s) where
   abbrev label : List ℕ
@@ -82,18 +81,8 @@ label_is_free address h =
 abbrev number_of : ℕ → ℕ
 number_of c = cond (nat_lt c 58) (c - 48) (c - 55)
 
-by_test : (d : ℕ) (b : Bool) → nat_lt d 10 ≡ b → d < 16 → number_of (cond b (48 + d) (55 + d)) ≡ d
-by_test d true test low =
-    let less : d < 10 = ltb-true d 10 test in
-    let same : 48 + d - 48 ≡ d = omega arith in
-    ap (λ b. cond b (48 + d - 48) (48 + d - 55)) (lt-ltb (48 + d) 58 (omega arith)) ∙ same
-by_test d false test low =
-    let more : 10 ≤ d = ltb-false d 10 test in
-    let same : 55 + d - 55 ≡ d = omega arith in
-    ap (λ b. cond b (55 + d - 48) (55 + d - 55)) (le-ltb (55 + d) 58 (omega arith)) ∙ same
-
 digit_back : (d : ℕ) → d < 16 → number_of (digit_glyph true d) ≡ d
-digit_back d low = by_test d (nat_lt d 10) refl low
+digit_back d low = grind (arith, nat_tests)
 
 -- the address of a label
 abbrev address_in : List ℕ → ℕ
@@ -118,11 +107,7 @@ label_is s t low small e = sym (address_back s low) ∙ ap address_in e ∙ addr
 pub same_label : (s : ℕ) → bytes_eq (label_text s) (label_text s) ≡ true
 same_label s = (bytes_eq-Decides (label_text s) (label_text s)).1 refl
 
-other_by : (s t : ℕ) (b : Bool) → bytes_eq (label_text s) (label_text t) ≡ b → s < 65536 → t < 65536 → s ≢ t
-    → bytes_eq (label_text s) (label_text t) ≡ false
-other_by s t false e low small ne = e
-other_by s t true e low small ne =
-    absurd (ne (label_is s t low small ((bytes_eq-Decides (label_text s) (label_text t)).0 e)))
-
 pub other_label : (s t : ℕ) → s < 65536 → t < 65536 → s ≢ t → bytes_eq (label_text s) (label_text t) ≡ false
-other_label s t low small ne = other_by s t (bytes_eq (label_text s) (label_text t)) refl low small ne
+other_label s t low small ne =
+    decided (bytes_eq (label_text s) (label_text t))
+    (λ same. ne (label_is s t low small ((bytes_eq-Decides (label_text s) (label_text t)).0 same)))

@@ -1,18 +1,17 @@
 -- The segment and the place of each line of a disassembly, under each assignment that fits.
 use Rattle.m51_disasm_proof.proofs.Common.{◌+◌, ◌<◌, ◌==◌, ◌∙◌, ◌∷◌, ◌≡◌, ◌≢◌, ◌≤◌, Assignment, Fits, LineTree, List}
-use Rattle.m51_disasm_proof.proofs.Common.{Meanings, None, Option, Some, SourceLine, TextSegment, [], above, absolute}
-use Rattle.m51_disasm_proof.proofs.Common.{ap, arith, body_at, cond, eq-eqb, false, label_text, length, line_size}
-use Rattle.m51_disasm_proof.proofs.Common.{meant, ne_eqb, opening, option_map, refl, segment_after, slice_get}
-use Rattle.m51_disasm_proof.proofs.Common.{spots_from, subst, suc, sym, take, true, zero, ℕ}
+use Rattle.m51_disasm_proof.proofs.Common.{Meanings, None, Option, Some, SourceLine, TextSegment, [], above, ap, arith}
+use Rattle.m51_disasm_proof.proofs.Common.{body_at, cond, eq-eqb, false, label_text, length, line_size, meant, ne_eqb}
+use Rattle.m51_disasm_proof.proofs.Common.{opening, option_map, refl, segment_after, slice_get, spots_from, subst, suc}
+use Rattle.m51_disasm_proof.proofs.Common.{sym, take, true, zero, ℕ}
 use Rattle.std.specs.Str.Lines.{lines}
 use Rattle.m51_cells.specs.declared.kind.Kind.{Kind}
 use Rattle.m51_cells.specs.declared.kind.Kind.TheVariants as kind
 use Rattle.m51_cells.specs.declared.kind.Reloc.TheVariants as reloc
 use Rattle.m51_expr.specs.Evaluation.{value_of}
-use Rattle.m51_expr.specs.Tree as tree
 use Rattle.m51_emit.specs.Pieces.{if_bytes}
 use Rattle.m51_asm.proofs.DefinedLines.{at_line, defined_more}
-use Rattle.m51_asm.specs.Assignment.{body_of, number_or_zero}
+use Rattle.m51_asm.specs.Assignment.{body_of}
 use Rattle.m51_asm.specs.Definitions.{definition_from, definition_of, definitions_in, found_in, or_later}
 use Rattle.m51_asm.specs.Fitting.{filled, last_absolute, segment_behind, segment_by, size_at, size_by}
 use Rattle.m51_asm.specs.Pieces.{content_at, offset_at, runs_from}
@@ -24,17 +23,13 @@ use Rattle.m51_disasm_proof.proofs.InstructionsCut.{size_is}
 use Rattle.m51_disasm_proof.proofs.MeantLines.{AreGood, after_label, by_line, defines_label, found_below, label_of}
 use Rattle.m51_disasm_proof.proofs.MeantLines.{length_read, read_at, read_line, still_from}
 
--- the number of CSEG AT
-number_is : (names : Meanings) (base : ℕ) → number_or_zero names (tree.Number base) ≡ base
-unfolding value_of
-number_is names base = refl
-
 -- only CSEG begins a segment
 segment_is : (lines : List LineTree) (k : ℕ) (names : Meanings) (last : Kind → Option TextSegment) (s : TextSegment)
     (l : SourceLine) → segment_by lines k names last s (meant l).body ≡ segment_after k s l
+unfolding value_of
 segment_is lines k names last s =
     by_line (λ l. segment_by lines k names last s (meant l).body ≡ segment_after k s l) refl
-    (λ base. ap (absolute (k + 2) kind.Code) (number_is names base)) (λ label t byte. refl) (λ label t i. refl) refl
+    (λ base. refl) (λ label t byte. refl) (λ label t i. refl) refl
 
 -- a segment of an earlier line that is not open before a line is not open after it
 pub other_segment : (k id : ℕ) (s : TextSegment) (l : SourceLine) → id < k + 2 → s.id ≢ id

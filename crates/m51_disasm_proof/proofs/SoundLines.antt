@@ -2,25 +2,23 @@
 use Rattle.m51_disasm_proof.proofs.Common.{◌%◌, ◌++◌, ◌+◌, ◌<◌, ◌∙◌, ◌∷◌, ◌≡◌, ◌≤◌, AreBytes, AreSlots, AtR, Bool}
 use Rattle.m51_disasm_proof.proofs.Common.{CodeRange, Field, IfSome, Imm, Instr, IsContent, IsSlot, List, None, Option}
 use Rattle.m51_disasm_proof.proofs.Common.{Plain, R, Slot, Some, SourceLine, Statement, Target, [], ap, append_assoc}
-use Rattle.m51_disasm_proof.proofs.Common.{arith, beginnings, cond, content_of, false, field_in, flat_map, is_among}
-use Rattle.m51_disasm_proof.proofs.Common.{length_in, line_of, map, nat_lt, not, order, refl, slice_index}
-use Rattle.m51_disasm_proof.proofs.Common.{statement_lines, statements_of, subst, sym, targets, text_of, true}
-use Rattle.m51_disasm_proof.proofs.Common.{written_target, ℕ}
+use Rattle.m51_disasm_proof.proofs.Common.{arith, beginnings, cond, false, field_in, flat_map, is_among, length_in}
+use Rattle.m51_disasm_proof.proofs.Common.{line_of, map, nat_lt, not, order, refl, slice_index, statement_lines}
+use Rattle.m51_disasm_proof.proofs.Common.{statements_of, subst, sym, targets, text_of, true, written_target, ℕ}
 use Rattle.m51_isa.specs.Table.{length_of}
 use Rattle.m51_isa.specs.Targets.{near}
 use Rattle.m51_isa.specs.declared.slot.Field.TheVariants as field
 use Rattle.m51_asm.proofs.AnAssignment.{fits}
 use Rattle.m51_disasm.specs.Lines.{lines_of, part_lines}
-use Rattle.m51_disasm.specs.Statements.{address_by, can_stand, instr_in_image, slot_address, statement_at}
-use Rattle.m51_disasm.specs.Statements.{statement_target, target_by}
+use Rattle.m51_disasm.specs.Statements.{address_by, instr_in_image, slot_address, statement_at, statement_target}
+use Rattle.m51_disasm.specs.Statements.{target_by}
 use Rattle.m51_disasm.specs.declared.line.SourceLine.TheVariants as line
-use Rattle.m51_disasm.specs.declared.statement.Content.TheVariants as content
 use Rattle.m51_disasm_proof.specs.Sound.{IsAddress, IsLabel, IsTarget}
 use Rattle.m51_disasm_proof.proofs.MeantLines.{AreGood, LiesFrom, after_label}
 use Rattle.m51_disasm_proof.proofs.PartsInOrder.{AreInOrder}
 use Rattle.m51_disasm_proof.proofs.RowsDecoded.{AreLed, ByLabel, ByNumber, FitsIn, FitsSlot, IsDecoded, IsLed, LeadsTo}
 use Rattle.m51_disasm_proof.proofs.RowsDecoded.{decoded_rows, is_data, is_usual, rows_led, rows_usual}
-use Rattle.m51_disasm_proof.proofs.StatementsFollow.{Follow, part_follows}
+use Rattle.m51_disasm_proof.proofs.StatementsFollow.{Follow, by_content, part_follows}
 
 -- ---- the lines, part by part
 
@@ -110,12 +108,13 @@ slots_sound t next bytes i h led =
 abbrev pub three_at : List ℕ → ℕ → List ℕ
 three_at image at = slice_index image at ∷ slice_index image (at + 1) ∷ slice_index image (at + 2) ∷ []
 
-pub decoded_here : (image : List ℕ) → AreBytes image → (at : ℕ)
-    → IfSome (instr_in_image image at) (IsDecoded (three_at image at))
+pub decoded_as : (image : List ℕ) → AreBytes image → (at : ℕ) (i : Instr) → instr_in_image image at ≡ Some i
+    → IsDecoded (three_at image at) i
 unfolding instr_in_image
-decoded_here image bytes at =
-    decoded_rows (slice_index image at) (slice_index image (at + 1)) (slice_index image (at + 2)) (bytes at)
-    (bytes (at + 1)) (bytes (at + 2))
+decoded_as image bytes at i e =
+    subst (λ o. IfSome o (IsDecoded (three_at image at))) e
+    (decoded_rows (slice_index image at) (slice_index image (at + 1)) (slice_index image (at + 2)) (bytes at)
+    (bytes (at + 1)) (bytes (at + 2)))
 
 label_first : (b : Bool) (low at next : ℕ) → low ≤ at → at < 65536 → at + 1 ≤ next
     → LiesFrom low (cond b (Some at) None) × (after_label low (cond b (Some at) None) ≤ next)
@@ -123,26 +122,15 @@ label_first true low at next from small le = ((from, small), le)
 label_first false low at next from small le = (tt, omega arith)
 
 module _ (image : List ℕ) (bytes : AreBytes image) where
-  code_sound : (begin : List ℕ) (at byte : ℕ) (i : Instr) (b : Bool) → byte < 256 → IsDecoded (three_at image at) i
-      → IsContent (written_target begin (target_by at (cond b (content.Code i) (content.Byte byte))))
-      (cond b (content.Code i) (content.Byte byte))
-  code_sound begin at byte i true h decoded =
-      slots_sound _ (at + length_of i) (three_at image at) i decoded (rows_led begin (at + length_of i) i)
-  code_sound begin at byte i false h decoded = h
-
-  content_sound : (begin : List ℕ) (end at byte : ℕ) (o : Option Instr) → byte < 256
-      → IfSome o (IsDecoded (three_at image at))
-      → IsContent (written_target begin (target_by at (content_of end at byte o))) (content_of end at byte o)
-  content_sound begin end at byte None h decoded = h
-  content_sound begin end at byte (Some i) h decoded = code_sound begin at byte i (can_stand end at i) h decoded
-
   statement_sound : (begin : List ℕ) (end at : ℕ)
       → IsContent (written_target begin (statement_target (statement_at image end at)))
       (statement_at image end at).content
   unfolding statement_at statement_target
   statement_sound begin end at =
-      content_sound begin end at (slice_index image at) (instr_in_image image at) (bytes at)
-      (decoded_here image bytes at)
+      by_content image end at (λ c. IsContent (written_target begin (target_by at c)) c)
+      (λ i e stands. slots_sound _ (at + length_of i) (three_at image at) i (decoded_as image bytes at i e)
+      (rows_led begin (at + length_of i) i))
+      (bytes at)
 
   label_sound : (low : ℕ) (o : Option ℕ) → LiesFrom low o → IsLabel o
   label_sound low None h = tt

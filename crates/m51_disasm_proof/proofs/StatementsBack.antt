@@ -1,9 +1,8 @@
 -- Each statement of a disassembly gives the bytes of the image at its address.
-use Rattle.m51_disasm_proof.proofs.Common.{◌%◌, ◌+◌, ◌∙◌, ◌∷◌, ◌≡◌, AllByRecursion, AreBytes, Bool, IfSome, Instr}
-use Rattle.m51_disasm_proof.proofs.Common.{IsNamed, Jump, List, Meanings, None, Nop, Number, Ok, Option, Some, StandsAt}
-use Rattle.m51_disasm_proof.proofs.Common.{Target, [], all_inside, and_parts, ap, arith, body_of, bytes_at, cond}
-use Rattle.m51_disasm_proof.proofs.Common.{content_of, encoded, false, length_in, nat_le, refl, slice_index, subst, sym}
-use Rattle.m51_disasm_proof.proofs.Common.{take, text_of, true, written_target, ℕ}
+use Rattle.m51_disasm_proof.proofs.Common.{◌%◌, ◌+◌, ◌∙◌, ◌∷◌, ◌≡◌, AllByRecursion, AreBytes, Instr, IsNamed, Jump}
+use Rattle.m51_disasm_proof.proofs.Common.{List, Meanings, Nop, Number, Ok, Some, StandsAt, Target, [], all_inside}
+use Rattle.m51_disasm_proof.proofs.Common.{and_parts, ap, arith, body_of, bytes_at, encoded, length_in, nat_le, refl}
+use Rattle.m51_disasm_proof.proofs.Common.{slice_index, subst, sym, take, text_of, true, written_target, ℕ}
 use Rattle.std.proofs.lemmas.List.FromFn.{take-map-range_with_len}
 use Rattle.m51_isa.proofs.Codes.{rows_are_short}
 use Rattle.m51_isa.specs.Table.{length_of, padded}
@@ -15,14 +14,15 @@ use Rattle.m51_encode.specs.Items.{item_field}
 use Rattle.m51_encode.specs.declared.item.Width.TheVariants.{Byte}
 use Rattle.m51_encode.specs.declared.outcome.OperandOutcome.TheVariants.{Stands}
 use Rattle.m51_emit.specs.Content.{coded_content, followed_by, item_given, item_outcome, nothing}
-use Rattle.m51_disasm.specs.Statements.{can_stand, instr_in_image, statement_at, statement_target, target_by}
+use Rattle.m51_disasm.specs.Statements.{can_stand, statement_at, statement_target, target_by}
 use Rattle.m51_disasm.specs.declared.statement.Content.{Content as Written}
 use Rattle.m51_disasm.specs.declared.statement.Content.TheVariants as content
 use Rattle.m51_disasm_proof.specs.Standing.{GivesBytes, only_bytes}
 use Rattle.m51_disasm_proof.proofs.CodeBack.{code_back}
 use Rattle.m51_disasm_proof.proofs.OperandsBack.{data_back}
 use Rattle.m51_disasm_proof.proofs.RowsDecoded.{IsDecoded, rows_led, slot_kept}
-use Rattle.m51_disasm_proof.proofs.SoundLines.{decoded_here, slots_sound, three_at}
+use Rattle.m51_disasm_proof.proofs.SoundLines.{decoded_as, slots_sound, three_at}
+use Rattle.m51_disasm_proof.proofs.StatementsFollow.{by_content}
 
 -- the bytes of a row come first in its code
 padded_front : (i : Instr) → take (length_of i) (padded (encoded i)) ≡ encoded i
@@ -82,15 +82,6 @@ module _ (image : List ℕ) (bytes : AreBytes image) (begin : List ℕ) (end at 
         stand = (ap item_outcome byte_field, tt);
       }
 
-  by_test : (i : Instr) (b : Bool) → can_stand end at i ≡ b → IsDecoded (three_at image at) i
-      → Gives (cond b (content.Code i) (content.Byte byte))
-  by_test i true stands row = code_gives i row stands
-  by_test i false stands row = byte_gives
-
-  by_instr : (o : Option Instr) → IfSome o (IsDecoded (three_at image at)) → Gives (content_of end at byte o)
-  by_instr None row = byte_gives
-  by_instr (Some i) row = by_test i (can_stand end at i) refl row
-
   -- a statement gives the bytes of the image at its address
   pub statement_gives : IsNamed names segment (written_target begin (statement_target (statement_at image end at)))
       → GivesBytes names form
@@ -98,4 +89,5 @@ module _ (image : List ℕ) (bytes : AreBytes image) (begin : List ℕ) (end at 
       (statement_at image end at).content)
       (bytes_at image at (length_in (statement_at image end at).content))
   unfolding statement_at statement_target
-  statement_gives named = by_instr (instr_in_image image at) (decoded_here image bytes at) named
+  statement_gives =
+      by_content image end at Gives (λ i e stands. code_gives i (decoded_as image bytes at i e) stands) byte_gives

@@ -1,8 +1,8 @@
 -- The statements of a part follow one another from its base to its end.
-use Rattle.m51_disasm_proof.proofs.Common.{◌+◌, ◌-◌, ◌<◌, ◌∷◌, ◌≡◌, ◌≤◌, Bool, CodeRange, Instr, List, None, Option}
-use Rattle.m51_disasm_proof.proofs.Common.{Some, Statement, [], all_inside, and_parts, ap, arith, cond, content_of}
-use Rattle.m51_disasm_proof.proofs.Common.{false, length_in, nat_le, refl, slice_index, statements_of, suc, sym}
-use Rattle.m51_disasm_proof.proofs.Common.{text_of, true, zero, ℕ}
+use Rattle.m51_disasm_proof.proofs.Common.{◌+◌, ◌-◌, ◌<◌, ◌∷◌, ◌≡◌, ◌≤◌, Bool, CodeRange, Content, Instr, List, None}
+use Rattle.m51_disasm_proof.proofs.Common.{Option, Some, Statement, [], all_inside, and_parts, ap, arith, cond}
+use Rattle.m51_disasm_proof.proofs.Common.{content_of, false, length_in, nat_le, refl, slice_index, statements_of, suc}
+use Rattle.m51_disasm_proof.proofs.Common.{sym, text_of, true, zero, ℕ}
 use Rattle.std.proofs.lemmas.Bool.{leb-true}
 use Rattle.m51_isa.proofs.Codes.{rows_are_short}
 use Rattle.m51_isa.specs.Table.{length_of}
@@ -23,22 +23,34 @@ Follow image end at [] = at ≡ end
 Follow image end at (s ∷ statements) =
     IsHere image end at s × Follow image end (at + length_in s.content) statements
 
-code_within : (at end byte : ℕ) (i : Instr) (b : Bool) → can_stand end at i ≡ b → at < end
-    → (1 ≤ length_in (cond b (content.Code i) (content.Byte byte)))
-    × (at + length_in (cond b (content.Code i) (content.Byte byte)) ≤ end)
-unfolding can_stand
-code_within at end byte i true h below = (
-  (rows_are_short i).one,
-  leb-true (at + length_of i) end
-      (and_parts (nat_le (at + length_of i) end) (all_inside (at + length_of i) (text_of i)) h).0,
-)
-code_within at end byte i false h below = (omega arith, omega arith)
+-- what holds of a decoded instruction that can be written, and of a byte, holds of the statement at an address
+pub by_content : (image : List ℕ) (end at : ℕ) (P : Content → Type 0)
+    → ((i : Instr) → instr_in_image image at ≡ Some i → can_stand end at i ≡ true → P (content.Code i))
+    → P (content.Byte (slice_index image at)) → P (statement_at image end at).content
+unfolding statement_at
+by_content image end at P code byte = of_instr (instr_in_image image at) refl
+  where
+    of_test : (i : Instr) (b : Bool) → can_stand end at i ≡ b → instr_in_image image at ≡ Some i
+        → P (cond b (content.Code i) (content.Byte (slice_index image at)))
+    of_test i true stands e = code i e stands
+    of_test i false stands e = byte
+
+    of_instr : (o : Option Instr) → instr_in_image image at ≡ o → P (content_of end at (slice_index image at) o)
+    of_instr None e = byte
+    of_instr (Some i) e = of_test i (can_stand end at i) refl e
 
 -- a statement has a byte, and does not pass the end
-content_within : (at end byte : ℕ) (o : Option Instr) → at < end
-    → (1 ≤ length_in (content_of end at byte o)) × (at + length_in (content_of end at byte o) ≤ end)
-content_within at end byte None below = (omega arith, omega arith)
-content_within at end byte (Some i) below = code_within at end byte i (can_stand end at i) refl below
+content_within : (image : List ℕ) (end at : ℕ) → at < end
+    → (1 ≤ length_in (statement_at image end at).content) × (at + length_in (statement_at image end at).content ≤ end)
+unfolding can_stand
+content_within image end at below =
+    by_content image end at (λ c. (1 ≤ length_in c) × (at + length_in c ≤ end))
+    (λ i e stands. (
+      (rows_are_short i).one,
+      leb-true (at + length_of i) end
+          (and_parts (nat_le (at + length_of i) end) (all_inside (at + length_of i) (text_of i)) stands).0,
+    ))
+    (omega arith, omega arith)
 
 follow : (image : List ℕ) (end passed at more from : ℕ) → from ≡ at + passed → at + more ≡ end → passed ≤ more
     → Follow image end from (statements_from image end passed at more)
@@ -49,7 +61,7 @@ follow image end (suc passed) at (suc more) from e ends fits =
 follow image end zero at (suc more) from e ends fits =
     let here : from ≡ at = omega arith in
     let s : Statement = statement_at image end at in
-    let within = content_within at end (slice_index image at) (instr_in_image image at) (omega arith) in
+    let within = content_within image end at (omega arith) in
     let some : 1 ≤ length_in s.content = within.0 in
     let last : at + length_in s.content ≤ end = within.1 in (
       record {

@@ -5,7 +5,7 @@ use Rattle.m51_disasm_proof.proofs.Common.{append_assoc, arith, codes, common_st
 use Rattle.m51_disasm_proof.proofs.Common.{left, length, length-append, list_all, list_any, map, meant, nat_lt, ne_eqb}
 use Rattle.m51_disasm_proof.proofs.Common.{not, read_from, refl, suc, take, true, zero, ℕ}
 use Rattle.std.proofs.Common.{Err}
-use Rattle.std.proofs.Math.Bool.{and-false}
+use Rattle.std.proofs.Math.Bool.{and-false, or-true}
 use Rattle.std.proofs.lemmas.List.{take_all}
 use Rattle.std.proofs.lemmas.List.Folds.{list_any-append}
 use Rattle.std.proofs.lemmas.List.Splits.{length-slice_split, slice_split_at}
@@ -121,10 +121,6 @@ EndsOnce [] = ⊥
 EndsOnce (l ∷ []) = l ≡ line.End
 EndsOnce (l ∷ m ∷ ls) = (is_end_body (meant l).body ≡ false) × EndsOnce (m ∷ ls)
 
-or_true : (a b : Bool) → b ≡ true → (a || b) ≡ true
-or_true true b h = refl
-or_true false b h = h
-
 ends_said : (n : ℕ) (l : SourceLine) → IsSound l
     → ends_source (text_line n l) ≡ is_end_body (meant l).body
 ends_said n l is = ap is_end (line_said l is)
@@ -133,8 +129,8 @@ has_end : (n : ℕ) (ls : List SourceLine) → AllByRecursion IsSound ls → End
     → list_any ends_source (numbered n ls) ≡ true
 has_end n [] is e = absurd e
 has_end n (l ∷ []) is e = ap (λ b. b || false) (ends_said n l is.0 ∙ ap (λ l. is_end_body (meant l).body) e)
-has_end n (l ∷ m ∷ ls) is e = or_true (ends_source (text_line n l))
-    (list_any ends_source (numbered (n + 1) (m ∷ ls))) (has_end (n + 1) (m ∷ ls) is.1 e.1)
+has_end n (l ∷ m ∷ ls) is e =
+    ap (λ b. ends_source (text_line n l) || b) (has_end (n + 1) (m ∷ ls) is.1 e.1) ∙ or-true (ends_source (text_line n l))
 
 -- a line without an END above it, before line 65,536
 no_fault : (above : List TextLine) (n : ℕ) (l : SourceLine) → IsSound l → list_any ends_source above ≡ false

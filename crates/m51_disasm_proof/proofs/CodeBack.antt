@@ -1,13 +1,11 @@
 -- A disassembled instruction is coded as the bytes that it was decoded from.
-use Rattle.m51_disasm_proof.proofs.Common.{◌%◌, ◌+◌, ◌==◌, ◌∙◌, ◌∷◌, ◌≡◌, AreSlots, Bool, FieldSlot, HasRoom, Imm}
-use Rattle.m51_disasm_proof.proofs.Common.{Instr, IsNamed, Jump, List, Meanings, None, NotBit, Ok, Option, Plain, Slot}
-use Rattle.m51_disasm_proof.proofs.Common.{Some, StandsAt, Target, Text, [], all_inside, and_parts, ap, cond, encoded}
-use Rattle.m51_disasm_proof.proofs.Common.{false, field_in, look_of, operand_of, operands_of, option_map, option_or}
-use Rattle.m51_disasm_proof.proofs.Common.{refl, sym, text_of, true, ℕ}
-use Rattle.std.specs.Prelude.{option_and_then}
+use Rattle.m51_disasm_proof.proofs.Common.{◌%◌, ◌+◌, ◌∙◌, ◌∷◌, ◌≡◌, AreSlots, Bool, FieldSlot, HasRoom, Instr, IsNamed}
+use Rattle.m51_disasm_proof.proofs.Common.{Jump, List, Meanings, None, Ok, Option, Slot, Some, StandsAt, Target, Text}
+use Rattle.m51_disasm_proof.proofs.Common.{[], all_inside, ap, arith, common_steps, cond, encoded, field_in, look_of}
+use Rattle.m51_disasm_proof.proofs.Common.{operand_of, operands_of, option_map, option_or, refl, sym, text_of, true, ℕ}
 use Rattle.m51_isa.proofs.RowsFilled.{texts_are_rows}
 use Rattle.m51_isa.specs.Filling.{with_numbers}
-use Rattle.m51_isa.specs.Search.{row_or, search}
+use Rattle.m51_isa.specs.Search.{search}
 use Rattle.m51_isa.specs.Spelling.{text}
 use Rattle.m51_isa.specs.Table.{code_of, length_of as row_length}
 use Rattle.m51_isa.specs.TextLaws.{HasNumbers, number_of_slot, refilled, slot_with_number}
@@ -15,14 +13,13 @@ use Rattle.m51_expr.specs.Operand.{OperandTree}
 use Rattle.m51_expr.specs.Tree.{Tree}
 use Rattle.m51_encode.specs.Coding.{Line, coded, coded_by, coded_line, gathered, instruction_line, line, line_row}
 use Rattle.m51_encode.specs.Coding.{outcomes, outcomes_by, outcomes_line, three_outcomes}
-use Rattle.m51_encode.specs.Filling.{expression, filled, filled_by, references_of}
+use Rattle.m51_encode.specs.Filling.{filled, filled_by, references_of}
 use Rattle.m51_encode.specs.JumpForm.{address_after}
 use Rattle.m51_encode.specs.declared.coding.Coded.{Coded}
 use Rattle.m51_encode.specs.declared.outcome.OperandOutcome.TheVariants.{Stands}
 use Rattle.m51_encode.specs.declared.reference.Reference.{Reference}
 use Rattle.m51_disasm.specs.Statements.{slot_address, stays_inside}
-use Rattle.m51_disasm_proof.proofs.InstructionsCut.{instruction_read}
-use Rattle.m51_disasm_proof.proofs.OperandsBack.{byte_in, held_in, slot_given}
+use Rattle.m51_disasm_proof.proofs.OperandsBack.{held_in, slot_given}
 use Rattle.m51_disasm_proof.proofs.RowsDecoded.{AreLed, IsLed, is_usual, rows_usual}
 
 -- the operands of the line are those of the row
@@ -30,9 +27,7 @@ line_is : (t : Target) (i : Instr) (form : Jump) → AreSlots t (text_of i)
     → instruction_line (text_of i).mnemonic (operands_of t (text_of i)) form
     ≡ Some (line (text_of i).mnemonic form (operand_of t (text_of i).first) (operand_of t (text_of i).second)
     (operand_of t (text_of i).third))
-line_is t i form h =
-    let read = instruction_read t i h in
-    ap (λ os. instruction_line (text_of i).mnemonic os form) read.is ∙ read.line form
+line_is t i form h = grind (arith, common_steps)
 
 -- ---- the row that is found has the fields of the row
 
@@ -48,21 +43,16 @@ made (Some x) f y h = record { from = x; is = refl; same = cc h }
 
 by_expression : (names : Meanings) (next m : ℕ) (f : FieldSlot) (o : Option Tree)
     → filled_by names next (refilled f m) o ≡ filled_by names next f o
-by_expression names next m f None = refl
-by_expression names next m f (Some e) = refl
+by_expression names next m f x4 = grind (arith, common_steps)
 
 by_operand : (names : Meanings) (next m : ℕ) (f : FieldSlot) (o : Option OperandTree)
     → filled names next (Some (refilled f m)) o ≡ filled names next (Some f) o
-by_operand names next m f None = refl
-by_operand names next m f (Some x) = by_expression names next m f (expression x)
+by_operand names next m f x4 = grind (arith, common_steps)
 
 -- the number of the row's own operand does not matter
 same_filled : (names : Meanings) (next m : ℕ) (s : Slot) (o : Option OperandTree)
     → filled names next (field_in (slot_with_number s m)) o ≡ filled names next (field_in s) o
-same_filled names next m (Imm f) o = by_operand names next m f o
-same_filled names next m (Plain f) o = by_operand names next m f o
-same_filled names next m (NotBit f) o = by_operand names next m f o
-same_filled names next m s o = refl
+same_filled names next m s o = grind (arith, common_steps)
 
 -- ---- what is coded
 
@@ -70,8 +60,7 @@ abbrev none : Option Reference
 none = None
 
 none_either : (b : Bool) → cond b none none ≡ none
-none_either true = refl
-none_either false = refl
+none_either x0 = grind (arith, common_steps)
 
 one_none : (b c d : Bool) → option_or (cond b none none) (option_or (cond c none none) (cond d none none)) ≡ none
 one_none b c d = (λ i. option_or (none_either b i) (option_or (none_either c i) (none_either d i)))
@@ -82,12 +71,7 @@ no_references = none ∷ none ∷ none ∷ []
 
 -- nothing that operands hold is left to the linker
 none_held : (a b c : Slot) → references_of (held_in a) (held_in b) (held_in c) ≡ no_references
-none_held a b c =
-    let x = byte_in a in
-    let y = byte_in b in
-    let z = byte_in c in
-    (λ i. one_none (x == 0) (y == 0) (z == 0) i ∷ one_none (x == 1) (y == 1) (z == 1) i
-    ∷ one_none (x == 2) (y == 2) (z == 2) i ∷ [])
+none_held a b c = grind (arith, common_steps)
 
 -- the code of a row
 abbrev pub coded_from : Instr → List (Option Reference) → Coded
@@ -125,11 +109,7 @@ module _ (names : Meanings) (segment at : ℕ) (s : StandsAt names segment at) (
   the_row = made found (λ row. with_numbers row n1 n2 n3) i (texts_are_rows.found i has)
 
   row_is_found : line_row own_line ≡ found
-  row_is_found =
-      let read = instruction_read t i h in
-      sym (ap (option_and_then line_row) (line_is t i form h))
-      ∙ ap (λ os. option_and_then line_row (instruction_line (text_of i).mnemonic os form)) read.is
-      ∙ read.row form ∙ ap (λ verb. row_or form verb found) (texts_are_rows.apart i)
+  row_is_found = grind (arith, common_steps)
 
   abbrev row : Instr
   row = the_row.from
@@ -159,12 +139,7 @@ module _ (names : Meanings) (segment at : ℕ) (s : StandsAt names segment at) (
   all_in : (stays_inside (at + row_length i) (field_in (text_of i).first) ≡ true)
       × (stays_inside (at + row_length i) (field_in (text_of i).second) ≡ true)
       × (stays_inside (at + row_length i) (field_in (text_of i).third) ≡ true)
-  all_in =
-      let next = at + row_length i in
-      let p = and_parts _ (stays_inside next (field_in (text_of i).third)) inside in
-      let q = and_parts (stays_inside next (field_in (text_of i).first))
-      (stays_inside next (field_in (text_of i).second)) p.0 in
-      (q.0, q.1, p.1)
+  all_in = grind (arith, common_steps)
 
   -- an instruction is coded as the row that it was decoded from
   pub code_back : IsCodedAs names (text_of i).mnemonic (operands_of t (text_of i)) form i

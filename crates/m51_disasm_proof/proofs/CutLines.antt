@@ -1,9 +1,9 @@
 -- A line of names, numbers and signs, with blanks between them or none, is cut into these words.
-use Rattle.m51_disasm_proof.proofs.Common.{◌%◌, ◌&&◌, ◌*◌, ◌++◌, ◌+◌, ◌-◌, ◌/◌, ◌<◌, ◌==◌, ◌||◌, ◌∙◌, ◌∷◌, ◌≡◌, Bool}
-use Rattle.m51_disasm_proof.proofs.Common.{List, Ok, Some, Word, [], ap, append_assoc, arith, byte_text, common_steps}
-use Rattle.m51_disasm_proof.proofs.Common.{digit_glyph, false, is_character, left, length, length-append, list_all, map}
-use Rattle.m51_disasm_proof.proofs.Common.{name_of, name_word, nat_le, number_word, refl, sign_word, slice_index, sym}
-use Rattle.m51_disasm_proof.proofs.Common.{symbol, take, true, word_text, ℕ}
+use Rattle.m51_disasm_proof.proofs.Common.{◌&&◌, ◌*◌, ◌++◌, ◌+◌, ◌-◌, ◌<◌, ◌==◌, ◌||◌, ◌∙◌, ◌∷◌, ◌≡◌, Bool, List, Ok}
+use Rattle.m51_disasm_proof.proofs.Common.{Some, Word, [], ap, append_assoc, arith, byte_text, common_steps, false}
+use Rattle.m51_disasm_proof.proofs.Common.{is_character, left, length, length-append, list_all, map, name_of, name_word}
+use Rattle.m51_disasm_proof.proofs.Common.{nat_le, number_word, refl, sign_word, slice_index, sym, symbol, take, true}
+use Rattle.m51_disasm_proof.proofs.Common.{word_text, ℕ}
 use Rattle.std.proofs.Common.{drop}
 use Rattle.std.proofs.Math.Seq.{drop-append_seam, take-append_seam}
 use Rattle.std.proofs.lemmas.Bool.{or_parts}
@@ -19,14 +19,14 @@ use Rattle.m51_isa.specs.Spelling.{text}
 use Rattle.m51_lex.proofs.Cuts.{from_front}
 use Rattle.m51_lex.specs.Characters.{is_name_byte, space}
 use Rattle.m51_lex.specs.Lexeme.{lexeme_of, name_lexeme, number_or_fault}
-use Rattle.m51_lex.specs.Number.{number_of, of_16_bits, value_in}
+use Rattle.m51_lex.specs.Number.{number_of, value_in}
 use Rattle.m51_lex.specs.Tokens.{Cut, after_lexeme, put_front, tokens_at}
 use Rattle.m51_lex.specs.declared.token.Token.{Token}
 use Rattle.m51_lex.specs.declared.token.What.TheVariants as what
 use Rattle.m51_expr.specs.Symbol.{symbol_of}
 use Rattle.m51_expr.specs.declared.symbol.Symbol.{Symbol}
 use Rattle.m51_stmt.proofs.LineCuts.{are_symbols, one_blank, token_at, word_within}
-use Rattle.m51_stmt.proofs.WordCuts.{at_most_31, digit_step, glyph_run, in_16_bits, name_first, right}
+use Rattle.m51_stmt.proofs.WordCuts.{at_most_31, name_first, right}
 use Rattle.m51_stmt.specs.Answer.{and_then, or_fault}
 use Rattle.m51_stmt.specs.Lines.{read, statement, statement_fault, token_line}
 use Rattle.m51_stmt.specs.Statement.{StmtTree}
@@ -152,8 +152,7 @@ name_characters (c ∷ more) h =
     weaker cells.is_name_byte is_character (λ b is. name_character b (of_name b is)) (c ∷ more) parts.bytes
 
 has_some : (text : List ℕ) → is_name text ≡ true → 0 < length text
-has_some [] h = absurd (cc h)
-has_some (c ∷ more) h = omega arith
+has_some x0 h = grind (arith, common_steps)
 
 -- a written name is cut as a token
 pub name_stands : (text rest : List ℕ) → name_of text ≡ Some text → Ends rest → Stands (name_word text) rest
@@ -194,39 +193,21 @@ no_run : (b : ℕ) → is_name_byte b ≡ false → is_ascii_alphanumeric b ≡ 
 no_run b h = (or_parts (is_ascii_alphanumeric b) (63 == b || (95 == b || false)) h).0
 
 two_digits : (v b : ℕ) (cs : List ℕ) → b < 256 → value_in 16 v (hex2 b ++ cs) ≡ value_in 16 (v * 256 + b) cs
-two_digits v b cs h =
-    let same : (v * 16 + b / 16) * 16 + b % 16 ≡ v * 256 + b = omega arith in
-    digit_step v (b / 16) (digit_glyph true (b % 16) ∷ cs) (omega arith)
-    ∙ digit_step (v * 16 + b / 16) (b % 16) cs (omega arith)
-    ∙ ap (λ n. value_in 16 n cs) same
+two_digits v b cs h = grind (arith, common_steps)
 
 byte_number : (n : ℕ) → n < 256 → number_of (byte_text n) ≡ Some n
 unfolding number_of
-byte_number n h =
-    let same : 0 * 256 + n ≡ n = omega arith in
-    ap of_16_bits (two_digits 0 n [] h ∙ ap Some same) ∙ in_16_bits n (omega arith)
+byte_number n h = grind (arith, common_steps)
 
 word_number : (n : ℕ) → n < 65536 → number_of (word_text n) ≡ Some n
 unfolding number_of
-word_number n h =
-    let same : (0 * 256 + n / 256) * 256 + n % 256 ≡ n = omega arith in
-    ap of_16_bits (two_digits 0 (n / 256) (hex2 (n % 256)) (omega arith)
-    ∙ two_digits (0 * 256 + n / 256) (n % 256) [] (omega arith) ∙ ap Some same)
-    ∙ in_16_bits n h
+word_number n h = grind (arith, common_steps)
 
 byte_run : (n : ℕ) → n < 256 → list_all is_ascii_alphanumeric (byte_text n) ≡ true
-byte_run n h =
-    let high = glyph_run (n / 16) (omega arith) in
-    let low = glyph_run (n % 16) (omega arith) in
-    rw high (rw low refl)
+byte_run n h = grind (arith, common_steps)
 
 word_run : (n : ℕ) → n < 65536 → list_all is_ascii_alphanumeric (word_text n) ≡ true
-word_run n h =
-    let a = glyph_run (n / 256 / 16) (omega arith) in
-    let b = glyph_run (n / 256 % 16) (omega arith) in
-    let c = glyph_run (n % 256 / 16) (omega arith) in
-    let d = glyph_run (n % 256 % 16) (omega arith) in
-    rw a (rw b (rw c (rw d refl)))
+word_run n h = grind (arith, common_steps)
 
 -- a run that writes a number, before what ends it
 number_front : (more rest : List ℕ) (n : ℕ) → list_all is_ascii_alphanumeric (0x30 ∷ more) ≡ true

@@ -2,7 +2,7 @@
 use Rattle.m51_disasm_proof.proofs.Common.{◌++◌, ◌∙◌, ◌∷◌, ◌≡◌, ◌≤◌, AreBytes, Bool, CodeRange, Content, LayoutParts}
 use Rattle.m51_disasm_proof.proofs.Common.{Lines, List, Ok, SourceFile, SourceLine, Statement, Target, [], arith}
 use Rattle.m51_disasm_proof.proofs.Common.{beginnings, body_of, common_steps, cond, false, length, line_of, map, meant}
-use Rattle.m51_disasm_proof.proofs.Common.{nat_lt, read_from, refl, statement_lines, statements_of, targets, true, ℕ}
+use Rattle.m51_disasm_proof.proofs.Common.{nat_lt, read_from, refl, statement_lines, statements_of, targets, ℕ}
 use Rattle.std.proofs.Common.{Err, Result}
 use Rattle.m51_isa.specs.Spelling.{text}
 use Rattle.m51_module.specs.Sound as layout
@@ -15,7 +15,6 @@ use Rattle.m51_disasm.specs.Lines.{lines_of}
 use Rattle.m51_disasm.specs.Parts.{code_ranges}
 use Rattle.m51_disasm.specs.Texts.{text_of_lines}
 use Rattle.m51_disasm.specs.declared.line.SourceLine.TheVariants as line
-use Rattle.m51_disasm.specs.declared.statement.Content.TheVariants as content
 use Rattle.m51_disasm_proof.proofs.MeantLines.{are_sound}
 use Rattle.m51_disasm_proof.proofs.PartsInOrder.{parts_in_order}
 use Rattle.m51_disasm_proof.proofs.SoundLines.{of_whole, rest_of, whole, whole_good}
@@ -29,8 +28,7 @@ one_more l [] h e = absurd e
 one_more l (m ∷ more) h e = (h, e)
 
 no_end : (t : Target) (c : Content) → is_end_body (body_of t c) ≡ false
-no_end t (content.Byte byte) = refl
-no_end t (content.Code i) = refl
+no_end t x1 = grind (arith, common_steps)
 
 statements_end : (begin led : List ℕ) (statements : List Statement) (more : List SourceLine) → EndsOnce more
     → EndsOnce (map (line_of begin led) statements ++ more)
@@ -66,9 +64,7 @@ text_or_limit text = Ok text
 
 answered : (b c : Bool) (x text : List ℕ) → cond b (Err quantity.Parts) (cond c (Err quantity.Lines) (Ok x))
     ≡ text_or_limit text → (b ≡ false) × ((c ≡ false) × (text ≡ x))
-answered true c x text h = absurd (cc h)
-answered false true x text h = absurd (cc h)
-answered false false x text h = (refl, (refl, cc h))
+answered x0 c x text h = grind (arith, common_steps)
 
 pub given : (l : LayoutParts) (image text : List ℕ) → disassembled l image ≡ Ok text → IsGiven l image text
 unfolding disassembled text_by text_within

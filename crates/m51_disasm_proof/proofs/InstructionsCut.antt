@@ -1,10 +1,10 @@
 -- A disassembled instruction is cut into the words of the instruction that is meant, and has the length of its row.
 use Rattle.m51_disasm_proof.proofs.Common.{◌&&◌, ◌++◌, ◌||◌, ◌∙◌, ◌∷◌, ◌≡◌, AreSlots, Bool, Instr, IsSlot, IsSound}
 use Rattle.m51_disasm_proof.proofs.Common.{Jump, List, Meanings, None, Nop, Nothing, OperandTree, Slot, Some}
-use Rattle.m51_disasm_proof.proofs.Common.{SourceLine, Target, Word, [], ap, append-nil, append_assoc, codes}
-use Rattle.m51_disasm_proof.proofs.Common.{cons_option, false, line_size, look_of, map, meant, name_of, name_word, not}
-use Rattle.m51_disasm_proof.proofs.Common.{operand_of, operands_of, option_map, order, refl, subst, sym, symbol}
-use Rattle.m51_disasm_proof.proofs.Common.{text_of, true, ℕ}
+use Rattle.m51_disasm_proof.proofs.Common.{SourceLine, Target, Word, [], ap, append-nil, append_assoc, arith, codes}
+use Rattle.m51_disasm_proof.proofs.Common.{common_steps, cons_option, false, line_size, look_of, map, meant, name_of}
+use Rattle.m51_disasm_proof.proofs.Common.{name_word, not, operand_of, operands_of, option_map, order, refl, subst, sym}
+use Rattle.m51_disasm_proof.proofs.Common.{symbol, text_of, true, ℕ}
 use Rattle.std.specs.Prelude.{option_and_then, unwrap_or}
 use Rattle.m51_isa.proofs.RowsFilled.{rows_are_apart}
 use Rattle.m51_isa.specs.Arithmetic.{arithmetic}
@@ -40,8 +40,7 @@ rows_in_order Nop = refl
 rows_in_order i = refl
 
 nothing : (s : Slot) → is_there s ≡ false → s ≡ Nothing
-nothing Nothing h = refl
-nothing s h = absurd (cc h)
+nothing s h = grind (arith, common_steps)
 
 -- none, one, two or three operands
 by_count : (P : Slot → Slot → Slot → Type 0) → P Nothing Nothing Nothing
@@ -65,8 +64,7 @@ by_count P none one two three a b c false false true p q r h = absurd (cc h)
 after_there : (sign : List ℕ) (t : Target) (s : Slot) → is_there s ≡ true → operand_after sign t s
     ≡ sign ++ operand_text t s
 unfolding operand_after
-after_there sign t Nothing h = absurd (cc h)
-after_there sign t s h = refl
+after_there sign t s h = grind (arith, common_steps)
 
 -- an instruction that is read: its operands, and its text as a line of words
 pub record IsReadCode (t : Target) (mnemonic : List ℕ) (a b c : Slot) : Type 0 where

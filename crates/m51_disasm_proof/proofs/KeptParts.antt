@@ -1,8 +1,8 @@
 -- The segments of the module of a disassembly: one for each part.
 use Rattle.m51_disasm_proof.proofs.Common.{◌++◌, ◌+◌, ◌<◌, ◌==◌, ◌∙◌, ◌∷◌, ◌≡◌, ◌≢◌, AllByRecursion, Assignment, Bool}
 use Rattle.m51_disasm_proof.proofs.Common.{CodeRange, Kept, LineTree, List, SourceLine, TextSegment, [], ap, append-nil}
-use Rattle.m51_disasm_proof.proofs.Common.{append_assoc, arith, body_at, cond, eq-eqb, false, length, meant, opening}
-use Rattle.m51_disasm_proof.proofs.Common.{order, refl, statements_of, subst, suc, sym, true, zero, ℕ}
+use Rattle.m51_disasm_proof.proofs.Common.{append_assoc, arith, body_at, common_steps, cond, eq-eqb, length, meant}
+use Rattle.m51_disasm_proof.proofs.Common.{opening, order, refl, statements_of, subst, suc, sym, ℕ}
 use Rattle.std.specs.Str.Lines.{lines}
 use Rattle.m51_encode.specs.declared.outcome.OperandOutcome.TheVariants.{Stands}
 use Rattle.m51_emit.specs.Content.{content_by}
@@ -59,8 +59,7 @@ bare_line lines a image k address l bare is = record {
 }
 
 pub same_either : {A : Type 0} (b : Bool) (x : A) → cond b x x ≡ x
-same_either true x = refl
-same_either false x = refl
+same_either x0 x = grind (arith, common_steps)
 
 module _ {lines : List LineTree} {a : Assignment} {k : ℕ} {s : State} {l : SourceLine} {ls : List SourceLine}
     (image : List ℕ) (h : LinesFrom lines a k s (l ∷ ls)) (bare : IsBare l) where
@@ -89,8 +88,7 @@ ends {lines} {a} {k} {s} image (part ∷ parts) h =
     record { filled = c.filled ∙ adds h ∙ none; runs = bare_runs image h tt s.segment.id ∙ c.runs }
 
 some_filled : (s : TextSegment) (size : ℕ) → 0 < size → if_filled s size ≡ absolute_of s size ∷ []
-some_filled s zero h = absurd (omega arith)
-some_filled s (suc size) h = refl
+some_filled s x1 h = grind (arith, common_steps)
 
 -- the segments of parts come after those of the lines before
 parts_kept : {lines : List LineTree} {a : Assignment} (image : List ℕ) (parts : List CodeRange) {k : ℕ} {s : State}

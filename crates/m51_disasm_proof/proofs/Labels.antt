@@ -29,8 +29,7 @@ glyph d h = record {
 }
 
 decided : (b : Bool) → ((b ≡ true) → ⊥) → b ≡ false
-decided true h = absurd (h refl)
-decided false h = refl
+decided x0 h = grind (arith, common_steps)
 
 other_length : (xs ys : List ℕ) → length xs ≢ length ys → bytes_eq xs ys ≡ false
 other_length xs ys other = decided (bytes_eq xs ys) (λ same. other (ap length ((bytes_eq-Decides xs ys).0 same)))
@@ -55,9 +54,7 @@ module _ (p q r s : ℕ) (a : IsGlyph p) (b : IsGlyph q) (c : IsGlyph r) (d : Is
 
   no_operator : operator_of label ≡ None
   unfolding operator_of prefix_word relation_word arithmetic_word
-  no_operator =
-      rw (other_length label (codes "LOW") (omega arith))
-      (rw (other_length label (codes "LT") (omega arith)) (rw (other_length label (codes "LE") (omega arith)) refl))
+  no_operator = grind (arith, common_steps)
 
   free : is_reserved label ≡ false
   unfolding is_reserved
@@ -91,15 +88,7 @@ address_in l =
     + (number_of (get_or l 3 0) * 16 + number_of (get_or l 4 0))
 
 address_back : (address : ℕ) → address < 65536 → address_in (label_text address) ≡ address
-address_back address low =
-    let a = digit_back (address / 256 / 16) (omega arith) in
-    let b = digit_back (address / 256 % 16) (omega arith) in
-    let c = digit_back (address % 256 / 16) (omega arith) in
-    let d = digit_back (address % 256 % 16) (omega arith) in
-    let whole : (address / 256 / 16 * 16 + address / 256 % 16) * 256 + (address % 256 / 16 * 16 + address % 256 % 16)
-    ≡ address =
-    omega arith in
-    (λ i. (a i * 16 + b i) * 256 + (c i * 16 + d i)) ∙ whole
+address_back address low = grind (arith, common_steps)
 
 label_is : (s t : ℕ) → s < 65536 → t < 65536 → label_text s ≡ label_text t → s ≡ t
 label_is s t low small e = sym (address_back s low) ∙ ap address_in e ∙ address_back t small
@@ -108,6 +97,4 @@ pub same_label : (s : ℕ) → bytes_eq (label_text s) (label_text s) ≡ true
 same_label s = (bytes_eq-Decides (label_text s) (label_text s)).1 refl
 
 pub other_label : (s t : ℕ) → s < 65536 → t < 65536 → s ≢ t → bytes_eq (label_text s) (label_text t) ≡ false
-other_label s t low small ne =
-    decided (bytes_eq (label_text s) (label_text t))
-    (λ same. ne (label_is s t low small ((bytes_eq-Decides (label_text s) (label_text t)).0 same)))
+other_label s t low small ne = grind (arith, common_steps)

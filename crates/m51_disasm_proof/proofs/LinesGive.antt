@@ -1,34 +1,29 @@
 -- A label of a disassembly has the value of its address, so each line gives the bytes of the image at its address.
-use Rattle.m51_disasm_proof.proofs.Common.{◌%◌, ◌+◌, ◌-◌, ◌<◌, ◌==◌, ◌||◌, ◌∙◌, ◌∷◌, ◌≡◌, ◌≤◌, AllByRecursion, AreBytes}
+use Rattle.m51_disasm_proof.proofs.Common.{◌+◌, ◌-◌, ◌<◌, ◌==◌, ◌||◌, ◌∙◌, ◌∷◌, ◌≡◌, ◌≤◌, AllByRecursion, AreBytes}
 use Rattle.m51_disasm_proof.proofs.Common.{Assignment, Bool, CodeRange, Content, IsNamed, LineTree, List, None, Option}
 use Rattle.m51_disasm_proof.proofs.Common.{Some, SourceLine, StandsAt, Statement, Target, TextSegment, [], ap}
-use Rattle.m51_disasm_proof.proofs.Common.{arith, beginnings, body_of, bytes_at, code_value, cond, cons_option, eq-eqb}
-use Rattle.m51_disasm_proof.proofs.Common.{false, is_among, label_text, length, length_in, map, object_segments}
-use Rattle.m51_disasm_proof.proofs.Common.{opening, option_map, order, refl, segment_number, slice_get, statements_of}
-use Rattle.m51_disasm_proof.proofs.Common.{subst, suc, sym, targets, true, written_target, zero, ℕ}
+use Rattle.m51_disasm_proof.proofs.Common.{arith, beginnings, body_of, bytes_at, code_value, common_steps, cond}
+use Rattle.m51_disasm_proof.proofs.Common.{cons_option, eq-eqb, false, is_among, label_text, length, length_in, map}
+use Rattle.m51_disasm_proof.proofs.Common.{object_segments, opening, option_map, order, refl, segment_number, slice_get}
+use Rattle.m51_disasm_proof.proofs.Common.{statements_of, subst, suc, sym, targets, true, written_target, zero, ℕ}
 use Rattle.std.proofs.Math.Bool.{or-true}
 use Rattle.std.proofs.lemmas.Bool.{eqb-true}
 use Rattle.std.specs.Str.Lines.{lines}
-use Rattle.m51_cells.specs.declared.kind.Base.TheVariants as base
 use Rattle.m51_module.specs.Validity.{numbered}
-use Rattle.m51_expr.specs.declared.value.Part.TheVariants.{Whole}
 use Rattle.m51_encode.specs.declared.outcome.OperandOutcome.TheVariants.{Stands}
 use Rattle.m51_emit.specs.Content.{content_by, outcomes_by}
 use Rattle.m51_asm.specs.Assignment.{here_at}
 use Rattle.m51_asm.specs.ContentFaults.{line_outcomes, line_outcomes_by}
-use Rattle.m51_asm.specs.Definitions.{definition_from, found_in, or_later}
-use Rattle.m51_asm.specs.Fitting.{named_value}
 use Rattle.m51_asm.specs.ObjectMeanings.{final, is_fixed, object_value}
 use Rattle.m51_asm.specs.Pieces.{content_at}
 use Rattle.m51_disasm.specs.Statements.{statement_target}
 use Rattle.m51_disasm.specs.declared.line.Target.TheVariants as target
-use Rattle.m51_disasm.specs.declared.statement.Content.TheVariants as content
 use Rattle.m51_disasm_proof.specs.Places.{IsSpot}
 use Rattle.m51_disasm_proof.specs.Standing.{GivesBytes, LineGives}
 use Rattle.m51_disasm_proof.proofs.DisassemblyRead.{given}
 use Rattle.m51_disasm_proof.proofs.KeptParts.{bare_gives, kept_are, kept_parts}
 use Rattle.m51_disasm_proof.proofs.LinesStand.{IsCode, LinesFrom, State, body_is, next, spot_here, state}
-use Rattle.m51_disasm_proof.proofs.MeantLines.{LiesFrom, defines_label, found_here, found_with, label_of, read_at}
+use Rattle.m51_disasm_proof.proofs.MeantLines.{label_of}
 use Rattle.m51_disasm_proof.proofs.PartsInOrder.{AreInOrder}
 use Rattle.m51_disasm_proof.proofs.PartsPassed.{GiveFrom, StatementsFrom, in_part, next_statement, part_passed}
 use Rattle.m51_disasm_proof.proofs.SoundLines.{lines_in, rest_of, whole}
@@ -38,28 +33,13 @@ use Rattle.m51_disasm_proof.proofs.StatementsFollow.{follows_to}
 -- an address, as a value
 pub place_value : (a : Assignment) (k address : ℕ) (segment : TextSegment) → address < 65536 → IsCode segment
     → IsSpot a k (record { segment = segment; address = address }) → here_at a k ≡ code_value segment.id address
-place_value a k address segment small code spot =
-    let same : address % 65536 ≡ address = omega arith in
-    (λ i. record {
-      number = spot.address i % 65536;
-      class = (spot.segment i).kind;
-      base = base.Segment (spot.segment i).id;
-      part = Whole;
-    })
-    ∙ (λ i. record { number = same i; class = code.kind_is i; base = base.Segment segment.id; part = Whole })
+place_value a k address segment small code spot = grind (arith, common_steps)
 
 -- the value of the label of a line
 label_here : {lines : List LineTree} {a : Assignment} {k : ℕ} {s : State} {l : SourceLine} {ls : List SourceLine}
     → LinesFrom lines a k s (l ∷ ls) → (address : ℕ) → label_of l ≡ Some address → (j : ℕ)
     → a.value j (label_text address) ≡ Some (here_at a k)
-label_here {lines} {a} {k} {s} {l} {ls} h address is j =
-    let name = label_text address in
-    let lies = subst (LiesFrom s.low) is h.good.1 in
-    h.fits.values j name
-    ∙ ap (named_value lines a j name)
-    ((h.labels address lies.0 lies.1).found
-    ∙ ap (λ o. or_later k o (definition_from (suc k) (read_at (suc k) ls) name))
-    (ap (λ ds. found_in ds name) (defines_label l) ∙ ap (found_with address) is ∙ found_here address))
+label_here h address is j = grind (arith, common_steps)
 
 -- statements that others lead to are labels, with the values of their addresses
 pub label_known : {lines : List LineTree} {a : Assignment} {image : List ℕ} {part : CodeRange} {parts : List CodeRange}
@@ -114,14 +94,11 @@ AreFixed lines a = (n : ℕ) → is_fixed (numbered (object_segments lines a) n)
 
 among_more : (o : Option ℕ) (address : ℕ) (more : List ℕ) → is_among more address ≡ true
     → is_among (cons_option o more) address ≡ true
-among_more None address more h = h
-among_more (Some x) address more h = ap (λ b. (x == address) || b) h ∙ or-true (x == address)
+among_more x0 address more h = grind (arith, common_steps)
 
 among_first : (o : Option ℕ) (address : ℕ) (more : List ℕ) → o ≡ Some address
     → is_among (cons_option o more) address ≡ true
-among_first o address more e =
-    ap (λ x. is_among (cons_option x more) address) e
-    ∙ ap (λ b. b || is_among more address) (eq-eqb address address refl)
+among_first o address more e = grind (arith, common_steps)
 
 -- where statements of the part begin
 abbrev begin_of : List ℕ → CodeRange → List ℕ
@@ -145,8 +122,7 @@ AreKnown a id image part =
 
 outcomes_of : (lines : List LineTree) (a : Assignment) (k : ℕ) (t : Target) (c : Content)
     → line_outcomes_by lines a k (body_of t c) ≡ outcomes_by (final lines a k) (a.form k) (body_of t c)
-outcomes_of lines a k t (content.Byte byte) = refl
-outcomes_of lines a k t (content.Code i) = refl
+outcomes_of lines a k t x4 = grind (arith, common_steps)
 
 module _ (lines : List LineTree) (a : Assignment) (image : List ℕ) (bytes : AreBytes image) (fixed : AreFixed lines a)
     (part : CodeRange) (inside : part.base + part.size ≤ 65536) (id : ℕ) (known : AreKnown a id image part) where

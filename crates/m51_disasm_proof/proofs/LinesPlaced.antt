@@ -1,32 +1,30 @@
 -- No line of a disassembly has a fault by the lines above it.
 use Rattle.m51_disasm_proof.proofs.Common.{◌&&◌, ◌+◌, ◌-◌, ◌<◌, ◌==◌, ◌||◌, ◌∙◌, ◌∷◌, ◌≡◌, ◌≤◌, Assignment, Bool}
 use Rattle.m51_disasm_proof.proofs.Common.{CodeRange, LineTree, List, Meanings, None, Option, Some, SourceLine}
-use Rattle.m51_disasm_proof.proofs.Common.{Statement, TextSegment, [], above, ap, arith, body_at, cond, false}
-use Rattle.m51_disasm_proof.proofs.Common.{label_text, length, length_in, line_size, list_any, meant, nat_lt, not}
-use Rattle.m51_disasm_proof.proofs.Common.{opening, option_map, order, refl, segment_after, statements_of, subst, suc}
-use Rattle.m51_disasm_proof.proofs.Common.{take, true, zero, ℕ}
+use Rattle.m51_disasm_proof.proofs.Common.{Statement, TextSegment, [], above, ap, arith, body_at, common_steps, cond}
+use Rattle.m51_disasm_proof.proofs.Common.{false, label_text, length, length_in, line_size, meant, nat_lt, not, opening}
+use Rattle.m51_disasm_proof.proofs.Common.{option_map, order, refl, segment_after, statements_of, subst, suc, true}
+use Rattle.m51_disasm_proof.proofs.Common.{zero, ℕ}
 use Rattle.std.proofs.Common.{min}
 use Rattle.std.proofs.lemmas.Bool.{le-ltb}
 use Rattle.std.proofs.lemmas.Bool.Decides.{nat_tests}
 use Rattle.std.specs.Str.Lines.{lines}
-use Rattle.m51_cells.specs.Kinds.{is_absolute, same_kind}
+use Rattle.m51_cells.specs.Kinds.{is_absolute}
 use Rattle.m51_cells.specs.declared.fault.TheConstants.{BAD_FORM, DEFINED_TWICE, PAST_THE_END, TOO_MANY}
-use Rattle.m51_cells.specs.declared.kind.Kind.TheVariants as kind
 use Rattle.m51_expr.specs.Evaluation.{value_of}
 use Rattle.m51_text.specs.Faults.{before}
 use Rattle.m51_asm.proofs.Members.{In, in_first, in_later}
-use Rattle.m51_asm.specs.Assignment.{defined_of}
-use Rattle.m51_asm.specs.Definitions.{Definition, Label, label_defined}
+use Rattle.m51_asm.specs.Definitions.{label_defined}
 use Rattle.m51_asm.specs.FirstFault.{AreFree}
 use Rattle.m51_asm.specs.Fitting.{externals_before, externals_in, filled}
 use Rattle.m51_asm.specs.PlacedFaults.{begins_to_fill, is_misplaced, is_numbered_by, is_past, is_too_many, kind_end}
 use Rattle.m51_asm.specs.PlacedFaults.{operand_fault, placed_fault, segments_before}
-use Rattle.m51_asm.specs.Repeats.{clashes, is_repeated, names_module, or_here, publics_again, publics_in, repeats_from}
+use Rattle.m51_asm.specs.Repeats.{is_repeated, names_module, publics_in, repeats_from}
 use Rattle.m51_disasm.specs.declared.line.SourceLine.TheVariants as line
 use Rattle.m51_disasm_proof.proofs.DisassemblyRead.{given}
 use Rattle.m51_disasm_proof.proofs.LinesStand.{IsCode, LinesFrom, State, body_is, given_after, next, size_is_of}
 use Rattle.m51_disasm_proof.proofs.LinesStand.{spot_here, state}
-use Rattle.m51_disasm_proof.proofs.MeantLines.{LiesFrom, body_read, by_line, defines_label, label_of, read_at}
+use Rattle.m51_disasm_proof.proofs.MeantLines.{body_read, by_line, label_of, read_at}
 use Rattle.m51_disasm_proof.proofs.PartsInOrder.{AreInOrder}
 use Rattle.m51_disasm_proof.proofs.PartsPassed.{StatementsFrom, in_part, next_statement, part_passed}
 use Rattle.m51_disasm_proof.proofs.SoundLines.{lines_in, rest_of, whole}
@@ -110,20 +108,14 @@ no_name = by_line (λ l. names_module (meant l).body ≡ false) refl (λ b. refl
 no_operand_fault : (lines : List LineTree) (names : Meanings) (k : ℕ) (l : SourceLine)
     → operand_fault lines names k (meant l).body ≡ None
 unfolding value_of
-no_operand_fault lines names k =
-    by_line (λ l. operand_fault lines names k (meant l).body ≡ None) refl (λ b. refl) (λ o t n. refl) (λ o t i. refl)
-    refl
+no_operand_fault lines names k = grind (arith, common_steps)
 
 stands_well : (s : TextSegment) → IsCode s → (l : SourceLine) → is_misplaced s (meant l).body ≡ false
-stands_well s code =
-    let here : not (same_kind s.kind kind.Code) ≡ false = ap (λ k. not (same_kind k kind.Code)) code.kind_is in
-    by_line (λ l. is_misplaced s (meant l).body ≡ false) refl (λ b. refl) (λ o t n. here) (λ o t i. here) refl
+stands_well s code = grind (arith, common_steps)
 
 numbered_as : (lines : List LineTree) (a : Assignment) (k : ℕ) (l : SourceLine)
     → is_numbered_by lines a k (meant l).body ≡ begins_to_fill lines a k
-numbered_as lines a k =
-    by_line (λ l. is_numbered_by lines a k (meant l).body ≡ begins_to_fill lines a k) refl (λ b. refl) (λ o t n. refl)
-    (λ o t i. refl) refl
+numbered_as lines a k = grind (arith, common_steps)
 
 none_external : (ls : List SourceLine) (k : ℕ) → externals_before (read_at 0 ls) k ≡ 0
 unfolding externals_before
@@ -140,36 +132,23 @@ counts given size = grind (arith, nat_tests)
 
 counted_after : (l : SourceLine) (given before count : ℕ) → before ≤ count + min 1 given
     → before + (min 1 (line_size l) - min 1 given) ≤ count_after count given l + min 1 (given_after given l)
-counted_after (line.Segment base) given before count h = omega arith
-counted_after l given before count h = omega arith
+counted_after l given before count h = grind (arith, common_steps)
 
 first_test : (b c d e : Bool) (o : Option ℕ) → b ≡ false → c ≡ false → d ≡ false → e ≡ false → o ≡ None
     → cond b (Some DEFINED_TWICE) (cond c (Some PAST_THE_END) (cond d (Some BAD_FORM) (cond e (Some TOO_MANY) o)))
     ≡ None
-first_test b c d e o p q r s t =
-    (λ i. cond (p i) (Some DEFINED_TWICE)
-    (cond (q i) (Some PAST_THE_END) (cond (r i) (Some BAD_FORM) (cond (s i) (Some TOO_MANY) (t i)))))
+first_test b c d e o p q r s t = grind (arith, common_steps)
 
 module _ {lines : List LineTree} {a : Assignment} {k : ℕ} {s : State} {l : SourceLine} {ls : List SourceLine}
     (h : LinesFrom lines a k s (l ∷ ls)) where
   -- the line defines nothing again
   label_once : (o : Option ℕ) → label_of l ≡ o
       → repeats_from lines k [] (label_defined (option_map label_text o)) ≡ false
-  label_once None is = refl
-  label_once (Some address) is =
-      let lies = subst (LiesFrom s.low) is h.good.1 in
-      ap (λ d. clashes (or_here (option_map (λ (x : ℕ × Definition). x.1) d) None) Label || false)
-      (h.labels address lies.0 lies.1).above
+  label_once x0 is = grind (arith, common_steps)
 
   not_repeated : is_repeated lines k ≡ false
   unfolding is_repeated
-  not_repeated =
-      let once = ap (λ o. repeats_from lines k [] (defined_of o)) h.says.0
-      ∙ ap (repeats_from lines k []) (defines_label l) ∙ label_once (label_of l) refl in
-      let publics = ap publics_in (body_is h) ∙ no_publics l in
-      let named = ap names_module (body_is h) ∙ no_name l in
-      (λ i. (once i || publics_again lines k [] (publics i))
-      || (named i && list_any (λ line. names_module line.stmt.body) (take k lines)))
+  not_repeated = grind (arith, common_steps)
 
   count_next : (count : ℕ) → segments_before lines a k ≤ count + min 1 s.given
       → segments_before lines a (suc k) ≤ count_after count s.given l + min 1 (given_after s.given l)

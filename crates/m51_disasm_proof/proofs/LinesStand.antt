@@ -1,35 +1,32 @@
 -- The segment and the place of each line of a disassembly, under each assignment that fits.
 use Rattle.m51_disasm_proof.proofs.Common.{◌+◌, ◌<◌, ◌==◌, ◌∙◌, ◌∷◌, ◌≡◌, ◌≢◌, ◌≤◌, Assignment, Fits, LineTree, List}
 use Rattle.m51_disasm_proof.proofs.Common.{Meanings, None, Option, Some, SourceLine, TextSegment, [], above, ap, arith}
-use Rattle.m51_disasm_proof.proofs.Common.{body_at, cond, eq-eqb, false, label_text, length, line_size, meant, ne_eqb}
-use Rattle.m51_disasm_proof.proofs.Common.{opening, option_map, refl, segment_after, slice_get, spots_from, subst, suc}
-use Rattle.m51_disasm_proof.proofs.Common.{sym, take, true, zero, ℕ}
+use Rattle.m51_disasm_proof.proofs.Common.{body_at, common_steps, cond, eq-eqb, false, label_text, length, line_size}
+use Rattle.m51_disasm_proof.proofs.Common.{meant, ne_eqb, opening, option_map, refl, segment_after, slice_get}
+use Rattle.m51_disasm_proof.proofs.Common.{spots_from, subst, suc, sym, take, true, zero, ℕ}
 use Rattle.std.specs.Str.Lines.{lines}
 use Rattle.m51_cells.specs.declared.kind.Kind.{Kind}
 use Rattle.m51_cells.specs.declared.kind.Kind.TheVariants as kind
 use Rattle.m51_cells.specs.declared.kind.Reloc.TheVariants as reloc
 use Rattle.m51_expr.specs.Evaluation.{value_of}
-use Rattle.m51_emit.specs.Pieces.{if_bytes}
 use Rattle.m51_asm.proofs.DefinedLines.{at_line, defined_more}
 use Rattle.m51_asm.specs.Assignment.{body_of}
 use Rattle.m51_asm.specs.Definitions.{definition_from, definition_of, definitions_in, found_in, or_later}
 use Rattle.m51_asm.specs.Fitting.{filled, last_absolute, segment_behind, segment_by, size_at, size_by}
-use Rattle.m51_asm.specs.Pieces.{content_at, offset_at, runs_from}
+use Rattle.m51_asm.specs.Pieces.{runs_from}
 use Rattle.m51_asm.specs.Repeats.{or_here}
 use Rattle.m51_disasm.specs.declared.line.SourceLine.TheVariants as line
 use Rattle.m51_disasm_proof.specs.Places.{IsSpot, Spot, place_after}
 use Rattle.m51_disasm_proof.proofs.DisassemblyRead.{given}
 use Rattle.m51_disasm_proof.proofs.InstructionsCut.{size_is}
-use Rattle.m51_disasm_proof.proofs.MeantLines.{AreGood, after_label, by_line, defines_label, found_below, label_of}
-use Rattle.m51_disasm_proof.proofs.MeantLines.{length_read, read_at, read_line, still_from}
+use Rattle.m51_disasm_proof.proofs.MeantLines.{AreGood, after_label, defines_label, found_below, label_of, length_read}
+use Rattle.m51_disasm_proof.proofs.MeantLines.{read_at, read_line, still_from}
 
 -- only CSEG begins a segment
 segment_is : (lines : List LineTree) (k : ℕ) (names : Meanings) (last : Kind → Option TextSegment) (s : TextSegment)
     (l : SourceLine) → segment_by lines k names last s (meant l).body ≡ segment_after k s l
 unfolding value_of
-segment_is lines k names last s =
-    by_line (λ l. segment_by lines k names last s (meant l).body ≡ segment_after k s l) refl
-    (λ base. refl) (λ label t byte. refl) (λ label t i. refl) refl
+segment_is lines k names last s = grind (arith, common_steps)
 
 -- a segment of an earlier line that is not open before a line is not open after it
 pub other_segment : (k id : ℕ) (s : TextSegment) (l : SourceLine) → id < k + 2 → s.id ≢ id
@@ -125,15 +122,11 @@ module _ {lines : List LineTree} {a : Assignment} {k : ℕ} {s : State} {l : Sou
   -- the line gives to no other segment
   pub passes : (id : ℕ) → s.segment.id ≢ id → filled lines a id (suc k) ≡ filled lines a id k
   unfolding filled
-  passes id ne =
-      let none : filled lines a id k + 0 ≡ filled lines a id k = omega arith in
-      ap (λ b. filled lines a id k + cond b (size_at lines a k) 0) (not_open id ne) ∙ none
+  passes id ne = grind (arith, common_steps)
 
   pub skips : (id : ℕ) → s.segment.id ≢ id
       → runs_from lines a id k (read_at k (l ∷ ls)) ≡ runs_from lines a id (suc k) (read_at (suc k) ls)
-  skips id ne =
-      let more = runs_from lines a id (suc k) (read_at (suc k) ls) in
-      ap (λ b. cond b (if_bytes (offset_at lines a k) (content_at lines a k).bytes more) more) (not_open id ne)
+  skips id ne = grind (arith, common_steps)
 
   pub is_open : ((a.segment k).id == s.segment.id) ≡ true
   is_open = ap (λ (x : TextSegment). x.id == s.segment.id) h.segment ∙ eq-eqb s.segment.id s.segment.id refl
@@ -151,12 +144,10 @@ module _ {lines : List LineTree} {a : Assignment} {k : ℕ} {s : State} {l : Sou
   given_by : (x : SourceLine) → filled lines a (k + 2) (suc k) ≡ 0
       → filled lines a s.segment.id (suc k) ≡ s.given + line_size x
       → filled lines a (segment_after k s.segment x).id (suc k) ≡ given_after s.given x
-  given_by (line.Segment base) new old = new
-  given_by x new old = old
+  given_by x new old = grind (arith, common_steps)
 
   known_by : (x : SourceLine) → (segment_after k s.segment x).id < suc k + 2
-  known_by (line.Segment base) = omega arith
-  known_by x = omega arith
+  known_by x = grind (arith, common_steps)
 
   labels_next : (address : ℕ) → after_label s.low (label_of l) ≤ address → address < 65536
       → IsNew lines (suc k) ls address
@@ -216,8 +207,7 @@ at_start ls a f good = record {
 
 place_is : (k : ℕ) (s : TextSegment) (given address : ℕ) (l : SourceLine) → address ≡ s.base + given
     → place_after address l ≡ (segment_after k s l).base + given_after given l
-place_is k s given address (line.Segment base) at = omega arith
-place_is k s given address l at = omega arith
+place_is k s given address l at = grind (arith, common_steps)
 
 -- each line is in its spot
 pub spots_are : {lines : List LineTree} {a : Assignment} (ls : List SourceLine) {k : ℕ} {s : State} (address : ℕ)

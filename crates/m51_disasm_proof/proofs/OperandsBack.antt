@@ -1,13 +1,11 @@
 -- The fields and operands of a disassembled instruction take the numbers that they were decoded with.
-use Rattle.m51_disasm_proof.proofs.Common.{◌%◌, ◌&&◌, ◌+◌, ◌/◌, ◌<◌, ◌||◌, ◌∙◌, ◌≡◌, ◌≤◌, Bool, Field, FieldSlot}
-use Rattle.m51_disasm_proof.proofs.Common.{HasRoom, Imm, IsNamed, Meanings, None, NotBit, Number, Ok, Option, Plain}
-use Rattle.m51_disasm_proof.proofs.Common.{Slot, Some, StandsAt, Target, and_parts, ap, arith, code_value, cond, eq-eqb}
-use Rattle.m51_disasm_proof.proofs.Common.{false, field_in, ltb-true, nat_le, nat_lt, not, operand_of, refl, subst, sym}
-use Rattle.m51_disasm_proof.proofs.Common.{true, ℕ, ⊎_elim}
-use Rattle.std.proofs.Common.{◌⊎◌, inl, inr}
-use Rattle.std.proofs.Math.Bool.{and-false}
-use Rattle.std.proofs.lemmas.Bool.{le-leb, leb-true, ltb-false}
-use Rattle.std.proofs.lemmas.Bool.Decides.{nat_tests}
+use Rattle.m51_disasm_proof.proofs.Common.{◌%◌, ◌+◌, ◌<◌, ◌∙◌, ◌≡◌, ◌≤◌, Bool, Field, FieldSlot, HasRoom, Imm, IsNamed}
+use Rattle.m51_disasm_proof.proofs.Common.{Meanings, None, NotBit, Number, Ok, Option, Plain, Slot, Some, StandsAt}
+use Rattle.m51_disasm_proof.proofs.Common.{Target, and_parts, ap, arith, code_value, common_steps, cond, eq-eqb, false}
+use Rattle.m51_disasm_proof.proofs.Common.{field_in, ltb-true, nat_le, nat_lt, not, operand_of, refl, subst, sym, true}
+use Rattle.m51_disasm_proof.proofs.Common.{ℕ}
+use Rattle.std.proofs.Common.{◌⊎◌}
+use Rattle.std.proofs.lemmas.Bool.{le-leb}
 use Rattle.std.proofs.lemmas.Option.{same_Some}
 use Rattle.m51_cells.specs.declared.kind.Base.TheVariants as base
 use Rattle.m51_cells.specs.declared.kind.Kind.TheVariants as kind
@@ -19,12 +17,10 @@ use Rattle.m51_expr.specs.Meanings.{is_absolute_base}
 use Rattle.m51_expr.specs.Tree as tree
 use Rattle.m51_expr.specs.Value.{plain}
 use Rattle.m51_expr.specs.declared.value.Value.{Value}
-use Rattle.m51_encode.specs.Bases.{is_current, is_linked, is_numbered, same_segment, stands_absolute}
-use Rattle.m51_encode.specs.FieldValues.{addr11_of, distance, field_of, is_near, rel_of}
+use Rattle.m51_encode.specs.Bases.{is_current, is_linked, same_segment, stands_absolute}
+use Rattle.m51_encode.specs.FieldValues.{addr11_of, field_of, is_near, rel_of}
 use Rattle.m51_encode.specs.Filling.{and_then, filled, held_at, or_out_of_range, valued}
-use Rattle.m51_encode.specs.Reference.{reference_of}
 use Rattle.m51_encode.specs.declared.reference.FieldValue.{FieldValue}
-use Rattle.m51_encode.specs.declared.reference.FieldValue.TheVariants.{Linked}
 use Rattle.m51_asm.proofs.ContentFields.{Held}
 use Rattle.m51_disasm.specs.Statements.{address_by, ends_inside, leads_inside, slot_address, stays_inside}
 use Rattle.m51_disasm_proof.specs.Meaning.{target_operand}
@@ -37,25 +33,13 @@ if_near d = cond (is_near d) (Some (Number (d % 256))) None
 
 -- distances of a signed byte
 near_is : (d rel : ℕ) → (d ≤ 127) ⊎ (65408 ≤ d) → d % 256 ≡ rel → if_near d ≡ Some (Number rel)
-near_is d rel h e =
-    let near : is_near d ≡ true = ⊎_elim (λ (low : d ≤ 127). grind (arith, nat_tests))
-    (λ (high : 65408 ≤ d). grind (arith, nat_tests)) h in
-    (λ i. cond (near i) (Some (Number (e i))) None)
+near_is d rel h e = grind (arith, common_steps)
 
 -- the byte to the address that a byte leads to
 rel_by : (next rel : ℕ) (b : Bool) → nat_lt rel 128 ≡ b → next < 65536 → rel < 256
     → cond b (nat_lt (next + rel) 0x10000) (nat_le 256 (next + rel)) ≡ true
     → rel_of next (cond b ((next + rel) % 65536) ((next + 65280 + rel) % 65536)) ≡ Some (Number rel)
-rel_by next rel true test low small h =
-    let less : rel < 128 = ltb-true rel 128 test in
-    let ends : next + rel < 65536 = ltb-true (next + rel) 65536 h in
-    let d : distance next ((next + rel) % 65536) ≡ rel = omega arith in
-    ap if_near d ∙ near_is rel rel (inl (omega arith)) (omega arith)
-rel_by next rel false test low small h =
-    let more : 128 ≤ rel = ltb-false rel 128 test in
-    let ends : 256 ≤ next + rel = leb-true 256 (next + rel) h in
-    let d : distance next ((next + 65280 + rel) % 65536) ≡ 65280 + rel = omega arith in
-    ap if_near d ∙ near_is (65280 + rel) rel (inr (omega arith)) (omega arith)
+rel_by next rel x2 test low small h = grind (arith, common_steps)
 
 rel_back : (next rel : ℕ) → next < 65536 → rel < 256 → ends_inside next rel ≡ true
     → rel_of next (relative next rel) ≡ Some (Number rel)
@@ -64,11 +48,7 @@ rel_back next rel low small h = rel_by next rel (nat_lt rel 128) refl low small 
 -- the offset in the block of the address that it leads to
 block_back : (next address : ℕ) → next < 65536 → address < 2048
     → addr11_of next (near next address % 65536) ≡ Some (Number address)
-block_back next address low small =
-    let to = near next address % 65536 in
-    let same : to / 2048 ≡ next / 2048 = omega arith in
-    let part : to % 2048 ≡ address = omega arith in
-    (λ i. cond (eq-eqb (to / 2048) (next / 2048) same i) (Some (Number (part i))) None)
+block_back next address low small = grind (arith, common_steps)
 
 -- ---- values that count as an address
 
@@ -85,38 +65,23 @@ module _ (names : Meanings) (segment at : ℕ) (s : StandsAt names segment at) w
   absolute = ap (λ (v : Value). is_absolute_base names v.base) s.here ∙ s.absolute
 
   own_is_bare : is_linked names (base.Segment segment) ≡ false
-  own_is_bare =
-      (λ i. not (s.absolute i) || (is_numbered (base.Segment segment) && not (current i)))
-      ∙ and-false (is_numbered (base.Segment segment))
+  own_is_bare = grind (arith, common_steps)
 
   -- what an address gives in a field
   rel_given : (own : Bool) (next address : ℕ)
       → field_of names field.Rel next (as_value own segment address) ≡ rel_of next address
   unfolding field_of
-  rel_given true next address =
-      let v : Value = code_value segment address in
-      let linked : FieldValue = Linked (reference_of field.Rel v) in
-      (λ i. cond (not (s.absolute i) || true)
-      (cond (current i) (rel_of next address)
-      (cond (is_linked names v.base) (Some linked) (cond (stands_absolute names) (rel_of next address) None))) None)
-  rel_given false next address = ap (λ (b : Bool). cond b (rel_of next address) None) absolute
+  rel_given x0 next address = grind (arith, common_steps)
 
   block_given : (own : Bool) (next address : ℕ)
       → field_of names field.Addr11 next (as_value own segment address) ≡ addr11_of next address
   unfolding field_of
-  block_given true next address =
-      let linked : FieldValue = Linked (reference_of field.Addr11 (code_value segment address)) in
-      (λ i. cond (not (s.absolute i) || true)
-      (cond (own_is_bare i) (Some linked) (cond (absolute i) (addr11_of next address) None)) None)
-  block_given false next address = ap (λ (b : Bool). cond b (addr11_of next address) None) absolute
+  block_given x0 next address = grind (arith, common_steps)
 
   word_given : (own : Bool) (next address : ℕ)
       → field_of names field.Addr16 next (as_value own segment address) ≡ Some (Number address)
   unfolding field_of
-  word_given true next address =
-      let linked : FieldValue = Linked (reference_of field.Addr16 (code_value segment address)) in
-      (λ i. cond (not (s.absolute i) || true) (Some (cond (own_is_bare i) linked (Number address))) None)
-  word_given false next address = refl
+  word_given x0 next address = grind (arith, common_steps)
 
   -- a field that leads to an address takes the number that it was decoded with
   pub address_back : (own : Bool) (at : Field) (next number address : ℕ) → kept at number ≡ number
@@ -153,9 +118,7 @@ byte_taken n h = le-leb n 255 (omega arith)
 pub data_back : (names : Meanings) (next n : ℕ) → n < 256
     → field_of names field.Data next (plain n kind.Number) ≡ Some (Number n)
 unfolding field_of
-data_back names next n h =
-    let same : n % 256 ≡ n = omega arith in
-    (λ i. cond (byte_taken n h i || nat_le 0xFF00 n) (Some (Number (same i))) None)
+data_back names next n h = grind (arith, common_steps)
 
 pub data16_back : (names : Meanings) (next n : ℕ) → field_of names field.Data16 next (plain n kind.Number)
     ≡ Some (Number n)

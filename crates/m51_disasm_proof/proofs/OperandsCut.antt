@@ -1,9 +1,8 @@
 -- The operands of a disassembled instruction are cut into the words of the operands that are meant.
 use Rattle.m51_disasm_proof.proofs.Common.{◌%◌, ◌++◌, ◌<◌, ◌∷◌, ◌≡◌, AtR, Bool, Field, Imm, IsSlot, List, NotBit}
 use Rattle.m51_disasm_proof.proofs.Common.{Nothing, OperandTree, Plain, R, Slot, Some, Target, Word, arith, byte_text}
-use Rattle.m51_disasm_proof.proofs.Common.{codes, false, label_text, map, name_of, name_word, number_word, operand_of}
-use Rattle.m51_disasm_proof.proofs.Common.{refl, sign_word, subst, suc, sym, symbol, true, word_text, zero, ℕ}
-use Rattle.m51_isa.proofs.Distinct.{of_register}
+use Rattle.m51_disasm_proof.proofs.Common.{codes, common_steps, false, label_text, map, name_of, name_word, number_word}
+use Rattle.m51_disasm_proof.proofs.Common.{operand_of, refl, sign_word, subst, sym, symbol, true, word_text, ℕ}
 use Rattle.m51_isa.specs.Spelling as isa
 use Rattle.m51_isa.specs.Spelling.{text}
 use Rattle.m51_isa.specs.declared.slot.Field.TheVariants as field
@@ -57,8 +56,7 @@ sum word is rest ws ends c =
     (after_word (sign_word 0x2B) (word ++ rest) _ (plus_stands _) (name_one word is rest ws ends c)))
 
 register_text : (n : ℕ) → n < 8 → codes "R" ++ digit_text n ≡ register_word n
-register_text n h = of_register (λ n. codes "R" ++ digit_text n ≡ register_word n) refl refl refl refl refl refl refl
-    refl n h
+register_text n h = grind (arith, common_steps)
 
 register_one : (n : ℕ) → n < 8 → IsOne (codes "R" ++ digit_text n) (symbol (name_word (register_word n)))
 register_one n h =
@@ -66,13 +64,10 @@ register_one n h =
     (name_one (register_word n) (register_written n h))
 
 register_looks : (n : ℕ) → n < 8 → looks.look_of (meant.R n) ≡ isa.look_of (R n)
-register_looks n h = of_register (λ n. looks.look_of (meant.R n) ≡ isa.look_of (R n)) refl refl refl refl refl refl refl
-    refl n h
+register_looks n h = grind (arith, common_steps)
 
 pointer_looks : (n : ℕ) → n < 2 → looks.look_of (meant.AtR n) ≡ isa.look_of (AtR n)
-pointer_looks zero h = refl
-pointer_looks (suc zero) h = refl
-pointer_looks (suc (suc n)) h = absurd (omega arith)
+pointer_looks x0 h = grind (arith, common_steps)
 
 low_byte : (n : ℕ) → n % 256 < 65536
 low_byte n = omega arith

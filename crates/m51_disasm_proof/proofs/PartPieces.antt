@@ -1,9 +1,9 @@
 -- The pieces of a disassembly are the bytes of its parts: those of each part are one run.
 use Rattle.m51_disasm_proof.proofs.Common.{◌++◌, ◌+◌, ◌-◌, ◌<◌, ◌∙◌, ◌∷◌, ◌≡◌, ◌≤◌, AllByRecursion, Assignment}
 use Rattle.m51_disasm_proof.proofs.Common.{CodeRange, Kept, LineTree, List, Some, Statement, TextSegment, [], ap}
-use Rattle.m51_disasm_proof.proofs.Common.{append-nil, append_assoc, arith, bytes_at, cond, eq-eqb, flat_map, length}
-use Rattle.m51_disasm_proof.proofs.Common.{length-append, length_in, map, ne_eqb, opening, option_map, order, refl}
-use Rattle.m51_disasm_proof.proofs.Common.{segment_number, slice_index, statements_of, suc, sym, zero, ℕ}
+use Rattle.m51_disasm_proof.proofs.Common.{append-nil, append_assoc, arith, bytes_at, common_steps, cond, eq-eqb}
+use Rattle.m51_disasm_proof.proofs.Common.{flat_map, length, length-append, length_in, map, ne_eqb, opening, option_map}
+use Rattle.m51_disasm_proof.proofs.Common.{order, refl, segment_number, slice_index, statements_of, suc, sym, zero, ℕ}
 use Rattle.std.proofs.lemmas.List.FromFn.{length-map-range_with_len}
 use Rattle.m51_emit.specs.Pieces.{Run, if_bytes, pieces_of_run}
 use Rattle.m51_asm.specs.Fitting.{filled}
@@ -40,11 +40,7 @@ two_runs at xs next ys = (at, xs) ∷ (next, ys) ∷ []
 
 -- bytes that follow others are in one run with them
 runs_joined : (at : ℕ) (xs ys : List ℕ) → if_bytes at xs (if_bytes (at + length xs) ys []) ≡ if_bytes at (xs ++ ys) []
-runs_joined at [] ys = let here : at + 0 ≡ at = omega arith in ap (λ n. if_bytes n ys []) here
-runs_joined at (x ∷ xs) [] = ap (λ l. one_run at (x ∷ l)) (sym (append-nil xs))
-runs_joined at (x ∷ xs) (y ∷ ys) =
-    ap (λ b. cond b (one_run at ((x ∷ xs) ++ (y ∷ ys))) (two_runs at (x ∷ xs) (at + length (x ∷ xs)) (y ∷ ys)))
-    (eq-eqb (at + length (x ∷ xs)) (at + length (x ∷ xs)) refl)
+runs_joined at x1 ys = grind (arith, common_steps)
 
 -- ---- the run of a part
 
@@ -82,8 +78,7 @@ statements_run {lines} {a} {image} {part} {parts} (x ∷ statements) {at} {k} {s
     (bytes_joined image at len (end - (at + len)) ∙ ap (bytes_at image at) size)
 
 some_run : (image : List ℕ) (at n : ℕ) → 0 < n → if_bytes 0 (bytes_at image at n) [] ≡ (0, bytes_at image at n) ∷ []
-some_run image at zero h = absurd (omega arith)
-some_run image at (suc n) h = refl
+some_run image at x2 h = grind (arith, common_steps)
 
 -- a part is one run
 part_run : {lines : List LineTree} {a : Assignment} {k : ℕ} {s : State} (image : List ℕ) (part : CodeRange)

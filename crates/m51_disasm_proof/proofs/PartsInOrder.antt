@@ -1,7 +1,7 @@
 -- The parts of a sound layout are in order, and none of them reaches into the next.
 use Rattle.m51_disasm_proof.proofs.Common.{◌+◌, ◌-◌, ◌<◌, ◌==◌, ◌∙◌, ◌∷◌, ◌≡◌, ◌≢◌, ◌≤◌, Bool, CodeRange, IsInside}
-use Rattle.m51_disasm_proof.proofs.Common.{LayoutParts, List, Some, [], ap, arith, cond, false, map, order, refl}
-use Rattle.m51_disasm_proof.proofs.Common.{slice_get, subst, suc, sym, true, zero, ℕ, ⊎_elim}
+use Rattle.m51_disasm_proof.proofs.Common.{LayoutParts, List, Some, [], ap, arith, common_steps, cond, false, map}
+use Rattle.m51_disasm_proof.proofs.Common.{order, refl, slice_get, subst, suc, sym, true, zero, ℕ, ⊎_elim}
 use Rattle.std.proofs.Common.{◌⊎◌, inl, inr}
 use Rattle.std.proofs.lemmas.Bool.{eqb-true}
 use Rattle.std.proofs.lemmas.List.Elements.{All-contains}
@@ -106,9 +106,7 @@ module _ (l : LayoutParts) (sound : IsSound l) where
   unit_part index = placed_range (slice_get l.placed index)
 
   plain : (s : ℕ) (p : Placed) → IsPlaced l s p → IsCodeSegment p → IsOverlaid l s → ⊥
-  plain s p placed code over =
-      let same : over.0 ≡ p = cc (over.1, placed) in
-      (sound.fit s p placed).code code.kind (ap (λ (x : Placed). x.mark) (sym same) ∙ over.2)
+  plain s p placed code over = grind (arith, common_steps)
 
   placed_apart : (s t : ℕ) (p q : Placed) → s ≢ t → IsPlaced l s p → IsPlaced l t q → IsCodeSegment p → IsCodeSegment q
       → Apart (placed_range (Some p)) (placed_range (Some q))

@@ -1,9 +1,9 @@
 -- The lines of a disassembly, part by part.
 use Rattle.m51_disasm_proof.proofs.Common.{◌++◌, ◌+◌, ◌-◌, ◌∙◌, ◌∷◌, ◌≡◌, Assignment, CodeRange, LineTree, List, Some}
 use Rattle.m51_disasm_proof.proofs.Common.{SourceLine, Statement, TextSegment, [], absolute, ap, append-nil, arith}
-use Rattle.m51_disasm_proof.proofs.Common.{cond, flat_map, length, length-append, length_in, line_size, meant, ne_eqb}
-use Rattle.m51_disasm_proof.proofs.Common.{refl, segment_after, slice_get, statement_lines, statements_of, subst}
-use Rattle.m51_disasm_proof.proofs.Common.{suc, sym, zero, ℕ}
+use Rattle.m51_disasm_proof.proofs.Common.{common_steps, cond, flat_map, length, length-append, length_in, line_size}
+use Rattle.m51_disasm_proof.proofs.Common.{meant, ne_eqb, refl, segment_after, slice_get, statement_lines}
+use Rattle.m51_disasm_proof.proofs.Common.{statements_of, subst, suc, sym, zero, ℕ}
 use Rattle.std.proofs.lemmas.List.{length-map}
 use Rattle.std.specs.Str.Lines.{lines}
 use Rattle.m51_cells.specs.declared.kind.Kind.TheVariants as kind
@@ -14,7 +14,6 @@ use Rattle.m51_disasm_proof.specs.Places.{IsSpot}
 use Rattle.m51_disasm_proof.specs.Standing.{LineGives}
 use Rattle.m51_disasm_proof.proofs.DisassemblyRead.{given}
 use Rattle.m51_disasm_proof.proofs.LinesStand.{LinesFrom, State, after, body_is, given_after, next, spot_here, state}
-use Rattle.m51_disasm_proof.proofs.MeantLines.{by_line}
 use Rattle.m51_disasm_proof.proofs.PartsInOrder.{AreInOrder}
 use Rattle.m51_disasm_proof.proofs.SoundLines.{line_in, lines_in, rest_of}
 use Rattle.m51_disasm_proof.proofs.StatementsFollow.{Follow, follows_to, part_follows}
@@ -29,9 +28,7 @@ GiveFrom lines a image k s given (l ∷ ls) =
 -- what line k adds to the segments: the one that CSEG begins
 begun_of : (lines : List LineTree) (a : Assignment) (k : ℕ) (l : SourceLine)
     → kept_by lines a k (meant l).body ≡ begun_by lines a k (a.segment (suc k))
-begun_of lines a k =
-    by_line (λ l. kept_by lines a k (meant l).body ≡ begun_by lines a k (a.segment (suc k))) refl (λ base. refl)
-    (λ label t byte. refl) (λ label t i. refl) refl
+begun_of lines a k = grind (arith, common_steps)
 
 module _ {lines : List LineTree} {a : Assignment} {k : ℕ} {s : State} {l : SourceLine} {ls : List SourceLine}
     (h : LinesFrom lines a k s (l ∷ ls)) where

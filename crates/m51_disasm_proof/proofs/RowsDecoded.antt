@@ -2,9 +2,9 @@
 -- of them leads anywhere: to the target.
 use Rattle.m51_disasm_proof.proofs.Common.{◌%◌, ◌&&◌, ◌*◌, ◌+◌, ◌/◌, ◌<◌, ◌==◌, ◌||◌, ◌∙◌, ◌∷◌, ◌≡◌, AtR, Bool, Field}
 use Rattle.m51_disasm_proof.proofs.Common.{HasRoom, IfSome, Imm, Instr, List, None, Nop, NotBit, Option, Plain, R, Slot}
-use Rattle.m51_disasm_proof.proofs.Common.{Some, Target, Text, [], and_parts, ap, arith, cond, encoded, false, field_in}
-use Rattle.m51_disasm_proof.proofs.Common.{get_or, is_among, ltb-true, map, nat_lt, not, option_map, option_or, refl}
-use Rattle.m51_disasm_proof.proofs.Common.{subst, sym, take, text_of, true, written_target, ℕ}
+use Rattle.m51_disasm_proof.proofs.Common.{Some, Target, Text, [], and_parts, ap, arith, common_steps, cond, encoded}
+use Rattle.m51_disasm_proof.proofs.Common.{false, field_in, get_or, is_among, ltb-true, map, nat_lt, not, option_map}
+use Rattle.m51_disasm_proof.proofs.Common.{option_or, refl, subst, sym, take, text_of, true, written_target, ℕ}
 use Rattle.std.proofs.lemmas.List.FromFn.{get_or-map-range_with_len}
 use Rattle.std.specs.List.{range_with_len}
 use Rattle.m51_isa.specs.Table.{decoded_at, length_of}
@@ -31,10 +31,7 @@ FitsSlot (NotBit f) = FitsIn f.field f.number
 FitsSlot s = Unit {0}
 
 kept_is : (at : Field) (n : ℕ) → FitsIn at n → kept at n ≡ n
-kept_is field.Data16 n h = refl
-kept_is field.Addr16 n h = refl
-kept_is field.Addr11 n h = let same : n % 2048 ≡ n = omega arith in same
-kept_is at n h = let same : n % 256 ≡ n = omega arith in same
+kept_is at n h = grind (arith, common_steps)
 
 -- so a field holds it
 pub slot_kept : (s : Slot) → FitsSlot s → HasRoom s
@@ -114,15 +111,7 @@ module _ (second third : ℕ) where
 
 module _ (first second third : ℕ) (f : first < 256) (s : second < 256) (t : third < 256) where
   written_is : (b c : Bool) → written_by second third first b c ≡ first ∷ second ∷ third ∷ []
-  written_is true c =
-      let high : first % 32 + 32 * ((first / 32 * 256 + second) / 256) ≡ first = omega arith in
-      let low : (first / 32 * 256 + second) % 256 ≡ second = omega arith in
-      cc
-  written_is false true =
-      let high : (second * 256 + third) / 256 ≡ second = omega arith in
-      let low : (second * 256 + third) % 256 ≡ third = omega arith in
-      cc
-  written_is false false = refl
+  written_is x0 c = grind (arith, common_steps)
 
   field_fits : (at : Field) (byte : ℕ) → FitsIn at (in_field second third first at byte)
   field_fits field.Data16 byte = omega arith
@@ -189,8 +178,7 @@ all_usual i = refl
 
 pub rows_usual : (i : Instr) → (is_usual (text_of i).first ≡ true) × (is_usual (text_of i).second ≡ true)
     × (is_usual (text_of i).third ≡ true)
-rows_usual i =
-    and_all (is_usual (text_of i).first) (is_usual (text_of i).second) (is_usual (text_of i).third) (all_usual i)
+rows_usual i = grind (arith, common_steps)
 
 -- a target that is written as a label or as a number
 pub data LeadsTo (address : ℕ) (t : Target) : Type 0 where

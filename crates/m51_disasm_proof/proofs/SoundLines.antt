@@ -2,9 +2,10 @@
 use Rattle.m51_disasm_proof.proofs.Common.{◌%◌, ◌++◌, ◌+◌, ◌<◌, ◌∙◌, ◌∷◌, ◌≡◌, ◌≤◌, AreBytes, AreSlots, AtR, Bool}
 use Rattle.m51_disasm_proof.proofs.Common.{CodeRange, Field, IfSome, Imm, Instr, IsContent, IsSlot, List, None, Option}
 use Rattle.m51_disasm_proof.proofs.Common.{Plain, R, Slot, Some, SourceLine, Statement, Target, [], ap, append_assoc}
-use Rattle.m51_disasm_proof.proofs.Common.{arith, beginnings, cond, false, field_in, flat_map, is_among, length_in}
-use Rattle.m51_disasm_proof.proofs.Common.{line_of, map, nat_lt, not, order, refl, slice_index, statement_lines}
-use Rattle.m51_disasm_proof.proofs.Common.{statements_of, subst, sym, targets, text_of, true, written_target, ℕ}
+use Rattle.m51_disasm_proof.proofs.Common.{arith, beginnings, common_steps, cond, field_in, flat_map, is_among}
+use Rattle.m51_disasm_proof.proofs.Common.{length_in, line_of, map, nat_lt, not, order, refl, slice_index}
+use Rattle.m51_disasm_proof.proofs.Common.{statement_lines, statements_of, subst, sym, targets, text_of, true}
+use Rattle.m51_disasm_proof.proofs.Common.{written_target, ℕ}
 use Rattle.m51_isa.specs.Table.{length_of}
 use Rattle.m51_isa.specs.Targets.{near}
 use Rattle.m51_isa.specs.declared.slot.Field.TheVariants as field
@@ -58,8 +59,7 @@ of_whole image parts P h = subst P (sym (ap (λ l. line.Nomod51 ∷ l) (rest_is 
 -- ---- statements
 
 relative_below : (next rel : ℕ) (b : Bool) → cond b ((next + rel) % 65536) ((next + 65280 + rel) % 65536) < 65536
-relative_below next rel true = omega arith
-relative_below next rel false = omega arith
+relative_below next rel x2 = grind (arith, common_steps)
 
 target_sound : (t : Target) (address : ℕ) → LeadsTo address t → address < 65536 → IsTarget t
 target_sound t address (ByLabel e) h = subst IsTarget (sym e) h
@@ -79,10 +79,7 @@ address_sound t next field.Addr16 number usual fits led = target_sound t _ (led 
 address_sound t next at number usual fits led = absurd (cc usual)
 
 data_sound : (at : Field) (number : ℕ) → FitsIn at number → number < 65536
-data_sound field.Data16 number h = h
-data_sound field.Addr16 number h = h
-data_sound field.Addr11 number h = omega arith
-data_sound at number h = omega arith
+data_sound at number h = grind (arith, common_steps)
 
 slot_sound : (t : Target) (next : ℕ) (s : Slot) → is_usual s ≡ true → FitsSlot s
     → IsLed t (slot_address next (field_in s))
@@ -118,8 +115,7 @@ decoded_as image bytes at i e =
 
 label_first : (b : Bool) (low at next : ℕ) → low ≤ at → at < 65536 → at + 1 ≤ next
     → LiesFrom low (cond b (Some at) None) × (after_label low (cond b (Some at) None) ≤ next)
-label_first true low at next from small le = ((from, small), le)
-label_first false low at next from small le = (tt, omega arith)
+label_first x0 low at next from small le = grind (arith, common_steps)
 
 module _ (image : List ℕ) (bytes : AreBytes image) where
   statement_sound : (begin : List ℕ) (end at : ℕ)

@@ -1,10 +1,9 @@
 -- Each statement of a disassembly gives the bytes of the image at its address.
 use Rattle.m51_disasm_proof.proofs.Common.{◌%◌, ◌+◌, ◌∙◌, ◌∷◌, ◌≡◌, AllByRecursion, AreBytes, Instr, IsNamed, Jump}
 use Rattle.m51_disasm_proof.proofs.Common.{List, Meanings, Nop, Number, Ok, Some, StandsAt, Target, [], all_inside}
-use Rattle.m51_disasm_proof.proofs.Common.{and_parts, ap, arith, body_of, bytes_at, encoded, length_in, nat_le, refl}
-use Rattle.m51_disasm_proof.proofs.Common.{slice_index, subst, sym, take, text_of, true, written_target, ℕ}
-use Rattle.std.proofs.lemmas.List.FromFn.{take-map-range_with_len}
-use Rattle.m51_isa.proofs.Codes.{rows_are_short}
+use Rattle.m51_disasm_proof.proofs.Common.{and_parts, ap, arith, body_of, bytes_at, common_steps, encoded, length_in}
+use Rattle.m51_disasm_proof.proofs.Common.{nat_le, refl, slice_index, subst, sym, take, text_of, true, written_target}
+use Rattle.m51_disasm_proof.proofs.Common.{ℕ}
 use Rattle.m51_isa.specs.Table.{length_of, padded}
 use Rattle.m51_expr.specs.Evaluation.{value_of}
 use Rattle.m51_expr.specs.Operand as item
@@ -36,11 +35,7 @@ module _ (image : List ℕ) (bytes : AreBytes image) (begin : List ℕ) (end at 
 
   bytes_are : (i : Instr) → IsDecoded (three_at image at) i → take (length_of i) (padded (encoded i))
       ≡ bytes_at image at (length_of i)
-  bytes_are i decoded =
-      let last : at + 2 ≡ at + 1 + 1 = omega arith in
-      padded_front i ∙ decoded.row
-      ∙ ap (λ n. take (length_of i) (slice_index image at ∷ slice_index image (at + 1) ∷ slice_index image n ∷ [])) last
-      ∙ take-map-range_with_len (slice_index image) at 3 (length_of i) (rows_are_short i).three
+  bytes_are i decoded = grind (arith, common_steps)
 
   abbrev target_to : Written → Target
   target_to c = written_target begin (target_by at c)

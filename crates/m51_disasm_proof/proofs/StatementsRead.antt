@@ -2,8 +2,8 @@
 use Rattle.m51_disasm_proof.proofs.Common.{◌++◌, ◌<◌, ◌∙◌, ◌∷◌, ◌≡◌, ◌≤◌, BodyTree, Content, Field, Imm, Instr}
 use Rattle.m51_disasm_proof.proofs.Common.{IsContent, IsSound, List, None, Nop, Nothing, Ok, OperandTree, Option, Plain}
 use Rattle.m51_disasm_proof.proofs.Common.{Slot, Some, SourceLine, Target, [], ap, append-nil, append_assoc, arith}
-use Rattle.m51_disasm_proof.proofs.Common.{body_of, byte_text, codes, false, is_character, label_text, length}
-use Rattle.m51_disasm_proof.proofs.Common.{length-append, list_all, map, meant, name_of, name_word, number_word}
+use Rattle.m51_disasm_proof.proofs.Common.{body_of, byte_text, codes, common_steps, false, is_character, label_text}
+use Rattle.m51_disasm_proof.proofs.Common.{length, length-append, list_all, map, meant, name_of, name_word, number_word}
 use Rattle.m51_disasm_proof.proofs.Common.{option_map, refl, sign_word, subst, sym, symbol, text_of, true, word_text, ℕ}
 use Rattle.m51_cells.proofs.NameLaws.{named_is_name}
 use Rattle.m51_cells.specs.declared.kind.Kind.TheVariants as kind
@@ -24,7 +24,6 @@ use Rattle.m51_stmt.specs.Statement.{StmtTree}
 use Rattle.m51_disasm.specs.Texts.{content_text, data_text, label_front, line_text, operand_after, operand_text}
 use Rattle.m51_disasm.specs.Texts.{plain_text, spelled, statement_text, target_text}
 use Rattle.m51_disasm.specs.declared.line.SourceLine.TheVariants as line
-use Rattle.m51_disasm.specs.declared.line.Target.TheVariants as target
 use Rattle.m51_disasm.specs.declared.statement.Content.TheVariants as content
 use Rattle.m51_disasm_proof.specs.Meaning.{without_label}
 use Rattle.m51_disasm_proof.specs.Sound.{IsLabel}
@@ -35,14 +34,11 @@ use Rattle.m51_disasm_proof.proofs.Labels.{label_is_free}
 
 target_few : (t : Target) → length (target_text t) ≤ 6
 unfolding target_text
-target_few target.Nowhere = omega arith
-target_few (target.Label address) = omega arith
-target_few (target.Number address) = omega arith
+target_few x0 = grind (arith, common_steps)
 
 data_few : (f : Field) (n : ℕ) → length (data_text f n) ≤ 6
 unfolding data_text
-data_few field.Data16 n = omega arith
-data_few f n = omega arith
+data_few f n = grind (arith, common_steps)
 
 plain_few : (t : Target) (f : Field) (n : ℕ) → length (plain_text t f n) ≤ 6
 unfolding plain_text
@@ -77,8 +73,7 @@ content_few t (content.Code i) =
 
 label_few : (label : Option ℕ) → length (label_front label) ≤ 7
 unfolding label_front
-label_few None = omega arith
-label_few (Some address) = omega arith
+label_few x0 = grind (arith, common_steps)
 
 -- so no line has more bytes than one may have
 pub line_few : (l : SourceLine) → length (line_text l) ≤ 255

@@ -1,9 +1,9 @@
 -- The text of a disassembly is read as its lines, and no line has a fault.
-use Rattle.m51_disasm_proof.proofs.Common.{◌&&◌, ◌++◌, ◌+◌, ◌-◌, ◌<◌, ◌||◌, ◌∙◌, ◌∷◌, ◌≡◌, ◌≤◌, AllByRecursion, Bool}
-use Rattle.m51_disasm_proof.proofs.Common.{IsSound, Lines, List, None, Ok, Some, SourceFile, SourceLine, [], above, ap}
+use Rattle.m51_disasm_proof.proofs.Common.{◌&&◌, ◌++◌, ◌+◌, ◌<◌, ◌||◌, ◌∙◌, ◌∷◌, ◌≡◌, ◌≤◌, AllByRecursion, IsSound}
+use Rattle.m51_disasm_proof.proofs.Common.{Lines, List, None, Ok, Some, SourceFile, SourceLine, [], above, ap}
 use Rattle.m51_disasm_proof.proofs.Common.{append_assoc, arith, codes, common_steps, cond, false, get_or, is_character}
-use Rattle.m51_disasm_proof.proofs.Common.{left, length, length-append, list_all, list_any, map, meant, nat_lt, ne_eqb}
-use Rattle.m51_disasm_proof.proofs.Common.{not, read_from, refl, suc, take, true, zero, ℕ}
+use Rattle.m51_disasm_proof.proofs.Common.{length, length-append, list_all, list_any, map, meant, nat_lt, ne_eqb, not}
+use Rattle.m51_disasm_proof.proofs.Common.{read_from, refl, suc, take, true, ℕ}
 use Rattle.std.proofs.Common.{Err}
 use Rattle.std.proofs.Math.Bool.{and-false, or-true}
 use Rattle.std.proofs.lemmas.List.{take_all}
@@ -18,16 +18,14 @@ use Rattle.m51_cells.specs.declared.fault.TheConstants.{BAD_BYTE, TOO_MANY}
 use Rattle.m51_isa.specs.Spelling.{text}
 use Rattle.m51_lex.specs.declared.fault.TheConstants.{LONG_LINE}
 use Rattle.m51_stmt.proofs.ReadStatements.{at_most_255}
-use Rattle.m51_stmt.proofs.WordCuts.{right}
 use Rattle.m51_stmt.specs.Lines.{any_line, statement_of}
 use Rattle.m51_text.specs.Answer.{faults_or_lines, statements_of, text_of, with_statement}
 use Rattle.m51_text.specs.Faults.{before, ends_source, fault_by_place, fault_on_line, fault_with, faults_from}
 use Rattle.m51_text.specs.Faults.{faults_of}
-use Rattle.m51_text.specs.Said.{asked, has_content, include_name, is_end, is_end_body, said}
-use Rattle.m51_text.specs.Text.{TextLine, brought, include_lines, inclusion_by, lines_with, text_lines}
+use Rattle.m51_text.specs.Said.{has_content, include_name, is_end, is_end_body, said}
+use Rattle.m51_text.specs.Text.{TextLine, brought, inclusion_by, lines_with, text_lines}
 use Rattle.m51_disasm.specs.Texts.{line_text, text_of_lines}
 use Rattle.m51_disasm.specs.declared.line.SourceLine.TheVariants as line
-use Rattle.m51_disasm_proof.proofs.MeantLines.{by_line}
 use Rattle.m51_disasm_proof.proofs.StatementsRead.{line_few, line_read}
 
 -- ---- each line says what is meant
@@ -49,13 +47,10 @@ no_return : (c : ℕ) → is_character c ≡ true → c ≡ 13 → ⊥
 no_return c h e = grind (arith, common_steps, h, e)
 
 at_return : (text : List ℕ) (index : ℕ) → list_all is_character text ≡ true → get_or text index 0 ≡ 13 → ⊥
-at_return [] index h e = absurd (omega arith)
-at_return (c ∷ text) zero h e = no_return c (left (is_character c) (list_all is_character text) h) e
-at_return (c ∷ text) (suc index) h e = at_return text index (right (is_character c) (list_all is_character text) h) e
+at_return x0 index h e = grind (arith, common_steps)
 
 kept : (text : List ℕ) → list_all is_character text ≡ true → strip_carriage_return text ≡ text
-kept text h = ap (λ (b : Bool). cond b (take (length text - 1) text) text)
-    (ne_eqb (get_or text (length text - 1) 0) 13 (at_return text (length text - 1) h))
+kept text h = grind (arith, common_steps)
 
 first_line : (text rest : List ℕ) → list_all is_character text ≡ true
     → lines ((text ++ codes "\n") ++ rest) ≡ text ∷ lines rest
@@ -74,14 +69,11 @@ lines_are (l ∷ ls) is = first_line (line_text l) (text_of_lines ls) (line_read
 -- ---- the lines are only those of the source
 
 nothing_asked : (l : SourceLine) → include_name (meant l).body ≡ None
-nothing_asked =
-    by_line (λ l. include_name (meant l).body ≡ None) refl (λ base. refl) (λ o t byte. refl) (λ o t i. refl) refl
+nothing_asked = grind (arith, common_steps)
 
 none_brought : (l : SourceLine) → IsSound l → brought [] 8 (line_text l) ≡ []
 unfolding brought
-none_brought l is =
-    ap (λ r. include_lines [] (brought [] 7) 7 (inclusion_by [] 8 (asked r))) (line_said l is)
-    ∙ ap (λ o. include_lines [] (brought [] 7) 7 (inclusion_by [] 8 o)) (nothing_asked l)
+none_brought l is = grind (arith, common_steps)
 
 -- the line of a text of (text_line n l) number
 abbrev text_line : ℕ → SourceLine → TextLine

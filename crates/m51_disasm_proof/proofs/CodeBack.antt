@@ -1,24 +1,23 @@
 -- A disassembled instruction is coded as the bytes that it was decoded from.
-use Rattle.m51_disasm_proof.proofs.Common.{◌%◌, ◌+◌, ◌∙◌, ◌∷◌, ◌≡◌, AreSlots, Bool, FieldSlot, HasRoom, Instr, IsNamed}
-use Rattle.m51_disasm_proof.proofs.Common.{Jump, List, Meanings, None, Ok, Option, Slot, Some, StandsAt, Target, Text}
-use Rattle.m51_disasm_proof.proofs.Common.{[], all_inside, ap, arith, common_steps, cond, encoded, field_in, look_of}
-use Rattle.m51_disasm_proof.proofs.Common.{operand_of, operands_of, option_map, option_or, refl, sym, text_of, true, ℕ}
+use Rattle.m51_disasm_proof.proofs.Common.{◌%◌, ◌+◌, ◌∙◌, ◌∷◌, ◌≡◌, AreSlots, HasRoom, Instr, IsNamed, Jump, List}
+use Rattle.m51_disasm_proof.proofs.Common.{Meanings, None, Ok, Option, Slot, Some, Stands, StandsAt, Target, []}
+use Rattle.m51_disasm_proof.proofs.Common.{all_inside, ap, arith, common_steps, encoded, field_in, number_of_slot}
+use Rattle.m51_disasm_proof.proofs.Common.{operand_of, option_map, refl, slot_address, sym, text, text_of, true, ℕ}
 use Rattle.m51_isa.proofs.RowsFilled.{texts_are_rows}
 use Rattle.m51_isa.specs.Filling.{with_numbers}
 use Rattle.m51_isa.specs.Search.{search}
-use Rattle.m51_isa.specs.Spelling.{text}
+use Rattle.m51_isa.specs.Spelling.{Text, look_of}
 use Rattle.m51_isa.specs.Table.{code_of, length_of as row_length}
-use Rattle.m51_isa.specs.TextLaws.{HasNumbers, number_of_slot, refilled, slot_with_number}
+use Rattle.m51_isa.specs.TextLaws.{HasNumbers, slot_with_number}
 use Rattle.m51_expr.specs.Operand.{OperandTree}
-use Rattle.m51_expr.specs.Tree.{Tree}
 use Rattle.m51_encode.specs.Coding.{Line, coded, coded_by, coded_line, gathered, instruction_line, line, line_row}
 use Rattle.m51_encode.specs.Coding.{outcomes, outcomes_by, outcomes_line, three_outcomes}
-use Rattle.m51_encode.specs.Filling.{filled, filled_by, references_of}
+use Rattle.m51_encode.specs.Filling.{filled, references_of}
 use Rattle.m51_encode.specs.JumpForm.{address_after}
 use Rattle.m51_encode.specs.declared.coding.Coded.{Coded}
-use Rattle.m51_encode.specs.declared.outcome.OperandOutcome.TheVariants.{Stands}
 use Rattle.m51_encode.specs.declared.reference.Reference.{Reference}
-use Rattle.m51_disasm.specs.Statements.{slot_address, stays_inside}
+use Rattle.m51_disasm.specs.Statements.{stays_inside}
+use Rattle.m51_disasm_proof.specs.Meaning.{operands_of}
 use Rattle.m51_disasm_proof.proofs.OperandsBack.{held_in, slot_given}
 use Rattle.m51_disasm_proof.proofs.RowsDecoded.{AreLed, IsLed, is_usual, rows_usual}
 
@@ -41,14 +40,6 @@ made : {A B : Type 0} (o : Option A) (f : A → B) (y : B) → option_map f o �
 made None f y h = absurd (cc h)
 made (Some x) f y h = record { from = x; is = refl; same = cc h }
 
-by_expression : (names : Meanings) (next m : ℕ) (f : FieldSlot) (o : Option Tree)
-    → filled_by names next (refilled f m) o ≡ filled_by names next f o
-by_expression names next m f x4 = grind (arith, common_steps)
-
-by_operand : (names : Meanings) (next m : ℕ) (f : FieldSlot) (o : Option OperandTree)
-    → filled names next (Some (refilled f m)) o ≡ filled names next (Some f) o
-by_operand names next m f x4 = grind (arith, common_steps)
-
 -- the number of the row's own operand does not matter
 same_filled : (names : Meanings) (next m : ℕ) (s : Slot) (o : Option OperandTree)
     → filled names next (field_in (slot_with_number s m)) o ≡ filled names next (field_in s) o
@@ -58,12 +49,6 @@ same_filled names next m s o = grind (arith, common_steps)
 
 abbrev none : Option Reference
 none = None
-
-none_either : (b : Bool) → cond b none none ≡ none
-none_either x0 = grind (arith, common_steps)
-
-one_none : (b c d : Bool) → option_or (cond b none none) (option_or (cond c none none) (cond d none none)) ≡ none
-one_none b c d = (λ i. option_or (none_either b i) (option_or (none_either c i) (none_either d i)))
 
 -- no byte of an instruction has a reference
 abbrev pub no_references : List (Option Reference)

@@ -1,9 +1,9 @@
 -- A line of names, numbers and signs, with blanks between them or none, is cut into these words.
-use Rattle.m51_disasm_proof.proofs.Common.{◌&&◌, ◌*◌, ◌++◌, ◌+◌, ◌-◌, ◌<◌, ◌==◌, ◌||◌, ◌∙◌, ◌∷◌, ◌≡◌, Bool, List, Ok}
-use Rattle.m51_disasm_proof.proofs.Common.{Some, Word, [], ap, append_assoc, arith, byte_text, common_steps, false}
-use Rattle.m51_disasm_proof.proofs.Common.{is_character, left, length, length-append, list_all, map, name_of, name_word}
-use Rattle.m51_disasm_proof.proofs.Common.{nat_le, number_word, refl, sign_word, slice_index, sym, symbol, take, true}
-use Rattle.m51_disasm_proof.proofs.Common.{word_text, ℕ}
+use Rattle.m51_disasm_proof.proofs.Common.{◌&&◌, ◌++◌, ◌+◌, ◌-◌, ◌<◌, ◌==◌, ◌||◌, ◌∙◌, ◌∷◌, ◌≡◌, Bool, List, Ok, Some}
+use Rattle.m51_disasm_proof.proofs.Common.{Symbol, Word, [], ap, append_assoc, arith, before, byte_text, common_steps}
+use Rattle.m51_disasm_proof.proofs.Common.{false, is_character, length, length-append, list_all, map, name_of}
+use Rattle.m51_disasm_proof.proofs.Common.{name_word, nat_le, number_word, refl, sign_word, slice_index, sym, symbol}
+use Rattle.m51_disasm_proof.proofs.Common.{take, text, true, word_text, ℕ}
 use Rattle.std.proofs.Common.{drop}
 use Rattle.std.proofs.Math.Seq.{drop-append_seam, take-append_seam}
 use Rattle.std.proofs.lemmas.Bool.{or_parts}
@@ -15,22 +15,19 @@ use Rattle.m51_cells.proofs.Passing.{weaker}
 use Rattle.m51_cells.specs.Hex.{hex2, hex4}
 use Rattle.m51_cells.specs.Name as cells
 use Rattle.m51_cells.specs.Name.{is_name}
-use Rattle.m51_isa.specs.Spelling.{text}
 use Rattle.m51_lex.proofs.Cuts.{from_front}
 use Rattle.m51_lex.specs.Characters.{is_name_byte, space}
 use Rattle.m51_lex.specs.Lexeme.{lexeme_of, name_lexeme, number_or_fault}
-use Rattle.m51_lex.specs.Number.{number_of, value_in}
+use Rattle.m51_lex.specs.Number.{number_of}
 use Rattle.m51_lex.specs.Tokens.{Cut, after_lexeme, put_front, tokens_at}
 use Rattle.m51_lex.specs.declared.token.Token.{Token}
 use Rattle.m51_lex.specs.declared.token.What.TheVariants as what
 use Rattle.m51_expr.specs.Symbol.{symbol_of}
-use Rattle.m51_expr.specs.declared.symbol.Symbol.{Symbol}
 use Rattle.m51_stmt.proofs.LineCuts.{are_symbols, one_blank, token_at, word_within}
-use Rattle.m51_stmt.proofs.WordCuts.{at_most_31, name_first, right}
+use Rattle.m51_stmt.proofs.WordCuts.{at_most_31, left, name_first, right}
 use Rattle.m51_stmt.specs.Answer.{and_then, or_fault}
 use Rattle.m51_stmt.specs.Lines.{read, statement, statement_fault, token_line}
 use Rattle.m51_stmt.specs.Statement.{StmtTree}
-use Rattle.m51_text.specs.Faults.{before}
 
 -- the word is cut as a token of its own before these bytes
 pub record Stands (w : Word) (rest : List ℕ) : Type 0 where
@@ -152,7 +149,7 @@ name_characters (c ∷ more) h =
     weaker cells.is_name_byte is_character (λ b is. name_character b (of_name b is)) (c ∷ more) parts.bytes
 
 has_some : (text : List ℕ) → is_name text ≡ true → 0 < length text
-has_some x0 h = grind (arith, common_steps)
+has_some text h = grind (arith, common_steps)
 
 -- a written name is cut as a token
 pub name_stands : (text rest : List ℕ) → name_of text ≡ Some text → Ends rest → Stands (name_word text) rest
@@ -191,9 +188,6 @@ run_name b h = ap (λ t. t || (63 == b || (95 == b || false))) h
 
 no_run : (b : ℕ) → is_name_byte b ≡ false → is_ascii_alphanumeric b ≡ false
 no_run b h = (or_parts (is_ascii_alphanumeric b) (63 == b || (95 == b || false)) h).0
-
-two_digits : (v b : ℕ) (cs : List ℕ) → b < 256 → value_in 16 v (hex2 b ++ cs) ≡ value_in 16 (v * 256 + b) cs
-two_digits v b cs h = grind (arith, common_steps)
 
 byte_number : (n : ℕ) → n < 256 → number_of (byte_text n) ≡ Some n
 unfolding number_of

@@ -1,17 +1,16 @@
 -- The text of a disassembly is read as the lines that are meant.
 use Rattle.m51_disasm_proof.proofs.Common.{◌++◌, ◌∙◌, ◌∷◌, ◌≡◌, ◌≤◌, AreBytes, Bool, CodeRange, Content, LayoutParts}
 use Rattle.m51_disasm_proof.proofs.Common.{Lines, List, Ok, SourceFile, SourceLine, Statement, Target, [], arith}
-use Rattle.m51_disasm_proof.proofs.Common.{beginnings, body_of, common_steps, cond, false, length, line_of, map, meant}
-use Rattle.m51_disasm_proof.proofs.Common.{nat_lt, read_from, refl, statement_lines, statements_of, targets, ℕ}
+use Rattle.m51_disasm_proof.proofs.Common.{beginnings, body_of, common_steps, cond, false, length, map, meant, nat_lt}
+use Rattle.m51_disasm_proof.proofs.Common.{read_from, refl, statement_lines, statements_of, targets, text, ℕ}
 use Rattle.std.proofs.Common.{Err, Result}
-use Rattle.m51_isa.specs.Spelling.{text}
 use Rattle.m51_module.specs.Sound as layout
 use Rattle.m51_module.specs.declared.linked.Quantity.{Quantity}
 use Rattle.m51_module.specs.declared.linked.Quantity.TheVariants as quantity
 use Rattle.m51_text.specs.Answer.{text_of}
 use Rattle.m51_text.specs.Said.{is_end_body}
 use Rattle.m51_disasm.specs.Answer.{disassembled, text_by, text_within}
-use Rattle.m51_disasm.specs.Lines.{lines_of}
+use Rattle.m51_disasm.specs.Lines.{line_of, lines_of}
 use Rattle.m51_disasm.specs.Parts.{code_ranges}
 use Rattle.m51_disasm.specs.Texts.{text_of_lines}
 use Rattle.m51_disasm.specs.declared.line.SourceLine.TheVariants as line
@@ -28,7 +27,7 @@ one_more l [] h e = absurd e
 one_more l (m ∷ more) h e = (h, e)
 
 no_end : (t : Target) (c : Content) → is_end_body (body_of t c) ≡ false
-no_end t x1 = grind (arith, common_steps)
+no_end t c = grind (arith, common_steps)
 
 statements_end : (begin led : List ℕ) (statements : List Statement) (more : List SourceLine) → EndsOnce more
     → EndsOnce (map (line_of begin led) statements ++ more)
@@ -64,7 +63,7 @@ text_or_limit text = Ok text
 
 answered : (b c : Bool) (x text : List ℕ) → cond b (Err quantity.Parts) (cond c (Err quantity.Lines) (Ok x))
     ≡ text_or_limit text → (b ≡ false) × ((c ≡ false) × (text ≡ x))
-answered x0 c x text h = grind (arith, common_steps)
+answered b c x text h = grind (arith, common_steps)
 
 pub given : (l : LayoutParts) (image text : List ℕ) → disassembled l image ≡ Ok text → IsGiven l image text
 unfolding disassembled text_by text_within

@@ -1,10 +1,11 @@
 -- A disassembled instruction is cut into the words of the instruction that is meant, and has the length of its row.
 use Rattle.m51_disasm_proof.proofs.Common.{◌&&◌, ◌++◌, ◌||◌, ◌∙◌, ◌∷◌, ◌≡◌, AreSlots, Bool, Instr, IsSlot, IsSound}
 use Rattle.m51_disasm_proof.proofs.Common.{Jump, List, Meanings, None, Nop, Nothing, OperandTree, Slot, Some}
-use Rattle.m51_disasm_proof.proofs.Common.{SourceLine, Target, Word, [], ap, append-nil, append_assoc, arith, codes}
-use Rattle.m51_disasm_proof.proofs.Common.{common_steps, cons_option, false, line_size, look_of, map, meant, name_of}
-use Rattle.m51_disasm_proof.proofs.Common.{name_word, not, operand_of, operands_of, option_map, order, refl, subst, sym}
-use Rattle.m51_disasm_proof.proofs.Common.{symbol, text_of, true, ℕ}
+use Rattle.m51_disasm_proof.proofs.Common.{SourceLine, Symbol, Target, Word, [], ap, append-nil, append_assoc, arith}
+use Rattle.m51_disasm_proof.proofs.Common.{codes, common_steps, false, line_size, map, meant, name_of, name_word, not}
+use Rattle.m51_disasm_proof.proofs.Common.{operand_of, option_map, order, refl, subst, sym, symbol, text, text_of, true}
+use Rattle.m51_disasm_proof.proofs.Common.{ℕ}
+use Rattle.std.specs.List.{cons_option}
 use Rattle.std.specs.Prelude.{option_and_then, unwrap_or}
 use Rattle.m51_isa.proofs.RowsFilled.{rows_are_apart}
 use Rattle.m51_isa.specs.Arithmetic.{arithmetic}
@@ -13,12 +14,11 @@ use Rattle.m51_isa.specs.Jumps.{jumps}
 use Rattle.m51_isa.specs.Logic.{logic}
 use Rattle.m51_isa.specs.Moves.{moves}
 use Rattle.m51_isa.specs.Search.{has_row, row_for, row_or, search}
-use Rattle.m51_isa.specs.Spelling.{text}
+use Rattle.m51_isa.specs.Spelling.{look_of}
 use Rattle.m51_isa.specs.Table.{length_of as row_length}
 use Rattle.m51_expr.specs.Looks.{has_form}
 use Rattle.m51_expr.specs.Symbol.{arithmetic_word, operator_of, prefix_word, relation_word, word_symbol}
 use Rattle.m51_expr.specs.Words.{is_language_word}
-use Rattle.m51_expr.specs.declared.symbol.Symbol.{Symbol}
 use Rattle.m51_expr.specs.declared.symbol.Symbol.TheVariants as symbols
 use Rattle.m51_stmt.proofs.ListWords.{Each, comma_word}
 use Rattle.m51_stmt.proofs.PrintedBodies.{IsCode, body_words}
@@ -27,6 +27,7 @@ use Rattle.m51_stmt.specs.Statement.{Code}
 use Rattle.m51_encode.specs.Coding.{instruction_line, length_of, line, line_row}
 use Rattle.m51_asm.specs.Fitting.{size_by}
 use Rattle.m51_disasm.specs.Texts.{operand_after, operand_text, spelled}
+use Rattle.m51_disasm_proof.specs.Meaning.{operands_of}
 use Rattle.m51_disasm_proof.proofs.CutLines.{IsCutInto, after_blank, after_word, comma_stands, name_stands, no_words}
 use Rattle.m51_disasm_proof.proofs.MeantLines.{by_line}
 use Rattle.m51_disasm_proof.proofs.OperandsCut.{IsReadOperand, is_there, slot_read}

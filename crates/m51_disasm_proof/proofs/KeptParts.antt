@@ -1,10 +1,9 @@
 -- The segments of the module of a disassembly: one for each part.
 use Rattle.m51_disasm_proof.proofs.Common.{◌++◌, ◌+◌, ◌<◌, ◌==◌, ◌∙◌, ◌∷◌, ◌≡◌, ◌≢◌, AllByRecursion, Assignment, Bool}
-use Rattle.m51_disasm_proof.proofs.Common.{CodeRange, Kept, LineTree, List, SourceLine, TextSegment, [], ap, append-nil}
-use Rattle.m51_disasm_proof.proofs.Common.{append_assoc, arith, body_at, common_steps, cond, eq-eqb, length, meant}
-use Rattle.m51_disasm_proof.proofs.Common.{opening, order, refl, statements_of, subst, suc, sym, ℕ}
-use Rattle.std.specs.Str.Lines.{lines}
-use Rattle.m51_encode.specs.declared.outcome.OperandOutcome.TheVariants.{Stands}
+use Rattle.m51_disasm_proof.proofs.Common.{CodeRange, Kept, LineGives, LineTree, List, SourceLine, Stands, TextSegment}
+use Rattle.m51_disasm_proof.proofs.Common.{[], ap, append-nil, append_assoc, arith, body_at, common_steps, cond, eq-eqb}
+use Rattle.m51_disasm_proof.proofs.Common.{length, lines, meant, offset_at, opening, order, refl, runs_from}
+use Rattle.m51_disasm_proof.proofs.Common.{statements_of, subst, suc, sym, ℕ}
 use Rattle.m51_emit.specs.Content.{content_by}
 use Rattle.m51_emit.specs.Pieces.{if_bytes}
 use Rattle.m51_emit.specs.declared.content.EmittedContent.{EmittedContent}
@@ -12,9 +11,8 @@ use Rattle.m51_asm.specs.ContentFaults.{line_outcomes, line_outcomes_by}
 use Rattle.m51_asm.specs.Fitting.{filled}
 use Rattle.m51_asm.specs.ObjectMeanings.{final}
 use Rattle.m51_asm.specs.ObjectSegments.{absolute_of, if_filled, kept, kept_before, size_of}
-use Rattle.m51_asm.specs.Pieces.{content_at, offset_at, runs_from}
+use Rattle.m51_asm.specs.Pieces.{content_at}
 use Rattle.m51_disasm.specs.declared.line.SourceLine.TheVariants as line
-use Rattle.m51_disasm_proof.specs.Standing.{LineGives}
 use Rattle.m51_disasm_proof.proofs.LinesStand.{LinesFrom, State, adds, body_is, next, other_segment, passes, skips}
 use Rattle.m51_disasm_proof.proofs.LinesStand.{state}
 use Rattle.m51_disasm_proof.proofs.MeantLines.{read_at}
@@ -59,7 +57,7 @@ bare_line lines a image k address l bare is = record {
 }
 
 pub same_either : {A : Type 0} (b : Bool) (x : A) → cond b x x ≡ x
-same_either x0 x = grind (arith, common_steps)
+same_either b x = grind (arith, common_steps)
 
 module _ {lines : List LineTree} {a : Assignment} {k : ℕ} {s : State} {l : SourceLine} {ls : List SourceLine}
     (image : List ℕ) (h : LinesFrom lines a k s (l ∷ ls)) (bare : IsBare l) where
@@ -88,7 +86,7 @@ ends {lines} {a} {k} {s} image (part ∷ parts) h =
     record { filled = c.filled ∙ adds h ∙ none; runs = bare_runs image h tt s.segment.id ∙ c.runs }
 
 some_filled : (s : TextSegment) (size : ℕ) → 0 < size → if_filled s size ≡ absolute_of s size ∷ []
-some_filled s x1 h = grind (arith, common_steps)
+some_filled s size h = grind (arith, common_steps)
 
 -- the segments of parts come after those of the lines before
 parts_kept : {lines : List LineTree} {a : Assignment} (image : List ℕ) (parts : List CodeRange) {k : ℕ} {s : State}

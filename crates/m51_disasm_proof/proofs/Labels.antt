@@ -1,12 +1,12 @@
 -- The labels of a disassembly are names that a statement may define, and those of two addresses are two names.
-use Rattle.m51_disasm_proof.proofs.Common.{◌%◌, ◌&&◌, ◌*◌, ◌+◌, ◌-◌, ◌/◌, ◌<◌, ◌∙◌, ◌∷◌, ◌≡◌, ◌≢◌, Bool, List, None}
-use Rattle.m51_disasm_proof.proofs.Common.{Some, [], ap, arith, codes, common_steps, cond, digit_glyph, false, get_or}
-use Rattle.m51_disasm_proof.proofs.Common.{label_text, length, name_of, nat_lt, refl, sym, true, ℕ}
-use Rattle.std.proofs.Common.{nat_eq}
+use Rattle.m51_disasm_proof.proofs.Common.{◌%◌, ◌&&◌, ◌+◌, ◌-◌, ◌<◌, ◌∙◌, ◌∷◌, ◌≡◌, ◌≢◌, Bool, List, None, Some, [], ap}
+use Rattle.m51_disasm_proof.proofs.Common.{arith, codes, common_steps, cond, false, get_or, label_text, length, name_of}
+use Rattle.m51_disasm_proof.proofs.Common.{nat_lt, refl, sym, true, ℕ}
+use Rattle.std.proofs.Common.{◌*◌, ◌/◌, nat_eq}
 use Rattle.std.proofs.Math.Bool.{and-false}
-use Rattle.std.proofs.lemmas.Bool.Decides.{nat_tests}
 use Rattle.std.proofs.lemmas.Slice.Eq.{bytes_eq-Decides}
 use Rattle.std.specs.Char.{to_ascii_uppercase}
+use Rattle.std.specs.Fmt.{digit_glyph}
 use Rattle.std.specs.Str.{bytes_eq}
 use Rattle.m51_cells.specs.Name as cells
 use Rattle.m51_expr.specs.Symbol.{arithmetic_word, operator_of, operator_or_word, prefix_word, relation_word}
@@ -29,7 +29,7 @@ glyph d h = record {
 }
 
 decided : (b : Bool) → ((b ≡ true) → ⊥) → b ≡ false
-decided x0 h = grind (arith, common_steps)
+decided b h = grind (arith, common_steps)
 
 other_length : (xs ys : List ℕ) → length xs ≢ length ys → bytes_eq xs ys ≡ false
 other_length xs ys other = decided (bytes_eq xs ys) (λ same. other (ap length ((bytes_eq-Decides xs ys).0 same)))
@@ -78,9 +78,6 @@ label_is_free address h =
 abbrev number_of : ℕ → ℕ
 number_of c = cond (nat_lt c 58) (c - 48) (c - 55)
 
-digit_back : (d : ℕ) → d < 16 → number_of (digit_glyph true d) ≡ d
-digit_back d low = grind (arith, nat_tests)
-
 -- the address of a label
 abbrev address_in : List ℕ → ℕ
 address_in l =
@@ -92,9 +89,6 @@ address_back address low = grind (arith, common_steps)
 
 label_is : (s t : ℕ) → s < 65536 → t < 65536 → label_text s ≡ label_text t → s ≡ t
 label_is s t low small e = sym (address_back s low) ∙ ap address_in e ∙ address_back t small
-
-pub same_label : (s : ℕ) → bytes_eq (label_text s) (label_text s) ≡ true
-same_label s = (bytes_eq-Decides (label_text s) (label_text s)).1 refl
 
 pub other_label : (s t : ℕ) → s < 65536 → t < 65536 → s ≢ t → bytes_eq (label_text s) (label_text t) ≡ false
 other_label s t low small ne = grind (arith, common_steps)

@@ -1,25 +1,24 @@
 -- A label of a disassembly has the value of its address, so each line gives the bytes of the image at its address.
 use Rattle.m51_disasm_proof.proofs.Common.{◌+◌, ◌-◌, ◌<◌, ◌==◌, ◌||◌, ◌∙◌, ◌∷◌, ◌≡◌, ◌≤◌, AllByRecursion, AreBytes}
-use Rattle.m51_disasm_proof.proofs.Common.{Assignment, Bool, CodeRange, Content, IsNamed, LineTree, List, None, Option}
-use Rattle.m51_disasm_proof.proofs.Common.{Some, SourceLine, StandsAt, Statement, Target, TextSegment, [], ap}
-use Rattle.m51_disasm_proof.proofs.Common.{arith, beginnings, body_of, bytes_at, code_value, common_steps, cond}
-use Rattle.m51_disasm_proof.proofs.Common.{cons_option, eq-eqb, false, is_among, label_text, length, length_in, map}
-use Rattle.m51_disasm_proof.proofs.Common.{object_segments, opening, option_map, order, refl, segment_number, slice_get}
+use Rattle.m51_disasm_proof.proofs.Common.{Assignment, Bool, CodeRange, Content, IsNamed, IsSpot, LineGives, LineTree}
+use Rattle.m51_disasm_proof.proofs.Common.{List, None, Option, Some, SourceLine, Stands, StandsAt, Statement, Target}
+use Rattle.m51_disasm_proof.proofs.Common.{TextSegment, [], ap, arith, beginnings, body_of, bytes_at, code_value}
+use Rattle.m51_disasm_proof.proofs.Common.{common_steps, cond, eq-eqb, false, is_among, label_text, length, length_in}
+use Rattle.m51_disasm_proof.proofs.Common.{lines, map, opening, option_map, order, refl, segment_number, slice_get}
 use Rattle.m51_disasm_proof.proofs.Common.{statements_of, subst, suc, sym, targets, true, written_target, zero, ℕ}
 use Rattle.std.proofs.Math.Bool.{or-true}
 use Rattle.std.proofs.lemmas.Bool.{eqb-true}
-use Rattle.std.specs.Str.Lines.{lines}
+use Rattle.std.specs.List.{cons_option}
 use Rattle.m51_module.specs.Validity.{numbered}
-use Rattle.m51_encode.specs.declared.outcome.OperandOutcome.TheVariants.{Stands}
 use Rattle.m51_emit.specs.Content.{content_by, outcomes_by}
 use Rattle.m51_asm.specs.Assignment.{here_at}
 use Rattle.m51_asm.specs.ContentFaults.{line_outcomes, line_outcomes_by}
 use Rattle.m51_asm.specs.ObjectMeanings.{final, is_fixed, object_value}
+use Rattle.m51_asm.specs.ObjectSegments.{object_segments}
 use Rattle.m51_asm.specs.Pieces.{content_at}
 use Rattle.m51_disasm.specs.Statements.{statement_target}
 use Rattle.m51_disasm.specs.declared.line.Target.TheVariants as target
-use Rattle.m51_disasm_proof.specs.Places.{IsSpot}
-use Rattle.m51_disasm_proof.specs.Standing.{GivesBytes, LineGives}
+use Rattle.m51_disasm_proof.specs.Standing.{GivesBytes}
 use Rattle.m51_disasm_proof.proofs.DisassemblyRead.{given}
 use Rattle.m51_disasm_proof.proofs.KeptParts.{bare_gives, kept_are, kept_parts}
 use Rattle.m51_disasm_proof.proofs.LinesStand.{IsCode, LinesFrom, State, body_is, next, spot_here, state}
@@ -94,7 +93,7 @@ AreFixed lines a = (n : ℕ) → is_fixed (numbered (object_segments lines a) n)
 
 among_more : (o : Option ℕ) (address : ℕ) (more : List ℕ) → is_among more address ≡ true
     → is_among (cons_option o more) address ≡ true
-among_more x0 address more h = grind (arith, common_steps)
+among_more o address more h = grind (arith, common_steps)
 
 among_first : (o : Option ℕ) (address : ℕ) (more : List ℕ) → o ≡ Some address
     → is_among (cons_option o more) address ≡ true
@@ -122,7 +121,7 @@ AreKnown a id image part =
 
 outcomes_of : (lines : List LineTree) (a : Assignment) (k : ℕ) (t : Target) (c : Content)
     → line_outcomes_by lines a k (body_of t c) ≡ outcomes_by (final lines a k) (a.form k) (body_of t c)
-outcomes_of lines a k t x4 = grind (arith, common_steps)
+outcomes_of lines a k t c = grind (arith, common_steps)
 
 module _ (lines : List LineTree) (a : Assignment) (image : List ℕ) (bytes : AreBytes image) (fixed : AreFixed lines a)
     (part : CodeRange) (inside : part.base + part.size ≤ 65536) (id : ℕ) (known : AreKnown a id image part) where

@@ -1,30 +1,27 @@
 -- No line of a disassembly has a fault by the lines above it.
 use Rattle.m51_disasm_proof.proofs.Common.{◌&&◌, ◌+◌, ◌-◌, ◌<◌, ◌==◌, ◌||◌, ◌∙◌, ◌∷◌, ◌≡◌, ◌≤◌, Assignment, Bool}
 use Rattle.m51_disasm_proof.proofs.Common.{CodeRange, LineTree, List, Meanings, None, Option, Some, SourceLine}
-use Rattle.m51_disasm_proof.proofs.Common.{Statement, TextSegment, [], above, ap, arith, body_at, common_steps, cond}
-use Rattle.m51_disasm_proof.proofs.Common.{false, label_text, length, length_in, line_size, meant, nat_lt, not, opening}
-use Rattle.m51_disasm_proof.proofs.Common.{option_map, order, refl, segment_after, statements_of, subst, suc, true}
-use Rattle.m51_disasm_proof.proofs.Common.{zero, ℕ}
+use Rattle.m51_disasm_proof.proofs.Common.{Statement, TextSegment, [], above, ap, arith, before, body_at, common_steps}
+use Rattle.m51_disasm_proof.proofs.Common.{cond, false, length, length_in, line_size, lines, meant, nat_lt, not}
+use Rattle.m51_disasm_proof.proofs.Common.{opening, order, refl, segment_after, statements_of, subst, suc, true, zero}
+use Rattle.m51_disasm_proof.proofs.Common.{ℕ}
 use Rattle.std.proofs.Common.{min}
 use Rattle.std.proofs.lemmas.Bool.{le-ltb}
 use Rattle.std.proofs.lemmas.Bool.Decides.{nat_tests}
-use Rattle.std.specs.Str.Lines.{lines}
 use Rattle.m51_cells.specs.Kinds.{is_absolute}
 use Rattle.m51_cells.specs.declared.fault.TheConstants.{BAD_FORM, DEFINED_TWICE, PAST_THE_END, TOO_MANY}
 use Rattle.m51_expr.specs.Evaluation.{value_of}
-use Rattle.m51_text.specs.Faults.{before}
 use Rattle.m51_asm.proofs.Members.{In, in_first, in_later}
-use Rattle.m51_asm.specs.Definitions.{label_defined}
 use Rattle.m51_asm.specs.FirstFault.{AreFree}
 use Rattle.m51_asm.specs.Fitting.{externals_before, externals_in, filled}
 use Rattle.m51_asm.specs.PlacedFaults.{begins_to_fill, is_misplaced, is_numbered_by, is_past, is_too_many, kind_end}
 use Rattle.m51_asm.specs.PlacedFaults.{operand_fault, placed_fault, segments_before}
-use Rattle.m51_asm.specs.Repeats.{is_repeated, names_module, publics_in, repeats_from}
+use Rattle.m51_asm.specs.Repeats.{is_repeated, names_module, publics_in}
 use Rattle.m51_disasm.specs.declared.line.SourceLine.TheVariants as line
 use Rattle.m51_disasm_proof.proofs.DisassemblyRead.{given}
 use Rattle.m51_disasm_proof.proofs.LinesStand.{IsCode, LinesFrom, State, body_is, given_after, next, size_is_of}
 use Rattle.m51_disasm_proof.proofs.LinesStand.{spot_here, state}
-use Rattle.m51_disasm_proof.proofs.MeantLines.{body_read, by_line, label_of, read_at}
+use Rattle.m51_disasm_proof.proofs.MeantLines.{body_read, by_line, read_at}
 use Rattle.m51_disasm_proof.proofs.PartsInOrder.{AreInOrder}
 use Rattle.m51_disasm_proof.proofs.PartsPassed.{StatementsFrom, in_part, next_statement, part_passed}
 use Rattle.m51_disasm_proof.proofs.SoundLines.{lines_in, rest_of, whole}
@@ -142,10 +139,6 @@ first_test b c d e o p q r s t = grind (arith, common_steps)
 module _ {lines : List LineTree} {a : Assignment} {k : ℕ} {s : State} {l : SourceLine} {ls : List SourceLine}
     (h : LinesFrom lines a k s (l ∷ ls)) where
   -- the line defines nothing again
-  label_once : (o : Option ℕ) → label_of l ≡ o
-      → repeats_from lines k [] (label_defined (option_map label_text o)) ≡ false
-  label_once x0 is = grind (arith, common_steps)
-
   not_repeated : is_repeated lines k ≡ false
   unfolding is_repeated
   not_repeated = grind (arith, common_steps)

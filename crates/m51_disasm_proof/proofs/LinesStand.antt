@@ -1,10 +1,9 @@
 -- The segment and the place of each line of a disassembly, under each assignment that fits.
-use Rattle.m51_disasm_proof.proofs.Common.{◌+◌, ◌<◌, ◌==◌, ◌∙◌, ◌∷◌, ◌≡◌, ◌≢◌, ◌≤◌, Assignment, Fits, LineTree, List}
+use Rattle.m51_disasm_proof.proofs.Common.{◌+◌, ◌<◌, ◌==◌, ◌∙◌, ◌∷◌, ◌≡◌, ◌≢◌, ◌≤◌, Assignment, IsSpot, LineTree, List}
 use Rattle.m51_disasm_proof.proofs.Common.{Meanings, None, Option, Some, SourceLine, TextSegment, [], above, ap, arith}
-use Rattle.m51_disasm_proof.proofs.Common.{body_at, common_steps, cond, eq-eqb, false, label_text, length, line_size}
-use Rattle.m51_disasm_proof.proofs.Common.{meant, ne_eqb, opening, option_map, refl, segment_after, slice_get}
-use Rattle.m51_disasm_proof.proofs.Common.{spots_from, subst, suc, sym, take, true, zero, ℕ}
-use Rattle.std.specs.Str.Lines.{lines}
+use Rattle.m51_disasm_proof.proofs.Common.{body_at, common_steps, cond, eq-eqb, label_text, length, line_size, lines}
+use Rattle.m51_disasm_proof.proofs.Common.{meant, opening, option_map, refl, runs_from, segment_after, slice_get, subst}
+use Rattle.m51_disasm_proof.proofs.Common.{suc, sym, take, true, zero, ℕ}
 use Rattle.m51_cells.specs.declared.kind.Kind.{Kind}
 use Rattle.m51_cells.specs.declared.kind.Kind.TheVariants as kind
 use Rattle.m51_cells.specs.declared.kind.Reloc.TheVariants as reloc
@@ -12,11 +11,10 @@ use Rattle.m51_expr.specs.Evaluation.{value_of}
 use Rattle.m51_asm.proofs.DefinedLines.{at_line, defined_more}
 use Rattle.m51_asm.specs.Assignment.{body_of}
 use Rattle.m51_asm.specs.Definitions.{definition_from, definition_of, definitions_in, found_in, or_later}
-use Rattle.m51_asm.specs.Fitting.{filled, last_absolute, segment_behind, segment_by, size_at, size_by}
-use Rattle.m51_asm.specs.Pieces.{runs_from}
+use Rattle.m51_asm.specs.Fitting.{Fits, filled, last_absolute, segment_behind, segment_by, size_at, size_by}
 use Rattle.m51_asm.specs.Repeats.{or_here}
 use Rattle.m51_disasm.specs.declared.line.SourceLine.TheVariants as line
-use Rattle.m51_disasm_proof.specs.Places.{IsSpot, Spot, place_after}
+use Rattle.m51_disasm_proof.specs.Places.{Spot, place_after, spots_from}
 use Rattle.m51_disasm_proof.proofs.DisassemblyRead.{given}
 use Rattle.m51_disasm_proof.proofs.InstructionsCut.{size_is}
 use Rattle.m51_disasm_proof.proofs.MeantLines.{AreGood, after_label, defines_label, found_below, label_of, length_read}
@@ -115,9 +113,6 @@ module _ {lines : List LineTree} {a : Assignment} {k : ℕ} {s : State} {l : Sou
       ∙ ap (segment_by lines k (above lines a k) (λ kind. last_absolute a.segment kind k) (a.segment k)) body_is
       ∙ segment_is lines k (above lines a k) (λ kind. last_absolute a.segment kind k) (a.segment k) l
       ∙ ap (λ x. segment_after k x l) h.segment
-
-  not_open : (id : ℕ) → s.segment.id ≢ id → ((a.segment k).id == id) ≡ false
-  not_open id ne = ne_eqb (a.segment k).id id (λ e. ne (sym (ap (λ (x : TextSegment). x.id) h.segment) ∙ e))
 
   -- the line gives to no other segment
   pub passes : (id : ℕ) → s.segment.id ≢ id → filled lines a id (suc k) ≡ filled lines a id k

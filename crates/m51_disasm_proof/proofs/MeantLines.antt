@@ -1,13 +1,13 @@
 -- The cases of a line of a disassembly, the lines as they are read, and their labels.
-use Rattle.m51_disasm_proof.proofs.Common.{◌++◌, ◌+◌, ◌<◌, ◌∷◌, ◌≡◌, ◌≤◌, AllByRecursion, BodyTree, Content, Instr}
-use Rattle.m51_disasm_proof.proofs.Common.{IsSound, LineTree, List, None, Option, Some, SourceLine, Target, [], ap}
-use Rattle.m51_disasm_proof.proofs.Common.{arith, body_at, common_steps, cond, label_text, length, meant, option_map}
-use Rattle.m51_disasm_proof.proofs.Common.{read_from, refl, suc, zero, ℕ}
-use Rattle.m51_stmt.specs.Statement.{Empty}
-use Rattle.m51_asm.specs.Definitions.{Defined, Definition, Label, definitions_in, found_in, label_defined}
+use Rattle.m51_disasm_proof.proofs.Common.{◌+◌, ◌<◌, ◌∷◌, ◌≡◌, ◌≤◌, AllByRecursion, Content, Instr, IsSound, LineTree}
+use Rattle.m51_disasm_proof.proofs.Common.{List, None, Option, Some, SourceLine, Target, [], ap, arith, body_at}
+use Rattle.m51_disasm_proof.proofs.Common.{common_steps, cond, label_text, length, meant, option_map, read_from, refl}
+use Rattle.m51_disasm_proof.proofs.Common.{suc, zero, ℕ}
+use Rattle.m51_stmt.specs.Statement.{BodyTree, Empty}
+use Rattle.m51_asm.specs.Definitions.{Definition, Label, definitions_in, found_in, label_defined}
 use Rattle.m51_disasm.specs.declared.line.SourceLine.TheVariants as line
 use Rattle.m51_disasm.specs.declared.statement.Content.TheVariants as content
-use Rattle.m51_disasm_proof.proofs.Labels.{other_label, same_label}
+use Rattle.m51_disasm_proof.proofs.Labels.{other_label}
 
 abbrev statement : Option ℕ → Target → Content → SourceLine
 statement label t c = line.Statement (record { label = label; content = c; target = t })
@@ -75,11 +75,7 @@ are_sound low (l ∷ ls) h = (h.0, are_sound (after_label low (label_of l)) ls h
 
 -- what comes after a label comes after what is before it
 pub still_from : (low address : ℕ) (o : Option ℕ) → LiesFrom low o → after_label low o ≤ address → low ≤ address
-still_from low address x2 lies from = grind (arith, common_steps)
-
-with_none : (o : Option ℕ) (ds : List Defined) → ds ≡ []
-    → label_defined (option_map label_text o) ++ ds ≡ label_defined (option_map label_text o)
-with_none x0 ds e = grind (arith, common_steps)
+still_from low address o lies from = grind (arith, common_steps)
 
 -- a line defines only its label
 pub defines_label : (l : SourceLine) → definitions_in (meant l) ≡ label_defined (option_map label_text (label_of l))
@@ -87,9 +83,6 @@ defines_label = grind (arith, common_steps)
 
 abbrev pub found_with : ℕ → Option ℕ → Option Definition
 found_with address o = found_in (label_defined (option_map label_text o)) (label_text address)
-
-pub found_here : (address : ℕ) → found_with address (Some address) ≡ Some Label
-found_here address = ap (λ b. cond b (Some Label) None) (same_label address)
 
 pub found_below : (address : ℕ) (o : Option ℕ) (low : ℕ) → after_label low o ≤ address → address < 65536
     → LiesFrom low o → found_with address o ≡ None

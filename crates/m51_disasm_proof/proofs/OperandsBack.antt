@@ -1,45 +1,36 @@
 -- The fields and operands of a disassembled instruction take the numbers that they were decoded with.
-use Rattle.m51_disasm_proof.proofs.Common.{◌%◌, ◌+◌, ◌<◌, ◌∙◌, ◌≡◌, ◌≤◌, Bool, Field, FieldSlot, HasRoom, Imm, IsNamed}
-use Rattle.m51_disasm_proof.proofs.Common.{Meanings, None, NotBit, Number, Ok, Option, Plain, Slot, Some, StandsAt}
-use Rattle.m51_disasm_proof.proofs.Common.{Target, and_parts, ap, arith, code_value, common_steps, cond, eq-eqb, false}
-use Rattle.m51_disasm_proof.proofs.Common.{field_in, ltb-true, nat_le, nat_lt, not, operand_of, refl, subst, sym, true}
-use Rattle.m51_disasm_proof.proofs.Common.{ℕ}
-use Rattle.std.proofs.Common.{◌⊎◌}
-use Rattle.std.proofs.lemmas.Bool.{le-leb}
+use Rattle.m51_disasm_proof.proofs.Common.{◌%◌, ◌+◌, ◌<◌, ◌∙◌, ◌≡◌, Bool, Field, HasRoom, Imm, IsNamed, Meanings, None}
+use Rattle.m51_disasm_proof.proofs.Common.{NotBit, Ok, Plain, Slot, Some, StandsAt, Target, and_parts, ap, arith}
+use Rattle.m51_disasm_proof.proofs.Common.{code_value, common_steps, cond, false, field_in, nat_le, nat_lt, not}
+use Rattle.m51_disasm_proof.proofs.Common.{number_of_slot, operand_of, refl, slot_address, subst, sym, true, ℕ}
+use Rattle.std.proofs.lemmas.Bool.{le-leb, ltb-true}
 use Rattle.std.proofs.lemmas.Option.{same_Some}
-use Rattle.m51_cells.specs.declared.kind.Base.TheVariants as base
 use Rattle.m51_cells.specs.declared.kind.Kind.TheVariants as kind
 use Rattle.m51_isa.specs.Targets.{near, relative}
-use Rattle.m51_isa.specs.TextLaws.{kept, number_of_slot}
+use Rattle.m51_isa.specs.TextLaws.{kept}
 use Rattle.m51_isa.specs.declared.slot.Field.TheVariants as field
+use Rattle.m51_isa.specs.declared.slot.FieldSlot.{FieldSlot}
 use Rattle.m51_expr.specs.Evaluation.{or_unknown, value_of}
 use Rattle.m51_expr.specs.Meanings.{is_absolute_base}
 use Rattle.m51_expr.specs.Tree as tree
 use Rattle.m51_expr.specs.Value.{plain}
 use Rattle.m51_expr.specs.declared.value.Value.{Value}
-use Rattle.m51_encode.specs.Bases.{is_current, is_linked, same_segment, stands_absolute}
-use Rattle.m51_encode.specs.FieldValues.{addr11_of, field_of, is_near, rel_of}
+use Rattle.m51_encode.specs.Bases.{stands_absolute}
+use Rattle.m51_encode.specs.FieldValues.{addr11_of, field_of, rel_of}
 use Rattle.m51_encode.specs.Filling.{and_then, filled, held_at, or_out_of_range, valued}
-use Rattle.m51_encode.specs.declared.reference.FieldValue.{FieldValue}
+use Rattle.m51_encode.specs.declared.reference.FieldValue.TheVariants.{Number}
 use Rattle.m51_asm.proofs.ContentFields.{Held}
-use Rattle.m51_disasm.specs.Statements.{address_by, ends_inside, leads_inside, slot_address, stays_inside}
+use Rattle.m51_disasm.specs.Statements.{address_by, ends_inside, leads_inside, stays_inside}
 use Rattle.m51_disasm_proof.specs.Meaning.{target_operand}
 use Rattle.m51_disasm_proof.proofs.RowsDecoded.{ByLabel, ByNumber, IsLed, LeadsTo, is_bit, is_data, is_usual}
 
 -- ---- numbers
 
-abbrev if_near : ℕ → Option FieldValue
-if_near d = cond (is_near d) (Some (Number (d % 256))) None
-
--- distances of a signed byte
-near_is : (d rel : ℕ) → (d ≤ 127) ⊎ (65408 ≤ d) → d % 256 ≡ rel → if_near d ≡ Some (Number rel)
-near_is d rel h e = grind (arith, common_steps)
-
 -- the byte to the address that a byte leads to
 rel_by : (next rel : ℕ) (b : Bool) → nat_lt rel 128 ≡ b → next < 65536 → rel < 256
     → cond b (nat_lt (next + rel) 0x10000) (nat_le 256 (next + rel)) ≡ true
     → rel_of next (cond b ((next + rel) % 65536) ((next + 65280 + rel) % 65536)) ≡ Some (Number rel)
-rel_by next rel x2 test low small h = grind (arith, common_steps)
+rel_by next rel b test low small h = grind (arith, common_steps)
 
 rel_back : (next rel : ℕ) → next < 65536 → rel < 256 → ends_inside next rel ≡ true
     → rel_of next (relative next rel) ≡ Some (Number rel)
@@ -58,30 +49,24 @@ as_value true segment address = code_value segment address
 as_value false segment address = plain address kind.Number
 
 module _ (names : Meanings) (segment at : ℕ) (s : StandsAt names segment at) where
-  current : is_current names (base.Segment segment) ≡ true
-  current = ap (λ (v : Value). same_segment (base.Segment segment) v.base) s.here ∙ eq-eqb segment segment refl
-
   absolute : stands_absolute names ≡ true
   absolute = ap (λ (v : Value). is_absolute_base names v.base) s.here ∙ s.absolute
-
-  own_is_bare : is_linked names (base.Segment segment) ≡ false
-  own_is_bare = grind (arith, common_steps)
 
   -- what an address gives in a field
   rel_given : (own : Bool) (next address : ℕ)
       → field_of names field.Rel next (as_value own segment address) ≡ rel_of next address
   unfolding field_of
-  rel_given x0 next address = grind (arith, common_steps)
+  rel_given own next address = grind (arith, common_steps)
 
   block_given : (own : Bool) (next address : ℕ)
       → field_of names field.Addr11 next (as_value own segment address) ≡ addr11_of next address
   unfolding field_of
-  block_given x0 next address = grind (arith, common_steps)
+  block_given own next address = grind (arith, common_steps)
 
   word_given : (own : Bool) (next address : ℕ)
       → field_of names field.Addr16 next (as_value own segment address) ≡ Some (Number address)
   unfolding field_of
-  word_given x0 next address = grind (arith, common_steps)
+  word_given own next address = grind (arith, common_steps)
 
   -- a field that leads to an address takes the number that it was decoded with
   pub address_back : (own : Bool) (at : Field) (next number address : ℕ) → kept at number ≡ number

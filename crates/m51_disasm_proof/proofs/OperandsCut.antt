@@ -1,15 +1,14 @@
 -- The operands of a disassembled instruction are cut into the words of the operands that are meant.
 use Rattle.m51_disasm_proof.proofs.Common.{◌%◌, ◌++◌, ◌<◌, ◌∷◌, ◌≡◌, AtR, Bool, Field, Imm, IsSlot, List, NotBit}
-use Rattle.m51_disasm_proof.proofs.Common.{Nothing, OperandTree, Plain, R, Slot, Some, Target, Word, arith, byte_text}
-use Rattle.m51_disasm_proof.proofs.Common.{codes, common_steps, false, label_text, map, name_of, name_word, number_word}
-use Rattle.m51_disasm_proof.proofs.Common.{operand_of, refl, sign_word, subst, sym, symbol, true, word_text, ℕ}
+use Rattle.m51_disasm_proof.proofs.Common.{Nothing, OperandTree, Plain, R, Slot, Some, Symbol, Target, Word, arith}
+use Rattle.m51_disasm_proof.proofs.Common.{byte_text, codes, common_steps, false, label_text, map, name_of, name_word}
+use Rattle.m51_disasm_proof.proofs.Common.{number_word, operand_of, refl, sign_word, subst, sym, symbol, text, true}
+use Rattle.m51_disasm_proof.proofs.Common.{word_text, ℕ}
 use Rattle.m51_isa.specs.Spelling as isa
-use Rattle.m51_isa.specs.Spelling.{text}
 use Rattle.m51_isa.specs.declared.slot.Field.TheVariants as field
 use Rattle.m51_isa.specs.declared.slot.Slot.TheVariants.{A, ADptr, APc, Ab, AtDptr, C, Dptr}
 use Rattle.m51_expr.specs.Looks as looks
 use Rattle.m51_expr.specs.Tree as tree
-use Rattle.m51_expr.specs.declared.symbol.Symbol.{Symbol}
 use Rattle.m51_stmt.proofs.PrintedOperands.{IsOperand, operand_words, register_written}
 use Rattle.m51_stmt.specs.Printing.{register_word}
 use Rattle.m51_stmt.specs.Statement as meant
@@ -67,7 +66,7 @@ register_looks : (n : ℕ) → n < 8 → looks.look_of (meant.R n) ≡ isa.look_
 register_looks n h = grind (arith, common_steps)
 
 pointer_looks : (n : ℕ) → n < 2 → looks.look_of (meant.AtR n) ≡ isa.look_of (AtR n)
-pointer_looks x0 h = grind (arith, common_steps)
+pointer_looks n h = grind (arith, common_steps)
 
 low_byte : (n : ℕ) → n % 256 < 65536
 low_byte n = omega arith

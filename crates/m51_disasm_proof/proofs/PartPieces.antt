@@ -2,13 +2,14 @@
 use Rattle.m51_disasm_proof.proofs.Common.{◌++◌, ◌+◌, ◌-◌, ◌<◌, ◌∙◌, ◌∷◌, ◌≡◌, ◌≤◌, AllByRecursion, Assignment}
 use Rattle.m51_disasm_proof.proofs.Common.{CodeRange, Kept, LineTree, List, Some, Statement, TextSegment, [], ap}
 use Rattle.m51_disasm_proof.proofs.Common.{append-nil, append_assoc, arith, bytes_at, common_steps, cond, eq-eqb}
-use Rattle.m51_disasm_proof.proofs.Common.{flat_map, length, length-append, length_in, map, ne_eqb, opening, option_map}
-use Rattle.m51_disasm_proof.proofs.Common.{order, refl, segment_number, slice_index, statements_of, suc, sym, zero, ℕ}
+use Rattle.m51_disasm_proof.proofs.Common.{flat_map, length, length-append, length_in, map, ne_eqb, offset_at, opening}
+use Rattle.m51_disasm_proof.proofs.Common.{option_map, order, refl, runs_from, segment_number, slice_index}
+use Rattle.m51_disasm_proof.proofs.Common.{statements_of, suc, sym, zero, ℕ}
 use Rattle.std.proofs.lemmas.List.FromFn.{length-map-range_with_len}
-use Rattle.m51_emit.specs.Pieces.{Run, if_bytes, pieces_of_run}
+use Rattle.m51_emit.specs.Pieces.{if_bytes, pieces_of_run}
 use Rattle.m51_asm.specs.Fitting.{filled}
 use Rattle.m51_asm.specs.ObjectSegments.{absolute_of, from_one, kept, number_in, place_in}
-use Rattle.m51_asm.specs.Pieces.{content_at, offset_at, pieces, runs_from, segment_pieces}
+use Rattle.m51_asm.specs.Pieces.{content_at, pieces, segment_pieces}
 use Rattle.m51_disasm_proof.specs.Module.{pieces_from}
 use Rattle.m51_disasm_proof.specs.Standing.{only_bytes}
 use Rattle.m51_disasm_proof.proofs.KeptParts.{ends, kept_are, kept_parts, runs_here}
@@ -32,15 +33,9 @@ bytes_joined image at (suc m) n =
     ap (λ x. bytes_at image at (suc m) ++ bytes_at image x n) next
     ∙ ap (λ l. slice_index image at ∷ l) (bytes_joined image (at + 1) m n) ∙ ap (bytes_at image at) count
 
-abbrev one_run : ℕ → List ℕ → List Run
-one_run at bytes = (at, bytes) ∷ []
-
-abbrev two_runs : ℕ → List ℕ → ℕ → List ℕ → List Run
-two_runs at xs next ys = (at, xs) ∷ (next, ys) ∷ []
-
 -- bytes that follow others are in one run with them
 runs_joined : (at : ℕ) (xs ys : List ℕ) → if_bytes at xs (if_bytes (at + length xs) ys []) ≡ if_bytes at (xs ++ ys) []
-runs_joined at x1 ys = grind (arith, common_steps)
+runs_joined at xs ys = grind (arith, common_steps)
 
 -- ---- the run of a part
 
@@ -78,7 +73,7 @@ statements_run {lines} {a} {image} {part} {parts} (x ∷ statements) {at} {k} {s
     (bytes_joined image at len (end - (at + len)) ∙ ap (bytes_at image at) size)
 
 some_run : (image : List ℕ) (at n : ℕ) → 0 < n → if_bytes 0 (bytes_at image at n) [] ≡ (0, bytes_at image at n) ∷ []
-some_run image at x2 h = grind (arith, common_steps)
+some_run image at n h = grind (arith, common_steps)
 
 -- a part is one run
 part_run : {lines : List LineTree} {a : Assignment} {k : ℕ} {s : State} (image : List ℕ) (part : CodeRange)

@@ -1,8 +1,8 @@
 -- The parts of a sound layout are in order, and none of them reaches into the next.
-use Rattle.m51_disasm_proof.proofs.Common.{◌+◌, ◌-◌, ◌<◌, ◌==◌, ◌∙◌, ◌∷◌, ◌≡◌, ◌≢◌, ◌≤◌, Bool, CodeRange, IsInside}
-use Rattle.m51_disasm_proof.proofs.Common.{LayoutParts, List, Some, [], ap, arith, common_steps, cond, false, map}
-use Rattle.m51_disasm_proof.proofs.Common.{order, refl, slice_get, subst, suc, sym, true, zero, ℕ, ⊎_elim}
-use Rattle.std.proofs.Common.{◌⊎◌, inl, inr}
+use Rattle.m51_disasm_proof.proofs.Common.{◌+◌, ◌-◌, ◌<◌, ◌==◌, ◌∙◌, ◌∷◌, ◌≡◌, ◌≢◌, ◌≤◌, Bool, CodeRange, LayoutParts}
+use Rattle.m51_disasm_proof.proofs.Common.{List, Some, [], ap, arith, common_steps, cond, false, map, order, refl}
+use Rattle.m51_disasm_proof.proofs.Common.{slice_get, subst, suc, sym, true, zero, ℕ}
+use Rattle.std.proofs.Common.{◌⊎◌, inl, inr, ⊎_elim}
 use Rattle.std.proofs.lemmas.Bool.{eqb-true}
 use Rattle.std.proofs.lemmas.List.Elements.{All-contains}
 use Rattle.std.specs.List.{filter}
@@ -16,7 +16,7 @@ use Rattle.m51_module.specs.declared.placed.Placed.{Placed}
 use Rattle.m51_asm.proofs.Members.{Every, In, Pairs, at_in, contains_in, in_append, in_cons, in_first, in_later, in_map}
 use Rattle.m51_asm.proofs.Members.{no_element, pairs_append, pairs_map, pairs_weaker}
 use Rattle.m51_disasm.proofs.Placing.{all_inside}
-use Rattle.m51_disasm.specs.Parts.{code_ranges, has_bytes, parts_below, placed_range, unit_ranges}
+use Rattle.m51_disasm.specs.Parts.{IsInside, code_ranges, has_bytes, parts_below, placed_range, unit_ranges}
 use Rattle.m51_disasm_proof.specs.Sound.{HaveSizes}
 
 -- these parts lie in program memory, in order from an address on, and none overlaps another

@@ -1,17 +1,14 @@
 -- The lines of a disassembly, part by part.
-use Rattle.m51_disasm_proof.proofs.Common.{◌++◌, ◌+◌, ◌-◌, ◌∙◌, ◌∷◌, ◌≡◌, Assignment, CodeRange, LineTree, List, Some}
-use Rattle.m51_disasm_proof.proofs.Common.{SourceLine, Statement, TextSegment, [], absolute, ap, append-nil, arith}
-use Rattle.m51_disasm_proof.proofs.Common.{common_steps, cond, flat_map, length, length-append, length_in, line_size}
-use Rattle.m51_disasm_proof.proofs.Common.{meant, ne_eqb, refl, segment_after, slice_get, statement_lines}
-use Rattle.m51_disasm_proof.proofs.Common.{statements_of, subst, suc, sym, zero, ℕ}
+use Rattle.m51_disasm_proof.proofs.Common.{◌++◌, ◌+◌, ◌-◌, ◌∙◌, ◌∷◌, ◌≡◌, Assignment, CodeRange, IsSpot, LineGives}
+use Rattle.m51_disasm_proof.proofs.Common.{LineTree, List, Some, SourceLine, Statement, TextSegment, [], ap, append-nil}
+use Rattle.m51_disasm_proof.proofs.Common.{arith, before, common_steps, cond, flat_map, length, length-append}
+use Rattle.m51_disasm_proof.proofs.Common.{length_in, line_size, lines, meant, ne_eqb, refl, segment_after, slice_get}
+use Rattle.m51_disasm_proof.proofs.Common.{statement_lines, statements_of, subst, suc, sym, zero, ℕ}
 use Rattle.std.proofs.lemmas.List.{length-map}
-use Rattle.std.specs.Str.Lines.{lines}
 use Rattle.m51_cells.specs.declared.kind.Kind.TheVariants as kind
-use Rattle.m51_text.specs.Faults.{before}
+use Rattle.m51_asm.specs.Assignment.{absolute}
 use Rattle.m51_asm.specs.ObjectSegments.{begun_by, if_filled, kept_before, kept_by, size_of}
 use Rattle.m51_disasm.specs.Lines.{part_lines}
-use Rattle.m51_disasm_proof.specs.Places.{IsSpot}
-use Rattle.m51_disasm_proof.specs.Standing.{LineGives}
 use Rattle.m51_disasm_proof.proofs.DisassemblyRead.{given}
 use Rattle.m51_disasm_proof.proofs.LinesStand.{LinesFrom, State, after, body_is, given_after, next, spot_here, state}
 use Rattle.m51_disasm_proof.proofs.PartsInOrder.{AreInOrder}

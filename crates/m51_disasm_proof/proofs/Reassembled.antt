@@ -1,40 +1,39 @@
 -- What a disassembly gives, under each assignment that fits: where its statements and labels are, its bytes, that no
 -- line has a fault, and the module of its parts, with nothing else in it.
 use Rattle.m51_disasm_proof.proofs.Common.{◌++◌, ◌+◌, ◌==◌, ◌||◌, ◌∙◌, ◌∷◌, ◌≡◌, ◌≤◌, AllByRecursion, AreBytes}
-use Rattle.m51_disasm_proof.proofs.Common.{Assignment, CodeRange, Fits, Kept, LayoutParts, LineTree, Lines, List, None}
-use Rattle.m51_disasm_proof.proofs.Common.{Ok, Some, SourceFile, SourceLine, Statement, TextSegment, [], above, ap}
-use Rattle.m51_disasm_proof.proofs.Common.{arith, code_value, cond, false, flat_map, is_among, label_text, length}
-use Rattle.m51_disasm_proof.proofs.Common.{length_in, lines_before, list_any, map, meant, object_segments, opening}
-use Rattle.m51_disasm_proof.proofs.Common.{read_from, refl, segment_after, segment_number, slice_get, spots_from}
-use Rattle.m51_disasm_proof.proofs.Common.{statements_of, subst, suc, sym, targets, true, zero, ℕ}
-use Rattle.m51_isa.specs.Spelling.{text}
+use Rattle.m51_disasm_proof.proofs.Common.{Assignment, CodeRange, IsSpot, Kept, LayoutParts, LineGives, LineTree, Lines}
+use Rattle.m51_disasm_proof.proofs.Common.{List, None, Ok, Some, SourceFile, SourceLine, Stands, Statement, TextSegment}
+use Rattle.m51_disasm_proof.proofs.Common.{[], above, ap, arith, before, code_value, cond, false, fits, flat_map}
+use Rattle.m51_disasm_proof.proofs.Common.{is_among, label_text, length, length_in, map, meant, offset_at, opening}
+use Rattle.m51_disasm_proof.proofs.Common.{read_from, refl, segment_after, segment_number, slice_get, statements_of}
+use Rattle.m51_disasm_proof.proofs.Common.{subst, suc, sym, targets, text, true, zero, ℕ}
+use Rattle.std.specs.List.{list_any}
 use Rattle.m51_module.specs.Sound.{IsSound as IsSoundLayout}
 use Rattle.m51_module.specs.declared.content.Fixup.{Fixup}
 use Rattle.m51_module.specs.declared.segment.Segment.{Segment}
 use Rattle.m51_encode.specs.Coding.{outcomes}
 use Rattle.m51_encode.specs.declared.outcome.OperandOutcome.{OperandOutcome}
-use Rattle.m51_encode.specs.declared.outcome.OperandOutcome.TheVariants.{Stands}
 use Rattle.m51_emit.specs.Outcomes.{leftmost_fault, made_with, or_next, part_fault}
 use Rattle.m51_emit.specs.Pieces.{fixup_of}
 use Rattle.m51_emit.specs.declared.content.EmittedContent.{EmittedContent}
-use Rattle.m51_text.specs.Faults.{before}
-use Rattle.m51_asm.proofs.AnAssignment.{fits, fitting}
+use Rattle.m51_asm.proofs.AnAssignment.{fitting}
 use Rattle.m51_asm.proofs.FirstFaults.{content_answer}
 use Rattle.m51_asm.specs.Answer.{AnswerTree, Gives, IsAnswer, IsAnswerOf, answer_of_lines, content_or_faults}
 use Rattle.m51_asm.specs.AnswerRows.{rows}
 use Rattle.m51_asm.specs.ContentFaults.{content_fault, faults_from, if_fault, line_outcomes, made_before}
+use Rattle.m51_asm.specs.Fitting.{Fits}
 use Rattle.m51_asm.specs.Naming.{module_name}
-use Rattle.m51_asm.specs.ObjectSegments.{kept}
+use Rattle.m51_asm.specs.ObjectSegments.{kept, object_segments}
 use Rattle.m51_asm.specs.Parts.{banks, externals, externals_by, is_selected, name_by, name_in, parts as module_parts}
 use Rattle.m51_asm.specs.Parts.{publics_before, publics_by, selects_by, version_of}
-use Rattle.m51_asm.specs.Pieces.{fixups_from, offset_at}
+use Rattle.m51_asm.specs.Pieces.{fixups_from}
 use Rattle.m51_disasm.specs.Answer.{disassembled}
 use Rattle.m51_disasm.specs.Lines.{lines_of}
 use Rattle.m51_disasm.specs.Parts.{code_ranges}
 use Rattle.m51_disasm_proof.specs.Module.{GivesModule, module_of, range_segment}
-use Rattle.m51_disasm_proof.specs.Places.{IsSpot, Spot}
+use Rattle.m51_disasm_proof.specs.Places.{Spot, lines_before, spots_from}
 use Rattle.m51_disasm_proof.specs.Sound.{HaveSizes}
-use Rattle.m51_disasm_proof.specs.Standing.{AreFaultless, LineGives}
+use Rattle.m51_disasm_proof.specs.Standing.{AreFaultless}
 use Rattle.m51_disasm_proof.proofs.DisassemblyRead.{disassembly_read, given}
 use Rattle.m51_disasm_proof.proofs.KeptParts.{kept_are, kept_parts, same_either}
 use Rattle.m51_disasm_proof.proofs.LinesGive.{begins_there, label_known, whole_gives}

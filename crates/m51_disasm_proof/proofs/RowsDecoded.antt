@@ -1,16 +1,21 @@
 -- What bytes are decoded as has these bytes, numbers that its fields have room for, and usual operands. At most one
 -- of them leads anywhere: to the target.
-use Rattle.m51_disasm_proof.proofs.Common.{◌%◌, ◌&&◌, ◌*◌, ◌+◌, ◌/◌, ◌<◌, ◌==◌, ◌||◌, ◌∙◌, ◌∷◌, ◌≡◌, AtR, Bool, Field}
-use Rattle.m51_disasm_proof.proofs.Common.{HasRoom, IfSome, Imm, Instr, List, None, Nop, NotBit, Option, Plain, R, Slot}
-use Rattle.m51_disasm_proof.proofs.Common.{Some, Target, Text, [], and_parts, ap, arith, common_steps, cond, encoded}
-use Rattle.m51_disasm_proof.proofs.Common.{false, field_in, get_or, is_among, ltb-true, map, nat_lt, not, option_map}
-use Rattle.m51_disasm_proof.proofs.Common.{option_or, refl, subst, sym, take, text_of, true, written_target, ℕ}
+use Rattle.m51_disasm_proof.proofs.Common.{◌%◌, ◌&&◌, ◌+◌, ◌<◌, ◌==◌, ◌||◌, ◌∙◌, ◌∷◌, ◌≡◌, AtR, Bool, Field, HasRoom}
+use Rattle.m51_disasm_proof.proofs.Common.{Imm, Instr, List, None, Nop, NotBit, Option, Plain, R, Slot, Some, Target}
+use Rattle.m51_disasm_proof.proofs.Common.{[], and_parts, ap, arith, common_steps, cond, encoded, false, field_in}
+use Rattle.m51_disasm_proof.proofs.Common.{get_or, is_among, map, nat_lt, not, number_of_slot, option_map, refl}
+use Rattle.m51_disasm_proof.proofs.Common.{slot_address, subst, sym, take, text_of, true, written_target, ℕ}
+use Rattle.std.proofs.Common.{◌*◌, ◌/◌}
+use Rattle.std.proofs.lemmas.Bool.{ltb-true}
 use Rattle.std.proofs.lemmas.List.FromFn.{get_or-map-range_with_len}
 use Rattle.std.specs.List.{range_with_len}
+use Rattle.std.specs.Option.{option_or}
+use Rattle.std.specs.Prelude.{IfSome}
+use Rattle.m51_isa.specs.Spelling.{Text}
 use Rattle.m51_isa.specs.Table.{decoded_at, length_of}
-use Rattle.m51_isa.specs.TextLaws.{kept, number_of_slot}
+use Rattle.m51_isa.specs.TextLaws.{kept}
 use Rattle.m51_isa.specs.declared.slot.Field.TheVariants as field
-use Rattle.m51_disasm.specs.Statements.{address_by, address_of, slot_address}
+use Rattle.m51_disasm.specs.Statements.{address_by, address_of}
 use Rattle.m51_disasm.specs.declared.line.Target.TheVariants as target
 
 -- ---- room in fields
@@ -111,7 +116,7 @@ module _ (second third : ℕ) where
 
 module _ (first second third : ℕ) (f : first < 256) (s : second < 256) (t : third < 256) where
   written_is : (b c : Bool) → written_by second third first b c ≡ first ∷ second ∷ third ∷ []
-  written_is x0 c = grind (arith, common_steps)
+  written_is b c = grind (arith, common_steps)
 
   field_fits : (at : Field) (byte : ℕ) → FitsIn at (in_field second third first at byte)
   field_fits field.Data16 byte = omega arith
@@ -168,13 +173,6 @@ is_usual (Imm f) = is_data f.field
 is_usual (Plain f) = not (is_data f.field)
 is_usual (NotBit f) = is_bit f.field
 is_usual s = true
-
-abbrev are_usual : Text → Bool
-are_usual t = is_usual t.first && (is_usual t.second && is_usual t.third)
-
-all_usual : (i : Instr) → are_usual (text_of i) ≡ true
-all_usual Nop = refl
-all_usual i = refl
 
 pub rows_usual : (i : Instr) → (is_usual (text_of i).first ≡ true) × (is_usual (text_of i).second ≡ true)
     × (is_usual (text_of i).third ≡ true)

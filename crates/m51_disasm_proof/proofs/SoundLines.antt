@@ -1,20 +1,18 @@
 -- Each line of a disassembly can be written, and the labels ascend.
 use Rattle.m51_disasm_proof.proofs.Common.{◌%◌, ◌++◌, ◌+◌, ◌<◌, ◌∙◌, ◌∷◌, ◌≡◌, ◌≤◌, AreBytes, AreSlots, AtR, Bool}
-use Rattle.m51_disasm_proof.proofs.Common.{CodeRange, Field, IfSome, Imm, Instr, IsContent, IsSlot, List, None, Option}
-use Rattle.m51_disasm_proof.proofs.Common.{Plain, R, Slot, Some, SourceLine, Statement, Target, [], ap, append_assoc}
-use Rattle.m51_disasm_proof.proofs.Common.{arith, beginnings, common_steps, cond, field_in, flat_map, is_among}
-use Rattle.m51_disasm_proof.proofs.Common.{length_in, line_of, map, nat_lt, not, order, refl, slice_index}
-use Rattle.m51_disasm_proof.proofs.Common.{statement_lines, statements_of, subst, sym, targets, text_of, true}
-use Rattle.m51_disasm_proof.proofs.Common.{written_target, ℕ}
+use Rattle.m51_disasm_proof.proofs.Common.{CodeRange, Field, Imm, Instr, IsSlot, List, None, Option, Plain, R, Slot}
+use Rattle.m51_disasm_proof.proofs.Common.{Some, SourceLine, Statement, Target, [], ap, append_assoc, arith, beginnings}
+use Rattle.m51_disasm_proof.proofs.Common.{common_steps, cond, field_in, fits, flat_map, is_among, length_in, map}
+use Rattle.m51_disasm_proof.proofs.Common.{nat_lt, not, order, refl, slice_index, slot_address, statement_lines}
+use Rattle.m51_disasm_proof.proofs.Common.{statements_of, subst, sym, targets, text_of, true, written_target, ℕ}
+use Rattle.std.specs.Prelude.{IfSome}
 use Rattle.m51_isa.specs.Table.{length_of}
 use Rattle.m51_isa.specs.Targets.{near}
 use Rattle.m51_isa.specs.declared.slot.Field.TheVariants as field
-use Rattle.m51_asm.proofs.AnAssignment.{fits}
-use Rattle.m51_disasm.specs.Lines.{lines_of, part_lines}
-use Rattle.m51_disasm.specs.Statements.{address_by, instr_in_image, slot_address, statement_at, statement_target}
-use Rattle.m51_disasm.specs.Statements.{target_by}
+use Rattle.m51_disasm.specs.Lines.{line_of, lines_of, part_lines}
+use Rattle.m51_disasm.specs.Statements.{address_by, instr_in_image, statement_at, statement_target, target_by}
 use Rattle.m51_disasm.specs.declared.line.SourceLine.TheVariants as line
-use Rattle.m51_disasm_proof.specs.Sound.{IsAddress, IsLabel, IsTarget}
+use Rattle.m51_disasm_proof.specs.Sound.{IsAddress, IsContent, IsLabel, IsTarget}
 use Rattle.m51_disasm_proof.proofs.MeantLines.{AreGood, LiesFrom, after_label}
 use Rattle.m51_disasm_proof.proofs.PartsInOrder.{AreInOrder}
 use Rattle.m51_disasm_proof.proofs.RowsDecoded.{AreLed, ByLabel, ByNumber, FitsIn, FitsSlot, IsDecoded, IsLed, LeadsTo}
@@ -59,7 +57,7 @@ of_whole image parts P h = subst P (sym (ap (λ l. line.Nomod51 ∷ l) (rest_is 
 -- ---- statements
 
 relative_below : (next rel : ℕ) (b : Bool) → cond b ((next + rel) % 65536) ((next + 65280 + rel) % 65536) < 65536
-relative_below next rel x2 = grind (arith, common_steps)
+relative_below next rel b = grind (arith, common_steps)
 
 target_sound : (t : Target) (address : ℕ) → LeadsTo address t → address < 65536 → IsTarget t
 target_sound t address (ByLabel e) h = subst IsTarget (sym e) h
@@ -115,7 +113,7 @@ decoded_as image bytes at i e =
 
 label_first : (b : Bool) (low at next : ℕ) → low ≤ at → at < 65536 → at + 1 ≤ next
     → LiesFrom low (cond b (Some at) None) × (after_label low (cond b (Some at) None) ≤ next)
-label_first x0 low at next from small le = grind (arith, common_steps)
+label_first b low at next from small le = grind (arith, common_steps)
 
 module _ (image : List ℕ) (bytes : AreBytes image) where
   statement_sound : (begin : List ℕ) (end at : ℕ)

@@ -1,6 +1,6 @@
 -- Each statement of a disassembly gives the bytes of the image at its address.
 use Rattle.m51_disasm_proof.proofs.Common.{◌%◌, ◌+◌, ◌∙◌, ◌∷◌, ◌≡◌, AllByRecursion, AreBytes, Instr, IsNamed, Jump}
-use Rattle.m51_disasm_proof.proofs.Common.{List, Meanings, Nop, Number, Ok, Some, StandsAt, Target, [], all_inside}
+use Rattle.m51_disasm_proof.proofs.Common.{List, Meanings, Ok, Some, Stands, StandsAt, Target, [], all_inside}
 use Rattle.m51_disasm_proof.proofs.Common.{and_parts, ap, arith, body_of, bytes_at, common_steps, encoded, length_in}
 use Rattle.m51_disasm_proof.proofs.Common.{nat_le, refl, slice_index, subst, sym, take, text_of, true, written_target}
 use Rattle.m51_disasm_proof.proofs.Common.{ℕ}
@@ -11,7 +11,7 @@ use Rattle.m51_expr.specs.Tree as tree
 use Rattle.m51_encode.specs.Filling.{and_then, or_out_of_range}
 use Rattle.m51_encode.specs.Items.{item_field}
 use Rattle.m51_encode.specs.declared.item.Width.TheVariants.{Byte}
-use Rattle.m51_encode.specs.declared.outcome.OperandOutcome.TheVariants.{Stands}
+use Rattle.m51_encode.specs.declared.reference.FieldValue.TheVariants.{Number}
 use Rattle.m51_emit.specs.Content.{coded_content, followed_by, item_given, item_outcome, nothing}
 use Rattle.m51_disasm.specs.Statements.{can_stand, statement_at, statement_target, target_by}
 use Rattle.m51_disasm.specs.declared.statement.Content.{Content as Written}
@@ -22,11 +22,6 @@ use Rattle.m51_disasm_proof.proofs.OperandsBack.{data_back}
 use Rattle.m51_disasm_proof.proofs.RowsDecoded.{IsDecoded, rows_led, slot_kept}
 use Rattle.m51_disasm_proof.proofs.SoundLines.{decoded_as, slots_sound, three_at}
 use Rattle.m51_disasm_proof.proofs.StatementsFollow.{by_content}
-
--- the bytes of a row come first in its code
-padded_front : (i : Instr) → take (length_of i) (padded (encoded i)) ≡ encoded i
-padded_front Nop = refl
-padded_front i = refl
 
 module _ (image : List ℕ) (bytes : AreBytes image) (begin : List ℕ) (end at : ℕ) (names : Meanings) (segment : ℕ)
     (s : StandsAt names segment at) (form : Jump) where

@@ -1,13 +1,12 @@
 -- The statements of a part follow one another from its base to its end.
 use Rattle.m51_disasm_proof.proofs.Common.{◌+◌, ◌-◌, ◌<◌, ◌∷◌, ◌≡◌, ◌≤◌, Bool, CodeRange, Content, Instr, List, None}
-use Rattle.m51_disasm_proof.proofs.Common.{Option, Some, Statement, [], all_inside, and_parts, ap, arith, cond}
-use Rattle.m51_disasm_proof.proofs.Common.{content_of, false, length_in, nat_le, refl, slice_index, statements_of, suc}
-use Rattle.m51_disasm_proof.proofs.Common.{sym, text_of, true, zero, ℕ}
+use Rattle.m51_disasm_proof.proofs.Common.{Option, Some, Statement, [], all_inside, and_parts, ap, arith, cond, false}
+use Rattle.m51_disasm_proof.proofs.Common.{fits, length_in, nat_le, refl, slice_index, statements_of, suc, sym, text_of}
+use Rattle.m51_disasm_proof.proofs.Common.{true, zero, ℕ}
 use Rattle.std.proofs.lemmas.Bool.{leb-true}
 use Rattle.m51_isa.proofs.Codes.{rows_are_short}
 use Rattle.m51_isa.specs.Table.{length_of}
-use Rattle.m51_asm.proofs.AnAssignment.{fits}
-use Rattle.m51_disasm.specs.Statements.{can_stand, instr_in_image, statement_at, statements_from}
+use Rattle.m51_disasm.specs.Statements.{can_stand, content_of, instr_in_image, statement_at, statements_from}
 use Rattle.m51_disasm.specs.declared.statement.Content.TheVariants as content
 
 -- a statement of a part with this end: that at an address of the part, within it

@@ -1,13 +1,12 @@
 -- Each line of a disassembly is short, and is read as the statement that is meant.
-use Rattle.m51_disasm_proof.proofs.Common.{◌++◌, ◌<◌, ◌∙◌, ◌∷◌, ◌≡◌, ◌≤◌, BodyTree, Content, Field, Imm, Instr}
-use Rattle.m51_disasm_proof.proofs.Common.{IsContent, IsSound, List, None, Nop, Nothing, Ok, OperandTree, Option, Plain}
-use Rattle.m51_disasm_proof.proofs.Common.{Slot, Some, SourceLine, Target, [], ap, append-nil, append_assoc, arith}
-use Rattle.m51_disasm_proof.proofs.Common.{body_of, byte_text, codes, common_steps, false, is_character, label_text}
-use Rattle.m51_disasm_proof.proofs.Common.{length, length-append, list_all, map, meant, name_of, name_word, number_word}
-use Rattle.m51_disasm_proof.proofs.Common.{option_map, refl, sign_word, subst, sym, symbol, text_of, true, word_text, ℕ}
+use Rattle.m51_disasm_proof.proofs.Common.{◌++◌, ◌<◌, ◌∙◌, ◌∷◌, ◌≡◌, ◌≤◌, Content, Field, Imm, Instr, IsSound, List}
+use Rattle.m51_disasm_proof.proofs.Common.{None, Nop, Nothing, Ok, OperandTree, Option, Plain, Slot, Some, SourceLine}
+use Rattle.m51_disasm_proof.proofs.Common.{Target, [], ap, append-nil, append_assoc, arith, body_of, byte_text, codes}
+use Rattle.m51_disasm_proof.proofs.Common.{common_steps, false, is_character, label_text, length, length-append}
+use Rattle.m51_disasm_proof.proofs.Common.{list_all, map, meant, name_of, name_word, number_word, option_map, refl}
+use Rattle.m51_disasm_proof.proofs.Common.{sign_word, subst, sym, symbol, text, text_of, true, word_text, ℕ}
 use Rattle.m51_cells.proofs.NameLaws.{named_is_name}
 use Rattle.m51_cells.specs.declared.kind.Kind.TheVariants as kind
-use Rattle.m51_isa.specs.Spelling.{text}
 use Rattle.m51_isa.specs.declared.slot.Field.TheVariants as field
 use Rattle.m51_expr.specs.Tree as tree
 use Rattle.m51_expr.specs.declared.symbol.Symbol.TheVariants as symbols
@@ -20,13 +19,13 @@ use Rattle.m51_stmt.specs.Directives.{directive_of, select_of}
 use Rattle.m51_stmt.specs.Grammar as grammar
 use Rattle.m51_stmt.specs.Lines.{any_line, statement, token_line}
 use Rattle.m51_stmt.specs.Statement as body
-use Rattle.m51_stmt.specs.Statement.{StmtTree}
+use Rattle.m51_stmt.specs.Statement.{BodyTree, StmtTree}
 use Rattle.m51_disasm.specs.Texts.{content_text, data_text, label_front, line_text, operand_after, operand_text}
 use Rattle.m51_disasm.specs.Texts.{plain_text, spelled, statement_text, target_text}
 use Rattle.m51_disasm.specs.declared.line.SourceLine.TheVariants as line
 use Rattle.m51_disasm.specs.declared.statement.Content.TheVariants as content
 use Rattle.m51_disasm_proof.specs.Meaning.{without_label}
-use Rattle.m51_disasm_proof.specs.Sound.{IsLabel}
+use Rattle.m51_disasm_proof.specs.Sound.{IsContent, IsLabel}
 use Rattle.m51_disasm_proof.proofs.CutLines.{IsCutInto, after_blank, after_word, byte_stands, byte_word, colon_stands}
 use Rattle.m51_disasm_proof.proofs.CutLines.{name_stands, no_words, word_stands, words_read}
 use Rattle.m51_disasm_proof.proofs.InstructionsCut.{instruction_is_code, instruction_read}
@@ -34,7 +33,7 @@ use Rattle.m51_disasm_proof.proofs.Labels.{label_is_free}
 
 target_few : (t : Target) → length (target_text t) ≤ 6
 unfolding target_text
-target_few x0 = grind (arith, common_steps)
+target_few t = grind (arith, common_steps)
 
 data_few : (f : Field) (n : ℕ) → length (data_text f n) ≤ 6
 unfolding data_text
@@ -73,7 +72,7 @@ content_few t (content.Code i) =
 
 label_few : (label : Option ℕ) → length (label_front label) ≤ 7
 unfolding label_front
-label_few x0 = grind (arith, common_steps)
+label_few label = grind (arith, common_steps)
 
 -- so no line has more bytes than one may have
 pub line_few : (l : SourceLine) → length (line_text l) ≤ 255

@@ -1,27 +1,25 @@
 -- The text of a disassembly is read as its lines, and no line has a fault.
 use Rattle.m51_disasm_proof.proofs.Common.{◌&&◌, ◌++◌, ◌+◌, ◌<◌, ◌||◌, ◌∙◌, ◌∷◌, ◌≡◌, ◌≤◌, AllByRecursion, IsSound}
 use Rattle.m51_disasm_proof.proofs.Common.{Lines, List, None, Ok, Some, SourceFile, SourceLine, [], above, ap}
-use Rattle.m51_disasm_proof.proofs.Common.{append_assoc, arith, codes, common_steps, cond, false, get_or, is_character}
-use Rattle.m51_disasm_proof.proofs.Common.{length, length-append, list_all, list_any, map, meant, nat_lt, ne_eqb, not}
-use Rattle.m51_disasm_proof.proofs.Common.{read_from, refl, suc, take, true, ℕ}
+use Rattle.m51_disasm_proof.proofs.Common.{append_assoc, arith, before, codes, common_steps, cond, false, get_or}
+use Rattle.m51_disasm_proof.proofs.Common.{is_character, length, length-append, lines, list_all, map, meant, nat_lt}
+use Rattle.m51_disasm_proof.proofs.Common.{ne_eqb, not, read_from, refl, suc, take, text, true, ℕ}
 use Rattle.std.proofs.Common.{Err}
 use Rattle.std.proofs.Math.Bool.{and-false, or-true}
 use Rattle.std.proofs.lemmas.List.{take_all}
 use Rattle.std.proofs.lemmas.List.Folds.{list_any-append}
 use Rattle.std.proofs.lemmas.List.Splits.{length-slice_split, slice_split_at}
 use Rattle.std.proofs.lemmas.List.Sums.{AllPass-from_list_all}
-use Rattle.std.specs.List.{slice_split}
-use Rattle.std.specs.Str.Lines.{lines, lines_of_parts, strip_carriage_return}
+use Rattle.std.specs.List.{list_any, slice_split}
+use Rattle.std.specs.Str.Lines.{lines_of_parts, strip_carriage_return}
 use Rattle.m51_cells.proofs.LineLaws.{ended}
 use Rattle.m51_cells.specs.Lines.{is_line_feed}
 use Rattle.m51_cells.specs.declared.fault.TheConstants.{BAD_BYTE, TOO_MANY}
-use Rattle.m51_isa.specs.Spelling.{text}
 use Rattle.m51_lex.specs.declared.fault.TheConstants.{LONG_LINE}
 use Rattle.m51_stmt.proofs.ReadStatements.{at_most_255}
 use Rattle.m51_stmt.specs.Lines.{any_line, statement_of}
 use Rattle.m51_text.specs.Answer.{faults_or_lines, statements_of, text_of, with_statement}
-use Rattle.m51_text.specs.Faults.{before, ends_source, fault_by_place, fault_on_line, fault_with, faults_from}
-use Rattle.m51_text.specs.Faults.{faults_of}
+use Rattle.m51_text.specs.Faults.{ends_source, fault_by_place, fault_on_line, fault_with, faults_from, faults_of}
 use Rattle.m51_text.specs.Said.{has_content, include_name, is_end, is_end_body, said}
 use Rattle.m51_text.specs.Text.{TextLine, brought, inclusion_by, lines_with, text_lines}
 use Rattle.m51_disasm.specs.Texts.{line_text, text_of_lines}
@@ -42,12 +40,6 @@ line_said l is =
 
 feed : (c : ℕ) → is_character c ≡ true → is_line_feed c ≡ false
 feed c h = grind (arith, common_steps, h)
-
-no_return : (c : ℕ) → is_character c ≡ true → c ≡ 13 → ⊥
-no_return c h e = grind (arith, common_steps, h, e)
-
-at_return : (text : List ℕ) (index : ℕ) → list_all is_character text ≡ true → get_or text index 0 ≡ 13 → ⊥
-at_return x0 index h e = grind (arith, common_steps)
 
 kept : (text : List ℕ) → list_all is_character text ≡ true → strip_carriage_return text ≡ text
 kept text h = grind (arith, common_steps)
@@ -122,7 +114,8 @@ has_end : (n : ℕ) (ls : List SourceLine) → AllByRecursion IsSound ls → End
 has_end n [] is e = absurd e
 has_end n (l ∷ []) is e = ap (λ b. b || false) (ends_said n l is.0 ∙ ap (λ l. is_end_body (meant l).body) e)
 has_end n (l ∷ m ∷ ls) is e =
-    ap (λ b. ends_source (text_line n l) || b) (has_end (n + 1) (m ∷ ls) is.1 e.1) ∙ or-true (ends_source (text_line n l))
+    ap (λ b. ends_source (text_line n l) || b) (has_end (n + 1) (m ∷ ls) is.1 e.1)
+    ∙ or-true (ends_source (text_line n l))
 
 -- a line without an END above it, before line 65,536
 no_fault : (above : List TextLine) (n : ℕ) (l : SourceLine) → IsSound l → list_any ends_source above ≡ false

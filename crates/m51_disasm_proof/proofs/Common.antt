@@ -27,6 +27,7 @@ pub use Rattle.m51_stmt.proofs.LineCuts.{Word, symbol}
 pub use Rattle.m51_stmt.proofs.WordCuts.{name_word, number_word, sign_word}
 pub use Rattle.m51_stmt.specs.Statement.{OperandTree}
 pub use Rattle.m51_encode.specs.declared.outcome.OperandOutcome.TheVariants.{Stands}
+pub use Rattle.m51_emit.specs.Pieces.{if_bytes}
 pub use Rattle.m51_text.specs.Answer.{LineTree, Lines}
 pub use Rattle.m51_text.specs.Faults.{before}
 pub use Rattle.m51_text.specs.Said.{is_character}

@@ -2,10 +2,9 @@
 use Rattle.m51_disasm_proof.proofs.Common.{◌++◌, ◌+◌, ◌<◌, ◌==◌, ◌∙◌, ◌∷◌, ◌≡◌, ◌≢◌, AllByRecursion, Assignment, Bool}
 use Rattle.m51_disasm_proof.proofs.Common.{CodeRange, Kept, LineGives, LineTree, List, SourceLine, Stands, TextSegment}
 use Rattle.m51_disasm_proof.proofs.Common.{[], ap, append-nil, append_assoc, arith, body_at, common_steps, cond, eq-eqb}
-use Rattle.m51_disasm_proof.proofs.Common.{length, lines, meant, offset_at, opening, order, refl, runs_from}
+use Rattle.m51_disasm_proof.proofs.Common.{if_bytes, length, lines, meant, offset_at, opening, order, refl, runs_from}
 use Rattle.m51_disasm_proof.proofs.Common.{statements_of, subst, suc, sym, ℕ}
 use Rattle.m51_emit.specs.Content.{content_by}
-use Rattle.m51_emit.specs.Pieces.{if_bytes}
 use Rattle.m51_emit.specs.declared.content.EmittedContent.{EmittedContent}
 use Rattle.m51_asm.specs.ContentFaults.{line_outcomes, line_outcomes_by}
 use Rattle.m51_asm.specs.Fitting.{filled}

@@ -1,9 +1,9 @@
 -- The segment and the place of each line of a disassembly, under each assignment that fits.
 use Rattle.m51_disasm_proof.proofs.Common.{◌+◌, ◌<◌, ◌==◌, ◌∙◌, ◌∷◌, ◌≡◌, ◌≢◌, ◌≤◌, Assignment, IsSpot, LineTree, List}
 use Rattle.m51_disasm_proof.proofs.Common.{Meanings, None, Option, Some, SourceLine, TextSegment, [], above, ap, arith}
-use Rattle.m51_disasm_proof.proofs.Common.{body_at, common_steps, cond, eq-eqb, label_text, length, line_size, lines}
-use Rattle.m51_disasm_proof.proofs.Common.{meant, opening, option_map, refl, runs_from, segment_after, slice_get, subst}
-use Rattle.m51_disasm_proof.proofs.Common.{suc, sym, take, true, zero, ℕ}
+use Rattle.m51_disasm_proof.proofs.Common.{body_at, cond, eq-eqb, false, if_bytes, label_text, length, line_size, lines}
+use Rattle.m51_disasm_proof.proofs.Common.{meant, ne_eqb, offset_at, opening, option_map, refl, runs_from}
+use Rattle.m51_disasm_proof.proofs.Common.{segment_after, slice_get, subst, suc, sym, take, true, zero, ℕ}
 use Rattle.m51_cells.specs.declared.kind.Kind.{Kind}
 use Rattle.m51_cells.specs.declared.kind.Kind.TheVariants as kind
 use Rattle.m51_cells.specs.declared.kind.Reloc.TheVariants as reloc
@@ -12,19 +12,22 @@ use Rattle.m51_asm.proofs.DefinedLines.{at_line, defined_more}
 use Rattle.m51_asm.specs.Assignment.{body_of}
 use Rattle.m51_asm.specs.Definitions.{definition_from, definition_of, definitions_in, found_in, or_later}
 use Rattle.m51_asm.specs.Fitting.{Fits, filled, last_absolute, segment_behind, segment_by, size_at, size_by}
+use Rattle.m51_asm.specs.Pieces.{content_at}
 use Rattle.m51_asm.specs.Repeats.{or_here}
 use Rattle.m51_disasm.specs.declared.line.SourceLine.TheVariants as line
 use Rattle.m51_disasm_proof.specs.Places.{Spot, place_after, spots_from}
 use Rattle.m51_disasm_proof.proofs.DisassemblyRead.{given}
 use Rattle.m51_disasm_proof.proofs.InstructionsCut.{size_is}
-use Rattle.m51_disasm_proof.proofs.MeantLines.{AreGood, after_label, defines_label, found_below, label_of, length_read}
-use Rattle.m51_disasm_proof.proofs.MeantLines.{read_at, read_line, still_from}
+use Rattle.m51_disasm_proof.proofs.MeantLines.{AreGood, after_label, by_line, defines_label, found_below, label_of}
+use Rattle.m51_disasm_proof.proofs.MeantLines.{length_read, read_at, read_line, still_from}
 
 -- only CSEG begins a segment
 segment_is : (lines : List LineTree) (k : ℕ) (names : Meanings) (last : Kind → Option TextSegment) (s : TextSegment)
     (l : SourceLine) → segment_by lines k names last s (meant l).body ≡ segment_after k s l
 unfolding value_of
-segment_is lines k names last s = grind (arith, common_steps)
+segment_is lines k names last s =
+    by_line (λ l. segment_by lines k names last s (meant l).body ≡ segment_after k s l) refl
+    (λ base. refl) (λ label t byte. refl) (λ label t i. refl) refl
 
 -- a segment of an earlier line that is not open before a line is not open after it
 pub other_segment : (k id : ℕ) (s : TextSegment) (l : SourceLine) → id < k + 2 → s.id ≢ id
@@ -114,14 +117,21 @@ module _ {lines : List LineTree} {a : Assignment} {k : ℕ} {s : State} {l : Sou
       ∙ segment_is lines k (above lines a k) (λ kind. last_absolute a.segment kind k) (a.segment k) l
       ∙ ap (λ x. segment_after k x l) h.segment
 
+  not_open : (id : ℕ) → s.segment.id ≢ id → ((a.segment k).id == id) ≡ false
+  not_open id ne = ne_eqb (a.segment k).id id (λ e. ne (sym (ap (λ (x : TextSegment). x.id) h.segment) ∙ e))
+
   -- the line gives to no other segment
   pub passes : (id : ℕ) → s.segment.id ≢ id → filled lines a id (suc k) ≡ filled lines a id k
   unfolding filled
-  passes id ne = grind (arith, common_steps)
+  passes id ne =
+      let none : filled lines a id k + 0 ≡ filled lines a id k = omega arith in
+      ap (λ b. filled lines a id k + cond b (size_at lines a k) 0) (not_open id ne) ∙ none
 
   pub skips : (id : ℕ) → s.segment.id ≢ id
       → runs_from lines a id k (read_at k (l ∷ ls)) ≡ runs_from lines a id (suc k) (read_at (suc k) ls)
-  skips id ne = grind (arith, common_steps)
+  skips id ne =
+      let more = runs_from lines a id (suc k) (read_at (suc k) ls) in
+      ap (λ b. cond b (if_bytes (offset_at lines a k) (content_at lines a k).bytes more) more) (not_open id ne)
 
   pub is_open : ((a.segment k).id == s.segment.id) ≡ true
   is_open = ap (λ (x : TextSegment). x.id == s.segment.id) h.segment ∙ eq-eqb s.segment.id s.segment.id refl
@@ -139,10 +149,12 @@ module _ {lines : List LineTree} {a : Assignment} {k : ℕ} {s : State} {l : Sou
   given_by : (x : SourceLine) → filled lines a (k + 2) (suc k) ≡ 0
       → filled lines a s.segment.id (suc k) ≡ s.given + line_size x
       → filled lines a (segment_after k s.segment x).id (suc k) ≡ given_after s.given x
-  given_by x new old = grind (arith, common_steps)
+  given_by (line.Segment base) new old = new
+  given_by x new old = old
 
   known_by : (x : SourceLine) → (segment_after k s.segment x).id < suc k + 2
-  known_by x = grind (arith, common_steps)
+  known_by (line.Segment base) = omega arith
+  known_by x = omega arith
 
   labels_next : (address : ℕ) → after_label s.low (label_of l) ≤ address → address < 65536
       → IsNew lines (suc k) ls address
@@ -202,7 +214,8 @@ at_start ls a f good = record {
 
 place_is : (k : ℕ) (s : TextSegment) (given address : ℕ) (l : SourceLine) → address ≡ s.base + given
     → place_after address l ≡ (segment_after k s l).base + given_after given l
-place_is k s given address l at = grind (arith, common_steps)
+place_is k s given address (line.Segment base) at = omega arith
+place_is k s given address l at = omega arith
 
 -- each line is in its spot
 pub spots_are : {lines : List LineTree} {a : Assignment} (ls : List SourceLine) {k : ℕ} {s : State} (address : ℕ)

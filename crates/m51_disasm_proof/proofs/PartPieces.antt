@@ -2,11 +2,11 @@
 use Rattle.m51_disasm_proof.proofs.Common.{◌++◌, ◌+◌, ◌-◌, ◌<◌, ◌∙◌, ◌∷◌, ◌≡◌, ◌≤◌, AllByRecursion, Assignment}
 use Rattle.m51_disasm_proof.proofs.Common.{CodeRange, Kept, LineTree, List, Some, Statement, TextSegment, [], ap}
 use Rattle.m51_disasm_proof.proofs.Common.{append-nil, append_assoc, arith, bytes_at, common_steps, cond, eq-eqb}
-use Rattle.m51_disasm_proof.proofs.Common.{flat_map, length, length-append, length_in, map, ne_eqb, offset_at, opening}
-use Rattle.m51_disasm_proof.proofs.Common.{option_map, order, refl, runs_from, segment_number, slice_index}
+use Rattle.m51_disasm_proof.proofs.Common.{flat_map, if_bytes, length, length-append, length_in, map, ne_eqb, offset_at}
+use Rattle.m51_disasm_proof.proofs.Common.{opening, option_map, order, refl, runs_from, segment_number, slice_index}
 use Rattle.m51_disasm_proof.proofs.Common.{statements_of, suc, sym, zero, ℕ}
 use Rattle.std.proofs.lemmas.List.FromFn.{length-map-range_with_len}
-use Rattle.m51_emit.specs.Pieces.{if_bytes, pieces_of_run}
+use Rattle.m51_emit.specs.Pieces.{pieces_of_run}
 use Rattle.m51_asm.specs.Fitting.{filled}
 use Rattle.m51_asm.specs.ObjectSegments.{absolute_of, from_one, kept, number_in, place_in}
 use Rattle.m51_asm.specs.Pieces.{content_at, pieces, segment_pieces}

@@ -1,9 +1,11 @@
 -- The fields and operands of a disassembled instruction take the numbers that they were decoded with.
-use Rattle.m51_disasm_proof.proofs.Common.{◌%◌, ◌+◌, ◌<◌, ◌∙◌, ◌≡◌, Bool, Field, HasRoom, Imm, IsNamed, Meanings, None}
-use Rattle.m51_disasm_proof.proofs.Common.{NotBit, Ok, Plain, Slot, Some, StandsAt, Target, and_parts, ap, arith}
-use Rattle.m51_disasm_proof.proofs.Common.{code_value, common_steps, cond, false, field_in, nat_le, nat_lt, not}
+use Rattle.m51_disasm_proof.proofs.Common.{◌%◌, ◌+◌, ◌<◌, ◌∙◌, ◌≡◌, ◌≤◌, Bool, Field, HasRoom, Imm, IsNamed, Meanings}
+use Rattle.m51_disasm_proof.proofs.Common.{None, NotBit, Ok, Option, Plain, Slot, Some, StandsAt, Target, and_parts, ap}
+use Rattle.m51_disasm_proof.proofs.Common.{arith, code_value, common_steps, cond, false, field_in, nat_le, nat_lt, not}
 use Rattle.m51_disasm_proof.proofs.Common.{number_of_slot, operand_of, refl, slot_address, subst, sym, true, ℕ}
-use Rattle.std.proofs.lemmas.Bool.{le-leb, ltb-true}
+use Rattle.std.proofs.Common.{◌⊎◌, inl, inr, ⊎_elim}
+use Rattle.std.proofs.lemmas.Bool.{le-leb, leb-true, ltb-false, ltb-true}
+use Rattle.std.proofs.lemmas.Bool.Decides.{nat_tests}
 use Rattle.std.proofs.lemmas.Option.{same_Some}
 use Rattle.m51_cells.specs.declared.kind.Kind.TheVariants as kind
 use Rattle.m51_isa.specs.Targets.{near, relative}
@@ -16,8 +18,9 @@ use Rattle.m51_expr.specs.Tree as tree
 use Rattle.m51_expr.specs.Value.{plain}
 use Rattle.m51_expr.specs.declared.value.Value.{Value}
 use Rattle.m51_encode.specs.Bases.{stands_absolute}
-use Rattle.m51_encode.specs.FieldValues.{addr11_of, field_of, rel_of}
+use Rattle.m51_encode.specs.FieldValues.{addr11_of, distance, field_of, is_near, rel_of}
 use Rattle.m51_encode.specs.Filling.{and_then, filled, held_at, or_out_of_range, valued}
+use Rattle.m51_encode.specs.declared.reference.FieldValue.{FieldValue}
 use Rattle.m51_encode.specs.declared.reference.FieldValue.TheVariants.{Number}
 use Rattle.m51_asm.proofs.ContentFields.{Held}
 use Rattle.m51_disasm.specs.Statements.{address_by, ends_inside, leads_inside, stays_inside}
@@ -26,11 +29,30 @@ use Rattle.m51_disasm_proof.proofs.RowsDecoded.{ByLabel, ByNumber, IsLed, LeadsT
 
 -- ---- numbers
 
+abbrev if_near : ℕ → Option FieldValue
+if_near d = cond (is_near d) (Some (Number (d % 256))) None
+
+-- distances of a signed byte
+near_is : (d rel : ℕ) → (d ≤ 127) ⊎ (65408 ≤ d) → d % 256 ≡ rel → if_near d ≡ Some (Number rel)
+near_is d rel h e =
+    let near : is_near d ≡ true = ⊎_elim (λ (low : d ≤ 127). grind (arith, nat_tests))
+    (λ (high : 65408 ≤ d). grind (arith, nat_tests)) h in
+    (λ i. cond (near i) (Some (Number (e i))) None)
+
 -- the byte to the address that a byte leads to
 rel_by : (next rel : ℕ) (b : Bool) → nat_lt rel 128 ≡ b → next < 65536 → rel < 256
     → cond b (nat_lt (next + rel) 0x10000) (nat_le 256 (next + rel)) ≡ true
     → rel_of next (cond b ((next + rel) % 65536) ((next + 65280 + rel) % 65536)) ≡ Some (Number rel)
-rel_by next rel b test low small h = grind (arith, common_steps)
+rel_by next rel true test low small h =
+    let less : rel < 128 = ltb-true rel 128 test in
+    let ends : next + rel < 65536 = ltb-true (next + rel) 65536 h in
+    let d : distance next ((next + rel) % 65536) ≡ rel = omega arith in
+    ap if_near d ∙ near_is rel rel (inl (omega arith)) (omega arith)
+rel_by next rel false test low small h =
+    let more : 128 ≤ rel = ltb-false rel 128 test in
+    let ends : 256 ≤ next + rel = leb-true 256 (next + rel) h in
+    let d : distance next ((next + 65280 + rel) % 65536) ≡ 65280 + rel = omega arith in
+    ap if_near d ∙ near_is (65280 + rel) rel (inr (omega arith)) (omega arith)
 
 rel_back : (next rel : ℕ) → next < 65536 → rel < 256 → ends_inside next rel ≡ true
     → rel_of next (relative next rel) ≡ Some (Number rel)

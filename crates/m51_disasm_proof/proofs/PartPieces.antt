@@ -6,7 +6,7 @@ use Rattle.m51_disasm_proof.proofs.Common.{flat_map, if_bytes, length, length-ap
 use Rattle.m51_disasm_proof.proofs.Common.{opening, option_map, order, refl, runs_from, segment_number, slice_index}
 use Rattle.m51_disasm_proof.proofs.Common.{statements_of, suc, sym, zero, ℕ}
 use Rattle.std.proofs.lemmas.List.FromFn.{length-map-range_with_len}
-use Rattle.m51_emit.specs.Pieces.{pieces_of_run}
+use Rattle.m51_emit.specs.Pieces.{Run, pieces_of_run}
 use Rattle.m51_asm.specs.Fitting.{filled}
 use Rattle.m51_asm.specs.ObjectSegments.{absolute_of, from_one, kept, number_in, place_in}
 use Rattle.m51_asm.specs.Pieces.{content_at, pieces, segment_pieces}
@@ -33,9 +33,19 @@ bytes_joined image at (suc m) n =
     ap (λ x. bytes_at image at (suc m) ++ bytes_at image x n) next
     ∙ ap (λ l. slice_index image at ∷ l) (bytes_joined image (at + 1) m n) ∙ ap (bytes_at image at) count
 
+abbrev one_run : ℕ → List ℕ → List Run
+one_run at bytes = (at, bytes) ∷ []
+
+abbrev two_runs : ℕ → List ℕ → ℕ → List ℕ → List Run
+two_runs at xs next ys = (at, xs) ∷ (next, ys) ∷ []
+
 -- bytes that follow others are in one run with them
 runs_joined : (at : ℕ) (xs ys : List ℕ) → if_bytes at xs (if_bytes (at + length xs) ys []) ≡ if_bytes at (xs ++ ys) []
-runs_joined at xs ys = grind (arith, common_steps)
+runs_joined at [] ys = let here : at + 0 ≡ at = omega arith in ap (λ n. if_bytes n ys []) here
+runs_joined at (x ∷ xs) [] = ap (λ l. one_run at (x ∷ l)) (sym (append-nil xs))
+runs_joined at (x ∷ xs) (y ∷ ys) =
+    ap (λ b. cond b (one_run at ((x ∷ xs) ++ (y ∷ ys))) (two_runs at (x ∷ xs) (at + length (x ∷ xs)) (y ∷ ys)))
+    (eq-eqb (at + length (x ∷ xs)) (at + length (x ∷ xs)) refl)
 
 -- ---- the run of a part
 

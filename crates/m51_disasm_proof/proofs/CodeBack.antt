@@ -1,11 +1,14 @@
 -- A disassembled instruction is coded as the bytes that it was decoded from.
-use Rattle.m51_disasm_proof.proofs.Common.{◌%◌, ◌+◌, ◌∙◌, ◌∷◌, ◌≡◌, AreSlots, HasRoom, Instr, IsNamed, Jump, List}
-use Rattle.m51_disasm_proof.proofs.Common.{Meanings, None, Ok, Option, Slot, Some, Stands, StandsAt, Target, []}
-use Rattle.m51_disasm_proof.proofs.Common.{all_inside, ap, arith, common_steps, encoded, field_in, number_of_slot}
-use Rattle.m51_disasm_proof.proofs.Common.{operand_of, option_map, refl, slot_address, sym, text, text_of, true, ℕ}
+use Rattle.m51_disasm_proof.proofs.Common.{◌%◌, ◌+◌, ◌==◌, ◌∙◌, ◌∷◌, ◌≡◌, AreSlots, Bool, HasRoom, Instr, IsNamed, Jump}
+use Rattle.m51_disasm_proof.proofs.Common.{List, Meanings, None, Ok, Option, Slot, Some, Stands, StandsAt, Target, []}
+use Rattle.m51_disasm_proof.proofs.Common.{all_inside, and_parts, ap, arith, common_steps, cond, encoded, false}
+use Rattle.m51_disasm_proof.proofs.Common.{field_in, number_of_slot, operand_of, option_map, refl, slot_address, sym}
+use Rattle.m51_disasm_proof.proofs.Common.{text, text_of, true, ℕ}
+use Rattle.std.specs.Option.{option_or}
+use Rattle.std.specs.Prelude.{option_and_then}
 use Rattle.m51_isa.proofs.RowsFilled.{texts_are_rows}
 use Rattle.m51_isa.specs.Filling.{with_numbers}
-use Rattle.m51_isa.specs.Search.{search}
+use Rattle.m51_isa.specs.Search.{row_or, search}
 use Rattle.m51_isa.specs.Spelling.{Text, look_of}
 use Rattle.m51_isa.specs.Table.{code_of, length_of as row_length}
 use Rattle.m51_isa.specs.TextLaws.{HasNumbers, slot_with_number}
@@ -18,7 +21,8 @@ use Rattle.m51_encode.specs.declared.coding.Coded.{Coded}
 use Rattle.m51_encode.specs.declared.reference.Reference.{Reference}
 use Rattle.m51_disasm.specs.Statements.{stays_inside}
 use Rattle.m51_disasm_proof.specs.Meaning.{operands_of}
-use Rattle.m51_disasm_proof.proofs.OperandsBack.{held_in, slot_given}
+use Rattle.m51_disasm_proof.proofs.InstructionsCut.{instruction_read}
+use Rattle.m51_disasm_proof.proofs.OperandsBack.{byte_in, held_in, slot_given}
 use Rattle.m51_disasm_proof.proofs.RowsDecoded.{AreLed, IsLed, is_usual, rows_usual}
 
 -- the operands of the line are those of the row
@@ -50,13 +54,25 @@ same_filled names next m s o = grind (arith, common_steps)
 abbrev none : Option Reference
 none = None
 
+none_either : (b : Bool) → cond b none none ≡ none
+none_either true = refl
+none_either false = refl
+
+one_none : (b c d : Bool) → option_or (cond b none none) (option_or (cond c none none) (cond d none none)) ≡ none
+one_none b c d = (λ i. option_or (none_either b i) (option_or (none_either c i) (none_either d i)))
+
 -- no byte of an instruction has a reference
 abbrev pub no_references : List (Option Reference)
 no_references = none ∷ none ∷ none ∷ []
 
 -- nothing that operands hold is left to the linker
 none_held : (a b c : Slot) → references_of (held_in a) (held_in b) (held_in c) ≡ no_references
-none_held a b c = grind (arith, common_steps)
+none_held a b c =
+    let x = byte_in a in
+    let y = byte_in b in
+    let z = byte_in c in
+    (λ i. one_none (x == 0) (y == 0) (z == 0) i ∷ one_none (x == 1) (y == 1) (z == 1) i
+    ∷ one_none (x == 2) (y == 2) (z == 2) i ∷ [])
 
 -- the code of a row
 abbrev pub coded_from : Instr → List (Option Reference) → Coded
@@ -94,7 +110,11 @@ module _ (names : Meanings) (segment at : ℕ) (s : StandsAt names segment at) (
   the_row = made found (λ row. with_numbers row n1 n2 n3) i (texts_are_rows.found i has)
 
   row_is_found : line_row own_line ≡ found
-  row_is_found = grind (arith, common_steps)
+  row_is_found =
+      let read = instruction_read t i h in
+      sym (ap (option_and_then line_row) (line_is t i form h))
+      ∙ ap (λ os. option_and_then line_row (instruction_line (text_of i).mnemonic os form)) read.is
+      ∙ read.row form ∙ ap (λ verb. row_or form verb found) (texts_are_rows.apart i)
 
   abbrev row : Instr
   row = the_row.from
@@ -124,7 +144,12 @@ module _ (names : Meanings) (segment at : ℕ) (s : StandsAt names segment at) (
   all_in : (stays_inside (at + row_length i) (field_in (text_of i).first) ≡ true)
       × (stays_inside (at + row_length i) (field_in (text_of i).second) ≡ true)
       × (stays_inside (at + row_length i) (field_in (text_of i).third) ≡ true)
-  all_in = grind (arith, common_steps)
+  all_in =
+      let next = at + row_length i in
+      let p = and_parts _ (stays_inside next (field_in (text_of i).third)) inside in
+      let q = and_parts (stays_inside next (field_in (text_of i).first))
+      (stays_inside next (field_in (text_of i).second)) p.0 in
+      (q.0, q.1, p.1)
 
   -- an instruction is coded as the row that it was decoded from
   pub code_back : IsCodedAs names (text_of i).mnemonic (operands_of t (text_of i)) form i

@@ -1,10 +1,10 @@
 -- The cases of a line of a disassembly, the lines as they are read, and their labels.
-use Rattle.m51_disasm_proof.proofs.Common.{◌+◌, ◌<◌, ◌∷◌, ◌≡◌, ◌≤◌, AllByRecursion, Content, Instr, IsSound, LineTree}
-use Rattle.m51_disasm_proof.proofs.Common.{List, None, Option, Some, SourceLine, Target, [], ap, arith, body_at}
-use Rattle.m51_disasm_proof.proofs.Common.{common_steps, cond, label_text, length, meant, option_map, read_from, refl}
-use Rattle.m51_disasm_proof.proofs.Common.{suc, zero, ℕ}
+use Rattle.m51_disasm_proof.proofs.Common.{◌++◌, ◌+◌, ◌<◌, ◌∷◌, ◌≡◌, ◌≤◌, AllByRecursion, Content, Instr, IsSound}
+use Rattle.m51_disasm_proof.proofs.Common.{LineTree, List, None, Option, Some, SourceLine, Target, [], ap, arith}
+use Rattle.m51_disasm_proof.proofs.Common.{body_at, common_steps, cond, label_text, length, meant, option_map}
+use Rattle.m51_disasm_proof.proofs.Common.{read_from, refl, suc, zero, ℕ}
 use Rattle.m51_stmt.specs.Statement.{BodyTree, Empty}
-use Rattle.m51_asm.specs.Definitions.{Definition, Label, definitions_in, found_in, label_defined}
+use Rattle.m51_asm.specs.Definitions.{Defined, Definition, Label, definitions_in, found_in, label_defined}
 use Rattle.m51_disasm.specs.declared.line.SourceLine.TheVariants as line
 use Rattle.m51_disasm.specs.declared.statement.Content.TheVariants as content
 use Rattle.m51_disasm_proof.proofs.Labels.{other_label}
@@ -77,9 +77,16 @@ are_sound low (l ∷ ls) h = (h.0, are_sound (after_label low (label_of l)) ls h
 pub still_from : (low address : ℕ) (o : Option ℕ) → LiesFrom low o → after_label low o ≤ address → low ≤ address
 still_from low address o lies from = grind (arith, common_steps)
 
+with_none : (o : Option ℕ) (ds : List Defined) → ds ≡ []
+    → label_defined (option_map label_text o) ++ ds ≡ label_defined (option_map label_text o)
+with_none None ds e = e
+with_none (Some address) ds e = ap (λ d. (label_text address, Label) ∷ d) e
+
 -- a line defines only its label
 pub defines_label : (l : SourceLine) → definitions_in (meant l) ≡ label_defined (option_map label_text (label_of l))
-defines_label = grind (arith, common_steps)
+defines_label =
+    by_line (λ l. definitions_in (meant l) ≡ label_defined (option_map label_text (label_of l))) refl (λ base. refl)
+    (λ label t byte. with_none label [] refl) (λ label t i. with_none label [] refl) refl
 
 abbrev pub found_with : ℕ → Option ℕ → Option Definition
 found_with address o = found_in (label_defined (option_map label_text o)) (label_text address)

@@ -1,17 +1,18 @@
--- The labels of a disassembly are names that a statement may define.
-use Rattle.m51_disasm_proof.proofs.Common.{◌≡◌, ◌≢◌, ℕ, ◌/◌, ◌%◌, ◌<◌, ◌&&◌, cond, Bool, true, false, List, [], ◌∷◌}
-use Rattle.m51_disasm_proof.proofs.Common.{length, Some, None, refl, ap, ◌∙◌, arith, codes, digit_glyph, common_steps}
-use Rattle.m51_disasm_proof.proofs.Common.{name_of, label_text}
-use Rattle.std.proofs.Common.{nat_eq}
-use Rattle.std.specs.Char.{to_ascii_uppercase}
-use Rattle.std.specs.Str.{bytes_eq}
+-- The labels of a disassembly are names that a statement may define, and those of two addresses are two names.
+use Rattle.m51_disasm_proof.proofs.Common.{◌%◌, ◌&&◌, ◌+◌, ◌-◌, ◌<◌, ◌∙◌, ◌∷◌, ◌≡◌, ◌≢◌, Bool, List, None, Some, [], ap}
+use Rattle.m51_disasm_proof.proofs.Common.{arith, codes, common_steps, cond, false, get_or, label_text, length, name_of}
+use Rattle.m51_disasm_proof.proofs.Common.{nat_lt, refl, sym, true, ℕ}
+use Rattle.std.proofs.Common.{◌*◌, ◌/◌, nat_eq}
+use Rattle.std.proofs.Math.Bool.{and-false}
 use Rattle.std.proofs.lemmas.Slice.Eq.{bytes_eq-Decides}
+use Rattle.std.specs.Char.{to_ascii_uppercase}
+use Rattle.std.specs.Fmt.{digit_glyph}
+use Rattle.std.specs.Str.{bytes_eq}
 use Rattle.m51_cells.specs.Name as cells
-use Rattle.m51_expr.specs.declared.symbol.Symbol.TheVariants as symbols
-use Rattle.m51_expr.specs.Symbol.{operator_of, prefix_word, relation_word, arithmetic_word, word_symbol}
-use Rattle.m51_expr.specs.Symbol.{operator_or_word}
+use Rattle.m51_expr.specs.Symbol.{arithmetic_word, operator_of, operator_or_word, prefix_word, relation_word}
+use Rattle.m51_expr.specs.Symbol.{word_symbol}
 use Rattle.m51_expr.specs.Words.{is_language_word, is_reserved}
-use Rattle.m51_stmt.proofs.PrintedTrees.{IsLeafName}
+use Rattle.m51_expr.specs.declared.symbol.Symbol.TheVariants as symbols
 use Rattle.m51_stmt.proofs.PrintedExterns.{IsFree}
 
 -- a hexadecimal digit in upper case
@@ -28,16 +29,13 @@ glyph d h = record {
 }
 
 decided : (b : Bool) → ((b ≡ true) → ⊥) → b ≡ false
-decided true h = absurd (h refl)
-decided false h = refl
+decided b h = grind (arith, common_steps)
 
 other_length : (xs ys : List ℕ) → length xs ≢ length ys → bytes_eq xs ys ≡ false
 other_length xs ys other = decided (bytes_eq xs ys) (λ same. other (ap length ((bytes_eq-Decides xs ys).0 same)))
 
 fourth_differs : (a b c d : Bool) → c ≡ false → (true && (a && (b && (c && d)))) ≡ false
-fourth_differs false b c d h = refl
-fourth_differs true false c d h = refl
-fourth_differs true true c d h = ap (λ x. x && d) h
+fourth_differs a b c d h = simp (h, and-false)
 
 module _ (p q r s : ℕ) (a : IsGlyph p) (b : IsGlyph q) (c : IsGlyph r) (d : IsGlyph s) where
   abbrev label : List ℕ
@@ -50,69 +48,47 @@ module _ (p q r s : ℕ) (a : IsGlyph p) (b : IsGlyph q) (c : IsGlyph r) (d : Is
   no_lcall : bytes_eq (codes "LCALL") label ≡ false
   no_lcall = fourth_differs (nat_eq 0x43 p) (nat_eq 0x41 q) (nat_eq 0x4C r) (nat_eq 0x4C s && true) c.letter
 
-  no_ljmp : bytes_eq (codes "LJMP") label ≡ false
-  no_ljmp = other_length (codes "LJMP") label (omega arith)
-
-  no_low : bytes_eq (codes "LOW") label ≡ false
-  no_low = other_length (codes "LOW") label (omega arith)
-
-  no_lt : bytes_eq (codes "LT") label ≡ false
-  no_lt = other_length (codes "LT") label (omega arith)
-
-  no_le : bytes_eq (codes "LE") label ≡ false
-  no_le = other_length (codes "LE") label (omega arith)
-
-  no_low_before : bytes_eq label (codes "LOW") ≡ false
-  no_low_before = other_length label (codes "LOW") (omega arith)
-
-  no_lt_before : bytes_eq label (codes "LT") ≡ false
-  no_lt_before = other_length label (codes "LT") (omega arith)
-
-  no_le_before : bytes_eq label (codes "LE") ≡ false
-  no_le_before = other_length label (codes "LE") (omega arith)
-
   no_word : is_language_word label ≡ false
   unfolding is_language_word
-  no_word = rw no_lcall (rw no_ljmp refl)
+  no_word = rw no_lcall (rw (other_length (codes "LJMP") label (omega arith)) refl)
 
   no_operator : operator_of label ≡ None
   unfolding operator_of prefix_word relation_word arithmetic_word
-  no_operator = rw no_low_before (rw no_lt_before (rw no_le_before refl))
+  no_operator = grind (arith, common_steps)
 
   free : is_reserved label ≡ false
   unfolding is_reserved
-  free = rw no_word (rw no_low (rw no_lt (rw no_le refl)))
+  free =
+      rw no_word (rw (other_length (codes "LOW") label (omega arith))
+      (rw (other_length (codes "LT") label (omega arith)) (rw (other_length (codes "LE") label (omega arith)) refl)))
 
   leaf : word_symbol label ≡ symbols.Name label
   leaf = ap (operator_or_word label) no_operator ∙ ap (λ b. cond b (symbols.Word label) (symbols.Name label)) no_word
 
-  leaf_name : IsLeafName label
-  leaf_name = record { written = written; leaf = leaf }
-
   free_name : IsFree label
-  free_name = record { leaf = leaf_name; free = free }
+  free_name = record { leaf = record { written = written; leaf = leaf }; free = free }
 
-module _ (address : ℕ) (h : address < 65536) where
-  first : IsGlyph (digit_glyph true (address / 256 / 16))
-  first = glyph (address / 256 / 16) (omega (arith, h))
+-- a statement may define the name of a label, and an expression may have it
+pub label_is_free : (address : ℕ) → address < 65536 → IsFree (label_text address)
+label_is_free address h =
+    free_name _ _ _ _ (glyph (address / 256 / 16) (omega arith)) (glyph (address / 256 % 16) (omega arith))
+    (glyph (address % 256 / 16) (omega arith)) (glyph (address % 256 % 16) (omega arith))
 
-  second : IsGlyph (digit_glyph true (address / 256 % 16))
-  second = glyph (address / 256 % 16) (omega arith)
+-- the number of a digit
+abbrev number_of : ℕ → ℕ
+number_of c = cond (nat_lt c 58) (c - 48) (c - 55)
 
-  third : IsGlyph (digit_glyph true (address % 256 / 16))
-  third = glyph (address % 256 / 16) (omega arith)
+-- the address of a label
+abbrev address_in : List ℕ → ℕ
+address_in l =
+    (number_of (get_or l 1 0) * 16 + number_of (get_or l 2 0)) * 256
+    + (number_of (get_or l 3 0) * 16 + number_of (get_or l 4 0))
 
-  fourth : IsGlyph (digit_glyph true (address % 256 % 16))
-  fourth = glyph (address % 256 % 16) (omega arith)
+address_back : (address : ℕ) → address < 65536 → address_in (label_text address) ≡ address
+address_back address low = grind (arith, common_steps)
 
-  -- the name of a label is written so
-  pub label_written : name_of (label_text address) ≡ Some (label_text address)
-  label_written = written _ _ _ _ first second third fourth
+label_is : (s t : ℕ) → s < 65536 → t < 65536 → label_text s ≡ label_text t → s ≡ t
+label_is s t low small e = sym (address_back s low) ∙ ap address_in e ∙ address_back t small
 
-  -- an expression may have it
-  pub label_is_leaf : IsLeafName (label_text address)
-  label_is_leaf = leaf_name _ _ _ _ first second third fourth
-
-  -- a statement may define it
-  pub label_is_free : IsFree (label_text address)
-  label_is_free = free_name _ _ _ _ first second third fourth
+pub other_label : (s t : ℕ) → s < 65536 → t < 65536 → s ≢ t → bytes_eq (label_text s) (label_text t) ≡ false
+other_label s t low small ne = grind (arith, common_steps)

@@ -1,34 +1,83 @@
--- Each line of a disassembly gives the bytes of the image at its address.
-use Rattle.m51_disasm_proof.proofs.Common.{◌≡◌, ℕ, zero, suc, ◌+◌, ◌<◌, Bool, true, false, cond, List, [], ◌∷◌, ◌++◌}
-use Rattle.m51_disasm_proof.proofs.Common.{length, map, Option, Some, None, option_map, refl, sym, ap, ◌∙◌, subst}
-use Rattle.m51_disasm_proof.proofs.Common.{arith, slice_get, AllByRecursion, LineTree, Stands, Assignment, body_at}
-use Rattle.m51_disasm_proof.proofs.Common.{Fits, object_segments, segment_number, SourceLine, Target, CodeRange}
-use Rattle.m51_disasm_proof.proofs.Common.{Content, Statement, is_among, beginnings, targets, written_target, line_of}
-use Rattle.m51_disasm_proof.proofs.Common.{IsInside, length_in, statements_of, label_text, body_of, read_from}
-use Rattle.m51_disasm_proof.proofs.Common.{lines_before, AreBytes, IsSound, StandsAt, IsNamed, code_value, bytes_at}
+-- A label of a disassembly has the value of its address, so each line gives the bytes of the image at its address.
+use Rattle.m51_disasm_proof.proofs.Common.{◌+◌, ◌-◌, ◌<◌, ◌==◌, ◌||◌, ◌∙◌, ◌∷◌, ◌≡◌, ◌≤◌, AllByRecursion, AreBytes}
+use Rattle.m51_disasm_proof.proofs.Common.{Assignment, Bool, CodeRange, Content, IsNamed, IsSpot, LineGives, LineTree}
+use Rattle.m51_disasm_proof.proofs.Common.{List, None, Option, Some, SourceLine, Stands, StandsAt, Statement, Target}
+use Rattle.m51_disasm_proof.proofs.Common.{TextSegment, [], ap, arith, beginnings, body_of, bytes_at, code_value}
+use Rattle.m51_disasm_proof.proofs.Common.{common_steps, cond, eq-eqb, false, is_among, label_text, length, length_in}
+use Rattle.m51_disasm_proof.proofs.Common.{lines, map, opening, option_map, order, refl, segment_number, slice_get}
+use Rattle.m51_disasm_proof.proofs.Common.{statements_of, subst, suc, sym, targets, true, written_target, zero, ℕ}
+use Rattle.std.proofs.Math.Bool.{or-true}
+use Rattle.std.proofs.lemmas.Bool.{eqb-true}
+use Rattle.std.specs.List.{cons_option}
 use Rattle.m51_module.specs.Validity.{numbered}
-use Rattle.m51_encode.specs.declared.outcome.OperandOutcome.{OperandOutcome}
 use Rattle.m51_emit.specs.Content.{content_by, outcomes_by}
-use Rattle.m51_asm.specs.Assignment.{body_of as text_body}
-use Rattle.m51_asm.specs.ContentFaults.{line_outcomes_by, line_outcomes}
-use Rattle.m51_asm.specs.ObjectMeanings.{is_fixed, object_value, final}
+use Rattle.m51_asm.specs.Assignment.{here_at}
+use Rattle.m51_asm.specs.ContentFaults.{line_outcomes, line_outcomes_by}
+use Rattle.m51_asm.specs.ObjectMeanings.{final, is_fixed, object_value}
+use Rattle.m51_asm.specs.ObjectSegments.{object_segments}
 use Rattle.m51_asm.specs.Pieces.{content_at}
+use Rattle.m51_disasm.specs.Statements.{statement_target}
 use Rattle.m51_disasm.specs.declared.line.Target.TheVariants as target
-use Rattle.m51_disasm.specs.declared.statement.Content.TheVariants as content
-use Rattle.m51_disasm.specs.Lines.{lines_of}
-use Rattle.m51_disasm.specs.Statements.{statement_at, statement_target}
-use Rattle.m51_disasm_proof.specs.Standing.{GivesBytes, LineGives}
-use Rattle.m51_disasm_proof.proofs.KeptParts.{kept_parts, kept_are}
-use Rattle.m51_disasm_proof.proofs.LabelsKnown.{statement_line_at, place_value, stands_there, label_known}
-use Rattle.m51_disasm_proof.proofs.LineSteps.{line_read_at}
-use Rattle.m51_disasm_proof.proofs.PartLines.{whole, whole_is}
+use Rattle.m51_disasm_proof.specs.Standing.{GivesBytes}
+use Rattle.m51_disasm_proof.proofs.DisassemblyRead.{given}
+use Rattle.m51_disasm_proof.proofs.KeptParts.{bare_gives, kept_are, kept_parts}
+use Rattle.m51_disasm_proof.proofs.LinesStand.{IsCode, LinesFrom, State, body_is, next, spot_here, state}
+use Rattle.m51_disasm_proof.proofs.MeantLines.{label_of}
 use Rattle.m51_disasm_proof.proofs.PartsInOrder.{AreInOrder}
-use Rattle.m51_disasm_proof.proofs.SoundLines.{each_statement, lines_sound}
+use Rattle.m51_disasm_proof.proofs.PartsPassed.{GiveFrom, StatementsFrom, in_part, next_statement, part_passed}
+use Rattle.m51_disasm_proof.proofs.SoundLines.{lines_in, rest_of, whole}
 use Rattle.m51_disasm_proof.proofs.StatementsBack.{statement_gives}
-use Rattle.m51_disasm_proof.proofs.TargetsKnown.{begins_there, led_there, one_of}
+use Rattle.m51_disasm_proof.proofs.StatementsFollow.{follows_to}
 
--- ---- all segments are absolute
+-- an address, as a value
+pub place_value : (a : Assignment) (k address : ℕ) (segment : TextSegment) → address < 65536 → IsCode segment
+    → IsSpot a k (record { segment = segment; address = address }) → here_at a k ≡ code_value segment.id address
+place_value a k address segment small code spot = grind (arith, common_steps)
 
+-- the value of the label of a line
+label_here : {lines : List LineTree} {a : Assignment} {k : ℕ} {s : State} {l : SourceLine} {ls : List SourceLine}
+    → LinesFrom lines a k s (l ∷ ls) → (address : ℕ) → label_of l ≡ Some address → (j : ℕ)
+    → a.value j (label_text address) ≡ Some (here_at a k)
+label_here h address is j = grind (arith, common_steps)
+
+-- statements that others lead to are labels, with the values of their addresses
+pub label_known : {lines : List LineTree} {a : Assignment} {image : List ℕ} {part : CodeRange} {parts : List CodeRange}
+    (statements : List Statement) {at k : ℕ} {s : State} → StatementsFrom lines a image part parts at k s statements
+    → part.base + part.size ≤ 65536 → (address : ℕ) → is_among (beginnings statements) address ≡ true
+    → is_among (targets (statements_of image part)) address ≡ true
+    → (j : ℕ) → a.value j (label_text address) ≡ Some (code_value s.segment.id address)
+label_known [] h inside address there target j = absurd (cc there)
+label_known {lines} {a} {image} {part} (x ∷ statements) {at} {k} {s} h inside address there target j =
+    by_test (x.at == address) refl there
+    (λ more. label_known statements (next_statement h) inside address more target j)
+  where
+    by_test : (b : Bool) → (x.at == address) ≡ b → (b || is_among (beginnings statements) address) ≡ true
+        → (is_among (beginnings statements) address ≡ true
+        → a.value j (label_text address) ≡ Some (code_value s.segment.id address))
+        → a.value j (label_text address) ≡ Some (code_value s.segment.id address)
+    by_test false test there more = more there
+    by_test true test there more =
+        let same : x.at ≡ address = eqb-true x.at address test in
+        let place : s.segment.base + s.given ≡ address = omega arith in
+        label_here h.from address
+        (ap (λ b. cond b (Some x.at) None) (ap (is_among (targets (statements_of image part))) same ∙ target)
+        ∙ ap (λ n. Some n) same) j
+        ∙ ap (λ v. Some v)
+        (place_value a k address s.segment (omega arith) h.from.code
+        (subst (λ p. IsSpot a k (record { segment = s.segment; address = p })) place (spot_here h.from)))
+
+-- a statement begins at its address
+pub begins_there : (statements : List Statement) (j : ℕ) (s : Statement) → slice_get statements j ≡ Some s
+    → is_among (beginnings statements) s.at ≡ true
+begins_there [] j s e = absurd (cc e)
+begins_there (x ∷ statements) zero s e =
+    let same : x ≡ s = cc e in
+    ap (λ b. b || is_among (beginnings statements) s.at)
+    (ap (λ (y : Statement). y.at == s.at) same ∙ eq-eqb s.at s.at refl)
+begins_there (x ∷ statements) (suc j) s e =
+    ap (λ b. (x.at == s.at) || b) (begins_there statements j s e) ∙ or-true (x.at == s.at)
+
+-- all segments are absolute
 parts_fixed : (image : List ℕ) (parts : List CodeRange) (k n : ℕ)
     → is_fixed (numbered (map (λ s. s.segment) (kept_parts image k parts)) n) ≡ true
 parts_fixed image parts k zero = refl
@@ -37,123 +86,134 @@ parts_fixed image (part ∷ parts) k (suc zero) = refl
 parts_fixed image (part ∷ parts) k (suc (suc n)) =
     parts_fixed image parts (suc k + length (statements_of image part)) (suc n)
 
-abbrev AreFixed : List SourceLine → Assignment → Type 0
-AreFixed ls a = (n : ℕ) → is_fixed (numbered (object_segments (read_from 1 ls) a) n) ≡ true
+abbrev AreFixed : List LineTree → Assignment → Type 0
+AreFixed lines a = (n : ℕ) → is_fixed (numbered (object_segments lines a) n) ≡ true
 
-whole_fixed : (image : List ℕ) (parts : List CodeRange) → AllByRecursion IsInside parts → (a : Assignment)
-    → Fits (read_from 1 (whole image parts)) a → AllByRecursion IsSound (whole image parts)
-    → AreFixed (whole image parts) a
-whole_fixed image parts inside a f sound n =
-    ap (λ ks. is_fixed (numbered (map (λ s. s.segment) ks) n)) (kept_are image parts a f inside sound)
-    ∙ parts_fixed image parts 1 n
+-- ---- where statements lead
 
-all_fixed : (image : List ℕ) (bytes : AreBytes image) (parts : List CodeRange) → AllByRecursion IsInside parts
-    → (a : Assignment) → Fits (read_from 1 (lines_of image parts)) a
-    → AreFixed (lines_of image parts) a
-all_fixed image bytes parts inside a f =
-    subst (λ ls. Fits (read_from 1 ls) a → AllByRecursion IsSound ls → AreFixed ls a) (sym (whole_is image parts))
-    (whole_fixed image parts inside a) f (lines_sound image bytes parts inside)
+among_more : (o : Option ℕ) (address : ℕ) (more : List ℕ) → is_among more address ≡ true
+    → is_among (cons_option o more) address ≡ true
+among_more o address more h = grind (arith, common_steps)
 
--- ---- a statement
+among_first : (o : Option ℕ) (address : ℕ) (more : List ℕ) → o ≡ Some address
+    → is_among (cons_option o more) address ≡ true
+among_first o address more e = grind (arith, common_steps)
+
+-- where statements of the part begin
+abbrev begin_of : List ℕ → CodeRange → List ℕ
+begin_of image part = beginnings (statements_of image part)
+
+-- one of them leads to the address
+abbrev IsLedTo : List ℕ → CodeRange → ℕ → Type 0
+IsLedTo image part address = is_among (targets (statements_of image part)) address ≡ true
+
+-- all targets of these statements are targets of the part
+abbrev Lead : List ℕ → CodeRange → List Statement → Type 0
+Lead image part statements = (address : ℕ) → is_among (targets statements) address ≡ true → IsLedTo image part address
+
+-- the labels of a part have the values of their addresses
+abbrev AreKnown : Assignment → ℕ → List ℕ → CodeRange → Type 0
+AreKnown a id image part =
+    (address : ℕ) → is_among (begin_of image part) address ≡ true → IsLedTo image part address
+    → (j : ℕ) → a.value j (label_text address) ≡ Some (code_value id address)
+
+-- ---- statements
 
 outcomes_of : (lines : List LineTree) (a : Assignment) (k : ℕ) (t : Target) (c : Content)
     → line_outcomes_by lines a k (body_of t c) ≡ outcomes_by (final lines a k) (a.form k) (body_of t c)
-outcomes_of lines a k t (content.Byte byte) = refl
-outcomes_of lines a k t (content.Code i) = refl
+outcomes_of lines a k t c = grind (arith, common_steps)
 
-abbrev StandAll : List OperandOutcome → Type 0
-StandAll = AllByRecursion (λ outcome. outcome ≡ Stands)
-
-module _ (image : List ℕ) (bytes : AreBytes image) (before : List CodeRange) (part : CodeRange) (after : List CodeRange)
-    (inside : AllByRecursion IsInside (before ++ part ∷ after))
-    (order : AreInOrder 0 (before ++ part ∷ after)) (a : Assignment)
-    (f : Fits (read_from 1 (lines_of image (before ++ part ∷ after))) a) where
-  abbrev lines : List LineTree
-  lines = read_from 1 (lines_of image (before ++ part ∷ after))
-
-  abbrev statements : List Statement
-  statements = statements_of image part
-
-  abbrev end : ℕ
-  end = part.base + part.size
-
-  -- the number of the part's segment
-  abbrev number : ℕ
-  number = segment_number lines a (lines_before image before + 2)
-
-  part_inside : (xs ys : List CodeRange) → AllByRecursion IsInside (xs ++ part ∷ ys) → IsInside part
-  part_inside [] ys h = h.0
-  part_inside (x ∷ xs) ys h = part_inside xs ys h.1
-
-  -- a statement is that at its address, in program memory
-  record IsAtAddress (s : Statement) : Type 0 where
-    is : s ≡ statement_at image end s.at
-    small : s.at < 65536
-
-  all_there : AllByRecursion IsAtAddress statements
-  unfolding statement_at
-  all_there =
-      let ends = (part_inside before after inside).ends in
-      each_statement image bytes IsAtAddress end 0 part.base part.size
-      (λ at from below. record { is = refl; small = omega (arith, below, ends) })
-
-  stands_in : (j : ℕ) (s : Statement) → slice_get statements j ≡ Some s → s.at < 65536
-      → StandsAt (final lines a (lines_before image before + suc j)) number s.at
+module _ (lines : List LineTree) (a : Assignment) (image : List ℕ) (bytes : AreBytes image) (fixed : AreFixed lines a)
+    (part : CodeRange) (inside : part.base + part.size ≤ 65536) (id : ℕ) (known : AreKnown a id image part) where
+  named_by : (k address : ℕ) (b : Bool) → is_among (begin_of image part) address ≡ b → IsLedTo image part address
+      → IsNamed (final lines a k) (segment_number lines a id) (cond b (target.Label address) (target.Number address))
   unfolding final
-  stands_in j s e small = record {
-    here = ap (object_value (segment_number lines a))
-        (place_value a (lines_before image before + suc j) (lines_before image before + 2) s.at part.base small
-        (stands_there image bytes before part after inside order a f j s e));
-    absolute = all_fixed image bytes (before ++ part ∷ after) inside a f number;
-  }
+  named_by k address true test target =
+      ap (option_map (object_value (segment_number lines a))) (known address test target k)
+  named_by k address false test target = tt
 
-  label_in : (k address : ℕ) → is_among (beginnings statements) address ≡ true
-      → is_among (targets statements) address ≡ true
-      → (final lines a k).value (label_text address) ≡ Some (code_value number address)
-  unfolding final
-  label_in k address begin led =
-      let b = begins_there statements address begin in
-      let known = label_known image bytes before part after inside order a f b.index b.statement b.got
-      (ap (is_among (targets statements)) b.at ∙ led) k in
-      ap (option_map (object_value (segment_number lines a)))
-      (subst (λ n. a.value k (label_text n) ≡ Some (code_value (lines_before image before + 2) n)) b.at known)
+  named : (k : ℕ) (o : Option ℕ) → ((address : ℕ) → o ≡ Some address → IsLedTo image part address)
+      → IsNamed (final lines a k) (segment_number lines a id) (written_target (begin_of image part) o)
+  named k None lead = tt
+  named k (Some address) lead =
+      named_by k address (is_among (begin_of image part) address) refl (lead address refl)
 
-  named_by : (k address : ℕ) (b : Bool) → is_among (beginnings statements) address ≡ b
-      → is_among (targets statements) address ≡ true
-      → IsNamed (final lines a k) number (cond b (target.Label address) (target.Number address))
-  named_by k address true begin led = label_in k address begin led
-  named_by k address false begin led = tt
+  module _ {parts : List CodeRange} {at k : ℕ} {s : State} {x : Statement} {statements : List Statement}
+      (h : StatementsFrom lines a image part parts at k s (x ∷ statements)) (same : s.segment.id ≡ id) where
+    stands_at : StandsAt (final lines a k) (segment_number lines a id) at
+    unfolding final
+    stands_at =
+        let spot = spot_here h.from in
+        record {
+          here = ap (object_value (segment_number lines a))
+              (place_value a k at s.segment (omega arith) h.from.code
+              (record { segment = spot.segment; address = spot.address ∙ sym h.place })
+              ∙ ap (λ n. code_value n at) same);
+          absolute = fixed (segment_number lines a id);
+        }
 
-  named : (k j : ℕ) (s : Statement) (o : Option ℕ) → slice_get statements j ≡ Some s → statement_target s ≡ o
-      → IsNamed (final lines a k) number (written_target (beginnings statements) o)
-  named k j s None e to = tt
-  named k j s (Some address) e to =
-      named_by k address (is_among (beginnings statements) address) refl (led_there statements j s address e to)
+    -- the line of a statement gives its bytes
+    statement_line_gives : ((address : ℕ) → statement_target x ≡ Some address → IsLedTo image part address)
+        → LineGives lines a image k (s.segment.base + s.given) (length_in x.content)
+    unfolding content_at line_outcomes
+    statement_line_gives lead =
+        let begin = begin_of image part in
+        let names = final lines a k in
+        let number = segment_number lines a id in
+        let t : Target = written_target begin (statement_target x) in
+        let gives : GivesBytes names (a.form k) (body_of t x.content) (bytes_at image at (length_in x.content)) =
+        subst (λ (y : Statement). IsNamed names number (written_target begin (statement_target y))
+        → GivesBytes names (a.form k) (body_of (written_target begin (statement_target y)) y.content)
+        (bytes_at image at (length_in y.content))) (sym h.follow.0.is)
+        (statement_gives image bytes begin (part.base + part.size) at names number stands_at (a.form k))
+        (named k (statement_target x) lead) in
+        subst (λ p. LineGives lines a image k p (length_in x.content)) h.place (record {
+          content = ap (content_by names (a.form k)) (body_is h.from) ∙ gives.content;
+          stand = subst (AllByRecursion (λ outcome. outcome ≡ Stands))
+              (sym (ap (line_outcomes_by lines a k) (body_is h.from) ∙ outcomes_of lines a k t x.content)) gives.stand;
+        })
 
-  -- a statement of the part gives its bytes
-  pub statement_line_gives : (j : ℕ) (s : Statement) → slice_get statements j ≡ Some s
-      → LineGives lines a image (lines_before image before + suc j) s.at (length_in s.content)
-  unfolding content_at line_outcomes
-  statement_line_gives j s e =
-      let k = lines_before image before + suc j in
-      let l : SourceLine = line_of (beginnings statements) (targets statements) s in
-      let names = final lines a k in
-      let t : Target = written_target (beginnings statements) (statement_target s) in
-      let there = one_of IsAtAddress statements j s all_there e in
-      let is : body_at lines k ≡ body_of t s.content =
-      ap text_body (line_read_at 1 (lines_of image (before ++ part ∷ after)) k l
-      (statement_line_at image before part after j s e)) in
-      let gives : GivesBytes names (a.form k) (body_of t s.content) (bytes_at image s.at (length_in s.content)) =
-      subst (λ (x : Statement). GivesBytes names (a.form k)
-      (body_of (written_target (beginnings statements) (statement_target x)) x.content)
-      (bytes_at image s.at (length_in x.content))) (sym there.is)
-      (statement_gives image bytes (beginnings statements) end s.at names number (stands_in j s e there.small)
-      (a.form k)
-      (subst (λ (x : Statement). IsNamed names number (written_target (beginnings statements) (statement_target x)))
-      there.is
-      (named k j s (statement_target s) e refl))) in
-      record {
-        content = ap (content_by names (a.form k)) is ∙ gives.content;
-        stand = subst StandAll (sym (ap (line_outcomes_by lines a k) is ∙ outcomes_of lines a k t s.content))
-            gives.stand;
-      }
+  -- statements give their bytes, if what follows them does
+  statements_give : (statements : List Statement) {parts : List CodeRange} {at k : ℕ} {s : State} (n given : ℕ)
+      → StatementsFrom lines a image part parts at k s statements → Lead image part statements → s.segment.id ≡ id
+      → n ≡ k + length statements → given ≡ s.given + (part.base + part.size - at)
+      → GiveFrom lines a image n s.segment given (rest_of image parts)
+      → GiveFrom lines a image k s.segment s.given (lines_in image part parts statements)
+  statements_give [] {parts} {at} {k} {s} n given h lead same last all more =
+      let here : n ≡ k = omega arith in
+      let none : given ≡ s.given = omega arith in
+      subst (λ m. GiveFrom lines a image m s.segment s.given (rest_of image parts)) here
+      (subst (λ g. GiveFrom lines a image n s.segment g (rest_of image parts)) none more)
+  statements_give (x ∷ statements) {parts} {at} n given h lead same last all more =
+      let below = follows_to image (part.base + part.size) (at + length_in x.content) statements h.follow.1 in (
+        statement_line_gives h same
+            (λ address e. lead address (among_first (statement_target x) address (targets statements) e)),
+        statements_give statements n given (next_statement h)
+            (λ address e. lead address (among_more (statement_target x) address (targets statements) e)) same
+            (omega arith) (omega arith) more,
+      )
+
+parts_give : {lines : List LineTree} {a : Assignment} (image : List ℕ) → AreBytes image → AreFixed lines a
+    → (parts : List CodeRange) {k : ℕ} {s : State} (low : ℕ) → AreInOrder low parts
+    → LinesFrom lines a k s (rest_of image parts) → GiveFrom lines a image k s.segment s.given (rest_of image parts)
+parts_give image bytes fixed [] low order h = (bare_gives image h tt, tt)
+parts_give {lines} {a} image bytes fixed (part ∷ parts) {k} low order h =
+    let statements : List Statement = statements_of image part in (
+      bare_gives image h tt,
+      statements_give lines a image bytes fixed part order.1.ends (k + 2)
+          (label_known statements (in_part h) order.1.ends) statements (suc k + length statements) part.size
+          (in_part h) (λ address e. e) refl refl (omega arith)
+          (parts_give image bytes fixed parts _ order.2 (part_passed h).from),
+    )
+
+-- all lines give their bytes
+pub whole_gives : {lines : List LineTree} {a : Assignment} (image : List ℕ) → AreBytes image → (parts : List CodeRange)
+    → AreInOrder 0 parts → LinesFrom lines a 0 (state opening 0 0) (whole image parts)
+    → GiveFrom lines a image 0 opening 0 (whole image parts)
+whole_gives image bytes parts order h = (
+  bare_gives image h tt,
+  parts_give image bytes
+      (λ n. ap (λ ks. is_fixed (numbered (map (λ s. s.segment) ks) n)) (kept_are image parts order h)
+      ∙ parts_fixed image parts 1 n)
+      parts 0 order (next h),
+)

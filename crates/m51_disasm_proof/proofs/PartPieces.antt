@@ -1,23 +1,101 @@
--- The pieces of a disassembly are the bytes of its parts.
-use Rattle.m51_disasm_proof.proofs.Common.{◌≡◌, ℕ, suc, ◌+◌, ◌-◌, ◌<◌, ◌≤◌, cond, List, [], ◌∷◌, ◌++◌, length}
-use Rattle.m51_disasm_proof.proofs.Common.{length-append, map, flat_map, append_assoc, append-nil, Some, option_map}
-use Rattle.m51_disasm_proof.proofs.Common.{refl, sym, ap, ◌∙◌, arith, eq-eqb, AllByRecursion, ne_eqb, LineTree}
-use Rattle.m51_disasm_proof.proofs.Common.{TextSegment, Assignment, absolute, opening, Fits, Kept, segment_number}
-use Rattle.m51_disasm_proof.proofs.Common.{SourceLine, CodeRange, Statement, beginnings, targets, IsInside}
-use Rattle.m51_disasm_proof.proofs.Common.{statements_of, read_from, IsSound, bytes_at}
-use Rattle.m51_cells.specs.declared.kind.Kind.TheVariants as kind
-use Rattle.m51_emit.specs.Pieces.{pieces_of_run}
-use Rattle.m51_asm.specs.ObjectSegments.{absolute_of, from_one, index_in, number_in, kept}
-use Rattle.m51_asm.specs.Pieces.{runs_from, segment_pieces, pieces}
-use Rattle.m51_disasm.specs.declared.line.SourceLine.TheVariants as line
+-- The pieces of a disassembly are the bytes of its parts: those of each part are one run.
+use Rattle.m51_disasm_proof.proofs.Common.{◌++◌, ◌+◌, ◌-◌, ◌<◌, ◌∙◌, ◌∷◌, ◌≡◌, ◌≤◌, AllByRecursion, Assignment}
+use Rattle.m51_disasm_proof.proofs.Common.{CodeRange, Kept, LineTree, List, Some, Statement, TextSegment, [], ap}
+use Rattle.m51_disasm_proof.proofs.Common.{append-nil, append_assoc, arith, bytes_at, common_steps, cond, eq-eqb}
+use Rattle.m51_disasm_proof.proofs.Common.{flat_map, if_bytes, length, length-append, length_in, map, ne_eqb, offset_at}
+use Rattle.m51_disasm_proof.proofs.Common.{opening, option_map, order, refl, runs_from, segment_number, slice_index}
+use Rattle.m51_disasm_proof.proofs.Common.{statements_of, suc, sym, zero, ℕ}
+use Rattle.std.proofs.lemmas.List.FromFn.{length-map-range_with_len}
+use Rattle.m51_emit.specs.Pieces.{Run, pieces_of_run}
+use Rattle.m51_asm.specs.Fitting.{filled}
+use Rattle.m51_asm.specs.ObjectSegments.{absolute_of, from_one, index_in, kept, number_in}
+use Rattle.m51_asm.specs.Pieces.{content_at, pieces, segment_pieces}
 use Rattle.m51_disasm_proof.specs.Module.{pieces_from}
-use Rattle.m51_disasm_proof.proofs.AllLinesGive.{GiveFrom, gives_after}
-use Rattle.m51_disasm_proof.proofs.KeptParts.{kept_parts, kept_are, lines_of_part, length_read}
-use Rattle.m51_disasm_proof.proofs.LinesStand.{Says, LineStands, at_start, says_all}
-use Rattle.m51_disasm_proof.proofs.LineSteps.{step}
-use Rattle.m51_disasm_proof.proofs.PartLines.{rest_of, whole, through}
-use Rattle.m51_disasm_proof.proofs.PartRuns.{part_run}
-use Rattle.m51_disasm_proof.proofs.StatementsStand.{part_follows}
+use Rattle.m51_disasm_proof.specs.Standing.{only_bytes}
+use Rattle.m51_disasm_proof.proofs.KeptParts.{ends, kept_are, kept_parts, runs_here}
+use Rattle.m51_disasm_proof.proofs.LinesStand.{LinesFrom, State, is_open, next, state}
+use Rattle.m51_disasm_proof.proofs.MeantLines.{read_at}
+use Rattle.m51_disasm_proof.proofs.PartsInOrder.{AreInOrder}
+use Rattle.m51_disasm_proof.proofs.PartsPassed.{GiveFrom, StatementsFrom, in_part, next_statement, part_passed}
+use Rattle.m51_disasm_proof.proofs.PartsPassed.{part_segment}
+use Rattle.m51_disasm_proof.proofs.SoundLines.{lines_in, rest_of, whole}
+use Rattle.m51_disasm_proof.proofs.StatementsFollow.{follows_to}
+
+-- ---- bytes one after another
+
+bytes_joined : (image : List ℕ) (at m n : ℕ)
+    → bytes_at image at m ++ bytes_at image (at + m) n ≡ bytes_at image at (m + n)
+bytes_joined image at zero n = let here : at + 0 ≡ at = omega arith in let same : 0 + n ≡ n = omega arith in
+    (λ i. bytes_at image (here i) n) ∙ ap (bytes_at image at) (sym same)
+bytes_joined image at (suc m) n =
+    let next : at + suc m ≡ at + 1 + m = omega arith in
+    let count : suc (m + n) ≡ suc m + n = omega arith in
+    ap (λ x. bytes_at image at (suc m) ++ bytes_at image x n) next
+    ∙ ap (λ l. slice_index image at ∷ l) (bytes_joined image (at + 1) m n) ∙ ap (bytes_at image at) count
+
+abbrev one_run : ℕ → List ℕ → List Run
+one_run at bytes = (at, bytes) ∷ []
+
+abbrev two_runs : ℕ → List ℕ → ℕ → List ℕ → List Run
+two_runs at xs next ys = (at, xs) ∷ (next, ys) ∷ []
+
+-- bytes that follow others are in one run with them
+runs_joined : (at : ℕ) (xs ys : List ℕ) → if_bytes at xs (if_bytes (at + length xs) ys []) ≡ if_bytes at (xs ++ ys) []
+runs_joined at [] ys = let here : at + 0 ≡ at = omega arith in ap (λ n. if_bytes n ys []) here
+runs_joined at (x ∷ xs) [] = ap (λ l. one_run at (x ∷ l)) (sym (append-nil xs))
+runs_joined at (x ∷ xs) (y ∷ ys) =
+    ap (λ b. cond b (one_run at ((x ∷ xs) ++ (y ∷ ys))) (two_runs at (x ∷ xs) (at + length (x ∷ xs)) (y ∷ ys)))
+    (eq-eqb (at + length (x ∷ xs)) (at + length (x ∷ xs)) refl)
+
+-- ---- the run of a part
+
+-- statements are one run, if nothing follows them
+statements_run : {lines : List LineTree} {a : Assignment} {image : List ℕ} {part : CodeRange} {parts : List CodeRange}
+    (statements : List Statement) {at k : ℕ} {s : State} (n : ℕ)
+    → StatementsFrom lines a image part parts at k s statements
+    → GiveFrom lines a image k s.segment s.given (lines_in image part parts statements) → n ≡ k + length statements
+    → runs_from lines a s.segment.id n (read_at n (rest_of image parts)) ≡ []
+    → runs_from lines a s.segment.id k (read_at k (lines_in image part parts statements))
+    ≡ if_bytes s.given (bytes_at image at (part.base + part.size - at)) []
+statements_run {lines} {a} {image} {part} {parts} [] {at} {k} {s} n h gives last none =
+    let here : k ≡ n = omega arith in
+    let size : 0 ≡ part.base + part.size - at = omega arith in
+    ap (λ i. runs_from lines a s.segment.id i (read_at i (rest_of image parts))) here ∙ none
+    ∙ ap (λ i. if_bytes s.given (bytes_at image at i) []) size
+statements_run {lines} {a} {image} {part} {parts} (x ∷ statements) {at} {k} {s} n h gives last none =
+    let len = length_in x.content in
+    let end = part.base + part.size in
+    let below = follows_to image end (at + len) statements h.follow.1 in
+    let size : len + (end - (at + len)) ≡ end - at = omega arith in
+    let xs : List ℕ = bytes_at image at len in
+    let ys : List ℕ = bytes_at image (at + len) (end - (at + len)) in
+    let more = runs_from lines a s.segment.id (suc k) (read_at (suc k) (lines_in image part parts statements)) in
+    let later = statements_run statements n (next_statement h) gives.1 (omega arith) none in
+    let gave : offset_at lines a k ≡ s.given =
+    ap (λ (y : TextSegment). filled lines a y.id k) h.from.segment ∙ h.from.given in
+    let content : content_at lines a k ≡ only_bytes xs =
+    gives.0.content ∙ ap (λ p. only_bytes (bytes_at image p len)) (sym h.place) in
+    (λ i. cond (is_open h.from i) (if_bytes (gave i) (content i).bytes (later i)) more)
+    ∙ ap (λ m. if_bytes s.given xs (if_bytes (s.given + m) ys []))
+    (sym (length-map-range_with_len (slice_index image) at len))
+    ∙ runs_joined s.given xs ys
+    ∙ ap (λ bytes. if_bytes s.given bytes [])
+    (bytes_joined image at len (end - (at + len)) ∙ ap (bytes_at image at) size)
+
+some_run : (image : List ℕ) (at n : ℕ) → 0 < n → if_bytes 0 (bytes_at image at n) [] ≡ (0, bytes_at image at n) ∷ []
+some_run image at n h = grind (arith, common_steps)
+
+-- a part is one run
+part_run : {lines : List LineTree} {a : Assignment} {k : ℕ} {s : State} (image : List ℕ) (part : CodeRange)
+    (parts : List CodeRange) → 0 < part.size → LinesFrom lines a k s (rest_of image (part ∷ parts))
+    → GiveFrom lines a image k s.segment s.given (rest_of image (part ∷ parts))
+    → runs_from lines a (k + 2) 0 lines ≡ (0, bytes_at image part.base part.size) ∷ []
+part_run {k = k} image part parts some h gives =
+    let size : part.base + part.size - part.base ≡ part.size = omega arith in
+    runs_here image part parts h
+    ∙ statements_run (statements_of image part) _ (in_part h) gives.1 refl
+    (ends image parts (part_passed h).from).runs
+    ∙ ap (λ n. if_bytes 0 (bytes_at image part.base n) []) size ∙ some_run image part.base part.size some
 
 -- ---- the number of a segment
 
@@ -28,86 +106,52 @@ ids xs = map (λ s. s.id) xs
 abbrev AreBelow : ℕ → List Kept → Type 0
 AreBelow id xs = AllByRecursion (λ s. s.id < id) xs
 
-place_after : (xs ys : List Kept) (y : Kept) → AreBelow y.id xs → index_in (ids (xs ++ y ∷ ys)) y.id ≡ Some (length xs)
-place_after [] ys y below =
+index_after : (xs ys : List Kept) (y : Kept) → AreBelow y.id xs → index_in (ids (xs ++ y ∷ ys)) y.id ≡ Some (length xs)
+index_after [] ys y below =
     ap (λ b. cond b (Some 0) (option_map (λ n. suc n) (index_in (ids ys) y.id))) (eq-eqb y.id y.id refl)
-place_after (x ∷ xs) ys y below =
-    let less = below.0 in
+index_after (x ∷ xs) ys y below =
     ap (λ b. cond b (Some 0) (option_map (λ n. suc n) (index_in (ids (xs ++ y ∷ ys)) y.id)))
-    (ne_eqb x.id y.id (λ e. omega (arith, less, e)))
-    ∙ ap (option_map (λ n. suc n)) (place_after xs ys y below.1)
+    (ne_eqb x.id y.id (λ e. omega arith))
+    ∙ ap (option_map (λ n. suc n)) (index_after xs ys y below.1)
 
 number_after : (all xs ys : List Kept) (y : Kept) → all ≡ xs ++ y ∷ ys → AreBelow y.id xs
     → number_in all y.id ≡ suc (length xs)
 unfolding number_in
 number_after all xs ys y is below = ap (λ ks. from_one (index_in (ids ks) y.id)) is
-    ∙ ap from_one (place_after xs ys y below)
+    ∙ ap from_one (index_after xs ys y below)
 
-still_below : (m n : ℕ) (xs : List Kept) → m ≤ n → AreBelow m xs → AreBelow n xs
-still_below m n [] le below = tt
-still_below m n (x ∷ xs) le below = let less = below.0 in (omega (arith, less, le), still_below m n xs le below.1)
+one_below : (m n : ℕ) (xs : List Kept) (y : Kept) → m ≤ n → AreBelow m xs → y.id < n → AreBelow n (xs ++ y ∷ [])
+one_below m n [] y le below less = (less, tt)
+one_below m n (x ∷ xs) y le below less =
+    let first = below.0 in (omega arith, one_below m n xs y le below.1 less)
 
-one_below : (n : ℕ) (xs : List Kept) (y : Kept) → AreBelow n xs → y.id < n → AreBelow n (xs ++ y ∷ [])
-one_below n [] y below less = (less, tt)
-one_below n (x ∷ xs) y below less = (below.0, one_below n xs y below.1 less)
+-- ---- the pieces of parts, before whose segments there are others
 
-module _ (lines : List LineTree) (a : Assignment) (f : Fits lines a) (image : List ℕ) where
-  -- the pieces of one part
-  one_part : (y : Kept) (part : CodeRange) (number : ℕ) → segment_number lines a y.id ≡ number
-      → runs_from lines a y.id 0 lines ≡ (0, bytes_at image part.base part.size) ∷ []
-      → segment_pieces lines a y ≡ pieces_of_run number (0, bytes_at image part.base part.size)
-  one_part y part number is run =
-      (λ i. flat_map (pieces_of_run (is i)) (run i))
-      ∙ append-nil (pieces_of_run number (0, bytes_at image part.base part.size))
-
-  -- the pieces of parts, before whose segments there are others
-  parts_pieces : (parts : List CodeRange) (xs : List Kept) (k address : ℕ) (s : TextSegment) (given : ℕ)
-      → AllByRecursion IsInside parts → AllByRecursion IsSound (rest_of image parts)
-      → LineStands lines a f k s given → Says lines k (rest_of image parts)
-      → GiveFrom lines a image k address (rest_of image parts)
-      → length lines ≡ k + length (rest_of image parts) → kept lines a ≡ xs ++ kept_parts image k parts
-      → AreBelow (k + 2) xs
-      → flat_map (segment_pieces lines a) (kept_parts image k parts) ≡ pieces_from (suc (length xs)) image parts
-  parts_pieces [] xs k address s given inside sound h is gives count all below = refl
-  parts_pieces (part ∷ parts) xs k address s given inside sound h is gives count all below =
-      let statements : List Statement = statements_of image part in
-      let begin = beginnings statements in
-      let led = targets statements in
-      let rest : List SourceLine = rest_of image parts in
-      let t : TextSegment = absolute (k + 2) kind.Code part.base in
-      let y : Kept = absolute_of t part.size in
-      let later : ℕ = suc k + length statements in
-      let next = step lines a f k s given (line.Segment part.base) sound.0 h is.0 in
-      let end = through lines a f begin led statements rest (suc k) t 0 part.base (part.base + part.size)
-      (part_follows image part) next sound.1 is.1 in
-      let number : segment_number lines a y.id ≡ suc (length xs) =
-      number_after (kept lines a) xs (kept_parts image later parts) y all below in
-      let run = part_run lines a f image part parts k address s given inside.0.some sound h is gives count in
-      let more : suc (length (xs ++ y ∷ [])) ≡ suc (suc (length xs)) =
-      (let e = length-append xs (y ∷ []) in omega (arith, e)) in
-      let rest_pieces = parts_pieces parts (xs ++ y ∷ []) later (part.base + part.size) t
-      (0 + (part.base + part.size - part.base)) inside.1 end.sound end.stands end.says
-      (gives_after lines a image begin led statements rest (suc k) part.base (part.base + part.size)
-      (part_follows image part) gives.1)
-      (lines_of_part image part parts k (length lines) count)
-      (all ∙ sym (append_assoc xs (y ∷ []) (kept_parts image later parts)))
-      (one_below (later + 2) xs y (still_below (k + 2) (later + 2) xs (omega arith) below) (omega arith)) in
-      (λ i. one_part y part (suc (length xs)) number run i ++ rest_pieces i)
-      ∙ ap (λ n. pieces_of_run (suc (length xs)) (0, bytes_at image part.base part.size) ++ pieces_from n image parts)
-      more
+parts_pieces : {lines : List LineTree} {a : Assignment} (image : List ℕ) (parts : List CodeRange) {k : ℕ} {s : State}
+    (xs : List Kept) (low : ℕ) → AreInOrder low parts → LinesFrom lines a k s (rest_of image parts)
+    → GiveFrom lines a image k s.segment s.given (rest_of image parts) → kept lines a ≡ xs ++ kept_parts image k parts
+    → AreBelow (k + 2) xs
+    → flat_map (segment_pieces lines a) (kept_parts image k parts) ≡ pieces_from (suc (length xs)) image parts
+parts_pieces image [] xs low order h gives all below = refl
+parts_pieces {lines} {a} image (part ∷ parts) {k} xs low order h gives all below =
+    let later : ℕ = suc k + length (statements_of image part) in
+    let y : Kept = absolute_of (part_segment k part) part.size in
+    let bytes : List ℕ = bytes_at image part.base part.size in
+    let p = part_passed h in
+    let number : segment_number lines a y.id ≡ suc (length xs) =
+    number_after (kept lines a) xs (kept_parts image later parts) y all below in
+    let more : suc (length (xs ++ y ∷ [])) ≡ suc (suc (length xs)) =
+    (let e = length-append xs (y ∷ []) in omega arith) in
+    let rest = parts_pieces image parts (xs ++ y ∷ []) _ order.2 p.from (p.give gives.1)
+    (all ∙ sym (append_assoc xs (y ∷ []) (kept_parts image later parts)))
+    (one_below (k + 2) (later + 2) xs y (omega arith) below (omega arith)) in
+    (λ i. flat_map (pieces_of_run (number i)) (part_run image part parts order.1.some h gives i) ++ rest i)
+    ∙ (λ i. append-nil (pieces_of_run (suc (length xs)) (0, bytes)) i ++ pieces_from (more i) image parts)
 
 -- the pieces of a disassembly
-pub pieces_are : (image : List ℕ) (parts : List CodeRange) (a : Assignment)
-    (f : Fits (read_from 1 (whole image parts)) a) → AllByRecursion IsInside parts
-    → AllByRecursion IsSound (whole image parts)
-    → GiveFrom (read_from 1 (whole image parts)) a image 0 0 (whole image parts)
-    → pieces (read_from 1 (whole image parts)) a ≡ pieces_from 1 image parts
-pieces_are image parts a f inside sound gives =
-    let ls : List SourceLine = whole image parts in
-    let lines : List LineTree = read_from 1 ls in
-    let is = says_all ls in
-    let next = step lines a f 0 opening 0 line.Nomod51 sound.0 (at_start lines a f) is.0 in
-    let count : length lines ≡ 1 + length (rest_of image parts) = (let e = length_read 1 ls in omega (arith, e)) in
-    let all = kept_are image parts a f inside sound in
-    ap (flat_map (segment_pieces lines a)) all
-    ∙ parts_pieces lines a f image parts [] 1 0 opening 0 inside sound.1 next is.1 gives.1 count all tt
+pub pieces_are : {lines : List LineTree} {a : Assignment} (image : List ℕ) (parts : List CodeRange)
+    → AreInOrder 0 parts → LinesFrom lines a 0 (state opening 0 0) (whole image parts)
+    → GiveFrom lines a image 0 opening 0 (whole image parts) → pieces lines a ≡ pieces_from 1 image parts
+pieces_are {lines} {a} image parts order h gives =
+    let all = kept_are image parts order h in
+    ap (flat_map (segment_pieces lines a)) all ∙ parts_pieces image parts [] 0 order (next h) gives.1 all tt

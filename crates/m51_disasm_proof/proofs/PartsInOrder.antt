@@ -1,27 +1,28 @@
 -- The parts of a sound layout are in order, and none of them reaches into the next.
-use Rattle.m51_disasm_proof.proofs.Common.{◌≡◌, ◌≢◌, ℕ, zero, suc, ◌+◌, ◌<◌, ◌≤◌, ◌==◌, Bool, true, false, cond, List}
-use Rattle.m51_disasm_proof.proofs.Common.{[], ◌∷◌, map, Some, refl, sym, ap, ◌∙◌, subst, arith, ⊎_elim, slice_get}
-use Rattle.m51_disasm_proof.proofs.Common.{order, ltb-true, LayoutParts, CodeRange}
-use Rattle.std.proofs.Common.{◌⊎◌, inl, inr}
-use Rattle.std.specs.List.{filter}
+use Rattle.m51_disasm_proof.proofs.Common.{◌+◌, ◌-◌, ◌<◌, ◌==◌, ◌∙◌, ◌∷◌, ◌≡◌, ◌≢◌, ◌≤◌, Bool, CodeRange, LayoutParts}
+use Rattle.m51_disasm_proof.proofs.Common.{List, Some, [], ap, arith, common_steps, cond, false, map, order, refl}
+use Rattle.m51_disasm_proof.proofs.Common.{slice_get, subst, suc, sym, true, zero, ℕ}
+use Rattle.std.proofs.Common.{◌⊎◌, inl, inr, ⊎_elim}
 use Rattle.std.proofs.lemmas.Bool.{eqb-true}
+use Rattle.std.proofs.lemmas.List.Elements.{All-contains}
+use Rattle.std.specs.List.{filter}
 use Rattle.m51_cells.specs.Extent.{Meet, extent_of}
-use Rattle.m51_cells.specs.declared.extent.Extent.{Extent}
 use Rattle.m51_cells.specs.declared.kind.Kind.TheVariants as kind
-use Rattle.m51_module.specs.Cells.{extent_at, code_cell}
+use Rattle.m51_module.specs.Cells.{code_cell, extent_at}
 use Rattle.m51_module.specs.Conflict.{FirstPlain}
-use Rattle.m51_module.specs.Plan.{IsCodeSegment, IsPlaced, IsOverlaid}
+use Rattle.m51_module.specs.Plan.{IsCodeSegment, IsOverlaid, IsPlaced}
 use Rattle.m51_module.specs.Sound.{IsSound}
 use Rattle.m51_module.specs.declared.placed.Placed.{Placed}
-use Rattle.m51_disasm.specs.Parts.{placed_range, has_bytes, unit_ranges, parts_below, code_ranges}
-use Rattle.m51_asm.proofs.Members.{In, Every, Pairs, no_element, in_first, in_later, in_cons, in_append, in_map, at_in}
-use Rattle.m51_asm.proofs.Members.{pairs_append, pairs_map, pairs_weaker}
+use Rattle.m51_asm.proofs.Members.{Every, In, Pairs, at_in, contains_in, in_append, in_cons, in_first, in_later, in_map}
+use Rattle.m51_asm.proofs.Members.{no_element, pairs_append, pairs_map, pairs_weaker}
+use Rattle.m51_disasm.proofs.Placing.{all_inside}
+use Rattle.m51_disasm.specs.Parts.{IsInside, code_ranges, has_bytes, parts_below, placed_range, unit_ranges}
 use Rattle.m51_disasm_proof.specs.Sound.{HaveSizes}
 
--- these parts are in order from an address on, and none overlaps another
+-- these parts lie in program memory, in order from an address on, and none overlaps another
 abbrev pub AreInOrder : ℕ → List CodeRange → Type 0
 AreInOrder low [] = Unit {0}
-AreInOrder low (p ∷ ps) = (low ≤ p.base) × AreInOrder (p.base + p.size) ps
+AreInOrder low (p ∷ ps) = (low ≤ p.base) × IsInside p × AreInOrder (p.base + p.size) ps
 
 -- ---- of lists
 
@@ -31,7 +32,7 @@ unfolding Pairs Every
 pairs_by R [] h = tt
 pairs_by R (x ∷ xs) h = (
   λ y i. let at = at_in xs y i in h 0 (suc at.index) x y (omega arith) refl at.got,
-  pairs_by R xs (λ i j u v less one two. h (suc i) (suc j) u v (omega (arith, less)) one two),
+  pairs_by R xs (λ i j u v less one two. h (suc i) (suc j) u v (omega arith) one two),
 )
 
 kept_by : {A : Type 0} (b : Bool) (x y : A) (xs : List A) → In y (cond b (x ∷ xs) xs) → ((b ≡ true) × (x ≡ y)) ⊎ In y xs
@@ -90,18 +91,11 @@ no_meeting a b m n none some more =
     ⊎_elim
     (λ (below : b < a + m).
     ⊎_elim
-    (λ (under : a < b + n). absurd (⊎_elim
-    (λ (first : a < b). none (
-      code_cell b,
-      record { space = refl; from = omega (arith, first); below = below },
-      record { space = refl; from = omega arith; below = omega (arith, more) },
-    ))
-    (λ (first : b ≤ a). none (
-      code_cell a,
-      record { space = refl; from = omega arith; below = omega (arith, some) },
-      record { space = refl; from = first; below = under },
-    ))
-    (order a b)))
+    (λ (under : a < b + n). absurd (none (
+      code_cell (a + (b - a)),
+      record { space = refl; from = omega arith; below = omega arith },
+      record { space = refl; from = omega arith; below = omega arith },
+    )))
     (λ over. inr over)
     (order a (b + n)))
     (λ over. inl over)
@@ -112,27 +106,22 @@ module _ (l : LayoutParts) (sound : IsSound l) where
   unit_part index = placed_range (slice_get l.placed index)
 
   plain : (s : ℕ) (p : Placed) → IsPlaced l s p → IsCodeSegment p → IsOverlaid l s → ⊥
-  plain s p placed code over =
-      let same : over.0 ≡ p = cc (over.1, placed) in
-      (sound.fit s p placed).code code.kind (ap (λ (x : Placed). x.mark) (sym same) ∙ over.2)
-
-  code_extent : (p : Placed) → p.kind ≡ kind.Code → extent_at p ≡ extent_of kind.Code p.base p.size
-  code_extent p e = ap (λ k. extent_of k p.base p.size) e
+  plain s p placed code over = grind (arith, common_steps)
 
   placed_apart : (s t : ℕ) (p q : Placed) → s ≢ t → IsPlaced l s p → IsPlaced l t q → IsCodeSegment p → IsCodeSegment q
       → Apart (placed_range (Some p)) (placed_range (Some q))
   placed_apart s t p q ne one two code other =
       no_meeting p.base q.base p.size q.size
       (λ meet. sound.apart s t p q one two ne (FirstPlain (plain s p one code))
-      (subst (λ (e : Extent). Meet e (extent_at q)) (sym (code_extent p code.kind))
-      (subst (Meet (extent_of kind.Code p.base p.size)) (sym (code_extent q other.kind)) meet)))
+      (subst (λ k. Meet (extent_of k p.base p.size) (extent_at q)) (sym code.kind)
+      (subst (λ k. Meet (extent_of kind.Code p.base p.size) (extent_of k q.base q.size)) (sym other.kind) meet)))
 
   units_apart : Pairs Apart (map unit_part l.units)
   units_apart = pairs_map unit_part Apart l.units
       (pairs_by (λ s t. Apart (unit_part s) (unit_part t)) l.units (λ u v s t less one two.
       let p = sound.is_code u s one in
       let q = sound.is_code v t two in
-      let ne : s ≢ t = λ e. let same = sound.once u v t (one ∙ ap (λ x. Some x) e) two in omega (arith, less, same) in
+      let ne : s ≢ t = λ e. let same = sound.once u v t (one ∙ ap (λ x. Some x) e) two in omega arith in
       subst (λ o. Apart (placed_range o) (unit_part t)) (sym p.1)
       (subst (λ o. Apart (placed_range (Some p.0)) (placed_range o)) (sym q.1)
       (placed_apart s t p.0 q.0 ne p.1 q.1 p.2 q.2))))
@@ -145,37 +134,32 @@ module _ (l : LayoutParts) (sound : IsSound l) where
   all_apart : Pairs Apart all
   all_apart = pairs_filter Apart has_bytes (map unit_part l.units) units_apart
 
-  has_some : (p : CodeRange) → In p all → 0 < p.size
-  has_some p i = ltb-true 0 p.size (in_filter has_bytes (map unit_part l.units) p i).0
+  inside : (p : CodeRange) → In p all → IsInside p
+  inside p i = All-contains IsInside all p (all_inside l sound) (contains_in all p i)
 
   -- one of them ends before the other begins
   abbrev Before : CodeRange → CodeRange → Type 0
   Before p q = p.base + p.size ≤ q.base
 
+  at_base : (n : ℕ) (p : CodeRange) → In p (filter (λ unit. unit.base == n) all) → In p all × (p.base ≡ n)
+  at_base n p i = let r = in_filter (λ (unit : CodeRange). unit.base == n) all p i in (r.1, eqb-true p.base n r.0)
+
   below_from : (n : ℕ) (p : CodeRange) → In p (parts_below all n) → In p all × (p.base < n)
   unfolding parts_below
   below_from zero p i = absurd (no_element p i)
   below_from (suc n) p i = elim (in_append p (parts_below all n) (filter (λ unit. unit.base == n) all) i) [
-    | inl j ↦ let r = below_from n p j in let less = r.1 in (r.0, omega (arith, less))
-    | inr j ↦
-        let r = in_filter (λ (unit : CodeRange). unit.base == n) all p j in
-        let same = eqb-true p.base n r.0 in (r.1, omega (arith, same))
+    | inl j ↦ let r = below_from n p j in let less = r.1 in (r.0, omega arith)
+    | inr j ↦ let r = at_base n p j in let same = r.1 in (r.0, omega arith)
   ]
 
-  at_base : (n : ℕ) (p : CodeRange) → In p (filter (λ unit. unit.base == n) all) → In p all × (p.base ≡ n)
-  at_base n p i = let r = in_filter (λ (unit : CodeRange). unit.base == n) all p i in (r.1, eqb-true p.base n r.0)
-
-  not_here : (n : ℕ) (p q : CodeRange) → p.base ≡ n → q.base ≡ n → 0 < p.size → 0 < q.size → Apart p q → Before p q
-  not_here n p q one two some more apart = elim (apart some more) [
-    | inl e ↦ absurd (omega (arith, e, one, two, some))
-    | inr e ↦ absurd (omega (arith, e, one, two, more))
-  ]
-
-  earlier : (n : ℕ) (p q : CodeRange) → p.base < n → q.base ≡ n → 0 < p.size → 0 < q.size → Apart p q → Before p q
-  earlier n p q one two some more apart = elim (apart some more) [
-    | inl e ↦ e
-    | inr e ↦ absurd (omega (arith, e, one, two, more))
-  ]
+  in_turn : (p q : CodeRange) → p.base ≤ q.base → In p all → In q all → Apart p q → Before p q
+  in_turn p q le i j apart =
+      let some = (inside p i).some in
+      let more = (inside q j).some in
+      elim (apart some more) [
+        | inl e ↦ e
+        | inr e ↦ absurd (omega arith)
+      ]
 
   below_ordered : (n : ℕ) → Pairs Before (parts_below all n)
   unfolding parts_below Pairs
@@ -184,28 +168,30 @@ module _ (l : LayoutParts) (sound : IsSound l) where
       let here : List CodeRange = filter (λ unit. unit.base == n) all in
       pairs_append Before (parts_below all n) here (below_ordered n)
       (pairs_weaker Apart Before here
-      (λ p q i j apart. let a = at_base n p i in let b = at_base n q j in
-      not_here n p q a.1 b.1 (has_some p a.0) (has_some q b.0) apart)
+      (λ p q i j apart. let a = at_base n p i in let b = at_base n q j in in_turn p q (omega arith) a.0 b.0 apart)
       (pairs_filter Apart (λ (unit : CodeRange). unit.base == n) all all_apart))
       (λ p q i j.
       let a = below_from n p i in
       let b = at_base n q j in
-      let less = a.1 in
-      let same = b.1 in
-      let ne : p ≢ q = λ e. let f : p.base ≡ q.base = ap (λ (x : CodeRange). x.base) e in
-      omega (arith, f, less, same) in
-      earlier n p q less same (has_some p a.0) (has_some q b.0)
+      let ne : p ≢ q = λ e. let f : p.base ≡ q.base = ap (λ (x : CodeRange). x.base) e in omega arith in
+      in_turn p q (omega arith) a.0 b.0
       (pairs_both Apart all apart_back all_apart p q ne a.0 b.0))
 
-  in_order : (low : ℕ) (ps : List CodeRange) → ((p : CodeRange) → In p ps → low ≤ p.base) → Pairs Before ps
-      → AreInOrder low ps
+  in_order : (low : ℕ) (ps : List CodeRange) → ((p : CodeRange) → In p ps → low ≤ p.base)
+      → ((p : CodeRange) → In p ps → IsInside p) → Pairs Before ps → AreInOrder low ps
   unfolding Pairs Every
-  in_order low [] first h = tt
-  in_order low (p ∷ ps) first h = (first p (in_first p ps), in_order (p.base + p.size) ps (λ q i. h.0 q i) h.1)
+  in_order low [] first ins h = tt
+  in_order low (p ∷ ps) first ins h = (
+    first p (in_first p ps),
+    ins p (in_first p ps),
+    in_order (p.base + p.size) ps (λ q i. h.0 q i) (λ q i. ins q (in_later q p ps i)) h.1,
+  )
 
   pub parts_in_order : AreInOrder 0 (code_ranges l)
   unfolding code_ranges
-  parts_in_order = in_order 0 (parts_below all 0x10000) (λ p i. omega arith) (below_ordered 0x10000)
+  parts_in_order =
+      in_order 0 (parts_below all 0x10000) (λ p i. omega arith) (λ p i. inside p (below_from 0x10000 p i).0)
+      (below_ordered 0x10000)
 
   -- sizes of two bytes
   pub parts_small : HaveSizes l → (p : CodeRange) → In p (code_ranges l) → p.size < 65536

@@ -1,227 +1,235 @@
--- Bytes that are decoded as an instruction begin with its row.
-use Rattle.m51_disasm_proof.proofs.Common.{◌≡◌, ℕ, ◌+◌, ◌-◌, ◌*◌, ◌/◌, ◌%◌, ◌<◌, List, [], ◌∷◌, refl, subst, arith}
-use Rattle.m51_disasm_proof.proofs.Common.{⊎_elim, order, IfSome, Instr, IsRowAt, encoded}
-use Rattle.m51_isa.proofs.Distinct.{of_register}
-use Rattle.m51_isa.specs.Table.{OperandsFit, BeginsWith, decoded_at}
+-- What bytes are decoded as has these bytes, numbers that its fields have room for, and usual operands. At most one
+-- of them leads anywhere: to the target.
+use Rattle.m51_disasm_proof.proofs.Common.{◌%◌, ◌&&◌, ◌+◌, ◌<◌, ◌==◌, ◌||◌, ◌∙◌, ◌∷◌, ◌≡◌, AtR, Bool, Field, HasRoom}
+use Rattle.m51_disasm_proof.proofs.Common.{Imm, Instr, List, None, Nop, NotBit, Option, Plain, R, Slot, Some, Target}
+use Rattle.m51_disasm_proof.proofs.Common.{[], and_parts, ap, arith, common_steps, cond, encoded, false, field_in}
+use Rattle.m51_disasm_proof.proofs.Common.{get_or, is_among, map, nat_lt, not, number_of_slot, option_map, refl}
+use Rattle.m51_disasm_proof.proofs.Common.{slot_address, subst, sym, take, text_of, true, written_target, ℕ}
+use Rattle.std.proofs.Common.{◌*◌, ◌/◌}
+use Rattle.std.proofs.lemmas.Bool.{ltb-true}
+use Rattle.std.proofs.lemmas.List.FromFn.{get_or-map-range_with_len}
+use Rattle.std.specs.List.{range_with_len}
+use Rattle.std.specs.Option.{option_or}
+use Rattle.std.specs.Prelude.{IfSome}
+use Rattle.m51_isa.specs.Spelling.{Text}
+use Rattle.m51_isa.specs.Table.{decoded_at, length_of}
+use Rattle.m51_isa.specs.TextLaws.{kept}
+use Rattle.m51_isa.specs.declared.slot.Field.TheVariants as field
+use Rattle.m51_disasm.specs.Statements.{address_by, address_of}
+use Rattle.m51_disasm.specs.declared.line.Target.TheVariants as target
 
-of_digit : (P : ℕ → Type 0) → P 0 → P 1 → P 2 → P 3 → P 4 → P 5 → P 6 → P 7 → P 8 → P 9 → P 10 → P 11 → P 12 → P 13
-    → P 14 → P 15 → (n : ℕ) → n < 16 → P n
-of_digit P p0 p1 p2 p3 p4 p5 p6 p7 p8 p9 p10 p11 p12 p13 p14 p15 n h =
-    ⊎_elim (λ low. of_register P p0 p1 p2 p3 p4 p5 p6 p7 n low)
-    (λ high. let same : 8 + (n - 8) ≡ n = omega (arith, high) in
-    subst P same (of_register (λ m. P (8 + m)) p8 p9 p10 p11 p12 p13 p14 p15 (n - 8) (omega (arith, h, high))))
-    (order n 8)
+-- ---- room in fields
 
--- these two digits are those of an opcode that the bytes begin with, where they are decoded
-abbrev Decodes : ℕ → ℕ → ℕ → ℕ → Type 0
-Decodes high low second third =
-    IfSome (decoded_at (high * 16 + low) second third) (IsRowAt ((high * 16 + low) ∷ second ∷ third ∷ []))
+abbrev pub FitsIn : Field → ℕ → Type 0
+FitsIn field.Data16 n = n < 65536
+FitsIn field.Addr16 n = n < 65536
+FitsIn field.Addr11 n = n < 2048
+FitsIn at n = n < 256
 
-row : {bytes : List ℕ} {i : Instr} → OperandsFit i → BeginsWith bytes (encoded i) → IsRowAt bytes i
-row fits begins = record { fits = fits; begins = begins }
+-- the number of an operand has room where it is written
+abbrev pub FitsSlot : Slot → Type 0
+FitsSlot (R n) = n < 8
+FitsSlot (AtR n) = n < 2
+FitsSlot (Imm f) = FitsIn f.field f.number
+FitsSlot (Plain f) = FitsIn f.field f.number
+FitsSlot (NotBit f) = FitsIn f.field f.number
+FitsSlot s = Unit {0}
 
-column_0 : (second third : ℕ) → second < 256 → third < 256 → (high : ℕ) → high < 16 → Decodes high 0 second third
-column_0 second third h k =
-    of_digit (λ high. Decodes high 0 second third)
-    (row tt (refl, tt)) (row tt (refl, (refl, (refl, tt)))) (row tt (refl, (refl, (refl, tt))))
-    (row tt (refl, (refl, (refl, tt))))
-    (row tt (refl, (refl, tt))) (row tt (refl, (refl, tt))) (row tt (refl, (refl, tt))) (row tt (refl, (refl, tt)))
-    (row tt (refl, (refl, tt))) (row tt (refl, (omega (arith, h, k), (omega (arith, h, k), tt))))
-    (row tt (refl, (refl, tt)))
-    (row tt (refl, (refl, tt))) (row tt (refl, (refl, tt))) (row tt (refl, (refl, tt))) (row tt (refl, tt))
-    (row tt (refl, tt))
+kept_is : (at : Field) (n : ℕ) → FitsIn at n → kept at n ≡ n
+kept_is at n h = grind (arith, common_steps)
 
-column_1 : (second third : ℕ) → second < 256 → third < 256 → (high : ℕ) → high < 16 → Decodes high 1 second third
-column_1 second third h k =
-    of_digit (λ high. Decodes high 1 second third)
-    (row (omega (arith, h)) (omega (arith, h), (omega (arith, h), tt)))
-    (row (omega (arith, h)) (omega (arith, h), (omega (arith, h), tt)))
-    (row (omega (arith, h)) (omega (arith, h), (omega (arith, h), tt)))
-    (row (omega (arith, h)) (omega (arith, h), (omega (arith, h), tt)))
-    (row (omega (arith, h)) (omega (arith, h), (omega (arith, h), tt)))
-    (row (omega (arith, h)) (omega (arith, h), (omega (arith, h), tt)))
-    (row (omega (arith, h)) (omega (arith, h), (omega (arith, h), tt)))
-    (row (omega (arith, h)) (omega (arith, h), (omega (arith, h), tt)))
-    (row (omega (arith, h)) (omega (arith, h), (omega (arith, h), tt)))
-    (row (omega (arith, h)) (omega (arith, h), (omega (arith, h), tt)))
-    (row (omega (arith, h)) (omega (arith, h), (omega (arith, h), tt)))
-    (row (omega (arith, h)) (omega (arith, h), (omega (arith, h), tt)))
-    (row (omega (arith, h)) (omega (arith, h), (omega (arith, h), tt)))
-    (row (omega (arith, h)) (omega (arith, h), (omega (arith, h), tt)))
-    (row (omega (arith, h)) (omega (arith, h), (omega (arith, h), tt)))
-    (row (omega (arith, h)) (omega (arith, h), (omega (arith, h), tt)))
+-- so a field holds it
+pub slot_kept : (s : Slot) → FitsSlot s → HasRoom s
+slot_kept (Imm f) h = ap (λ n. Imm (record f { number = n })) (kept_is f.field f.number h)
+slot_kept (Plain f) h = ap (λ n. Plain (record f { number = n })) (kept_is f.field f.number h)
+slot_kept (NotBit f) h = ap (λ n. NotBit (record f { number = n })) (kept_is f.field f.number h)
+slot_kept s h = refl
 
-column_2 : (second third : ℕ) → second < 256 → third < 256 → (high : ℕ) → high < 16 → Decodes high 2 second third
-column_2 second third h k =
-    of_digit (λ high. Decodes high 2 second third)
-    (row tt (refl, (omega (arith, h, k), (omega (arith, h, k), tt))))
-    (row tt (refl, (omega (arith, h, k), (omega (arith, h, k), tt))))
-    (row tt (refl, tt)) (row tt (refl, tt)) (row tt (refl, (refl, tt))) (row tt (refl, (refl, tt)))
-    (row tt (refl, (refl, tt)))
-    (row tt (refl, (refl, tt))) (row tt (refl, (refl, tt))) (row tt (refl, (refl, tt))) (row tt (refl, (refl, tt)))
-    (row tt (refl, (refl, tt))) (row tt (refl, (refl, tt))) (row tt (refl, (refl, tt))) (row (omega arith) (refl, tt))
-    (row (omega arith) (refl, tt))
+-- an instruction that these bytes are decoded as
+pub record IsDecoded (bytes : List ℕ) (i : Instr) : Type 0 where
+  pub row : encoded i ≡ take (length_of i) bytes
+  pub first : FitsSlot (text_of i).first
+  pub second : FitsSlot (text_of i).second
+  pub third : FitsSlot (text_of i).third
 
-column_3 : (second third : ℕ) → second < 256 → third < 256 → (high : ℕ) → high < 16 → Decodes high 3 second third
-column_3 second third h k =
-    of_digit (λ high. Decodes high 3 second third)
-    (row tt (refl, tt)) (row tt (refl, tt)) (row tt (refl, tt)) (row tt (refl, tt)) (row tt (refl, (refl, (refl, tt))))
-    (row tt (refl, (refl, (refl, tt)))) (row tt (refl, (refl, (refl, tt)))) (row tt (refl, tt)) (row tt (refl, tt))
-    (row tt (refl, tt))
-    (row tt (refl, tt)) (row tt (refl, tt)) (row tt (refl, tt)) (row tt (refl, tt)) (row (omega arith) (refl, tt))
-    (row (omega arith) (refl, tt))
+-- ---- all opcodes
 
-column_4 : (second third : ℕ) → second < 256 → third < 256 → (high : ℕ) → high < 16 → Decodes high 4 second third
-column_4 second third h k =
-    of_digit (λ high. Decodes high 4 second third)
-    (row tt (refl, tt)) (row tt (refl, tt)) (row tt (refl, (refl, tt))) (row tt (refl, (refl, tt)))
-    (row tt (refl, (refl, tt)))
-    (row tt (refl, (refl, tt))) (row tt (refl, (refl, tt))) (row tt (refl, (refl, tt))) (row tt (refl, tt))
-    (row tt (refl, (refl, tt)))
-    (row tt (refl, tt)) (row tt (refl, (refl, (refl, tt)))) (row tt (refl, tt)) (row tt (refl, tt)) (row tt (refl, tt))
-    (row tt (refl, tt))
+pub and_all : (a b c : Bool) → (a && (b && c)) ≡ true → (a ≡ true) × (b ≡ true) × (c ≡ true)
+and_all a b c h = let one = and_parts a (b && c) h in let two = and_parts b c one.1 in (one.0, two.0, two.1)
 
-column_5 : (second third : ℕ) → second < 256 → third < 256 → (high : ℕ) → high < 16 → Decodes high 5 second third
-column_5 second third h k =
-    of_digit (λ high. Decodes high 5 second third)
-    (row tt (refl, (refl, tt))) (row tt (refl, (refl, tt))) (row tt (refl, (refl, tt))) (row tt (refl, (refl, tt)))
-    (row tt (refl, (refl, tt))) (row tt (refl, (refl, tt))) (row tt (refl, (refl, tt)))
-    (row tt (refl, (refl, (refl, tt))))
-    (row tt (refl, (refl, (refl, tt)))) (row tt (refl, (refl, tt))) tt (row tt (refl, (refl, (refl, tt))))
-    (row tt (refl, (refl, tt)))
-    (row tt (refl, (refl, (refl, tt)))) (row tt (refl, (refl, tt))) (row tt (refl, (refl, tt)))
+abbrev is_fit : Slot → Bool
+is_fit (R n) = nat_lt n 8
+is_fit (AtR n) = nat_lt n 2
+is_fit s = true
 
-column_6 : (second third : ℕ) → second < 256 → third < 256 → (high : ℕ) → high < 16 → Decodes high 6 second third
-column_6 second third h k =
-    of_digit (λ high. Decodes high 6 second third)
-    (row (omega arith) (refl, tt)) (row (omega arith) (refl, tt)) (row (omega arith) (refl, tt))
-    (row (omega arith) (refl, tt))
-    (row (omega arith) (refl, tt)) (row (omega arith) (refl, tt)) (row (omega arith) (refl, tt))
-    (row (omega arith) (refl, (refl, tt)))
-    (row (omega arith) (refl, (refl, tt))) (row (omega arith) (refl, tt)) (row (omega arith) (refl, (refl, tt)))
-    (row (omega arith) (refl, (refl, (refl, tt)))) (row (omega arith) (refl, tt)) (row (omega arith) (refl, tt))
-    (row (omega arith) (refl, tt)) (row (omega arith) (refl, tt))
+abbrev all_fit : Text → Bool
+all_fit t = is_fit t.first && (is_fit t.second && is_fit t.third)
 
-column_7 : (second third : ℕ) → second < 256 → third < 256 → (high : ℕ) → high < 16 → Decodes high 7 second third
-column_7 second third h k =
-    of_digit (λ high. Decodes high 7 second third)
-    (row (omega arith) (refl, tt)) (row (omega arith) (refl, tt)) (row (omega arith) (refl, tt))
-    (row (omega arith) (refl, tt))
-    (row (omega arith) (refl, tt)) (row (omega arith) (refl, tt)) (row (omega arith) (refl, tt))
-    (row (omega arith) (refl, (refl, tt)))
-    (row (omega arith) (refl, (refl, tt))) (row (omega arith) (refl, tt)) (row (omega arith) (refl, (refl, tt)))
-    (row (omega arith) (refl, (refl, (refl, tt)))) (row (omega arith) (refl, tt)) (row (omega arith) (refl, tt))
-    (row (omega arith) (refl, tt)) (row (omega arith) (refl, tt))
+module _ (second third : ℕ) where
+  -- the number in a field that begins at a byte
+  abbrev in_field : ℕ → Field → ℕ → ℕ
+  in_field first field.Data16 byte = second * 256 + third
+  in_field first field.Addr16 byte = second * 256 + third
+  in_field first field.Addr11 byte = first / 32 * 256 + second
+  in_field first at byte = cond (byte == 1) second third
 
-column_8 : (second third : ℕ) → second < 256 → third < 256 → (high : ℕ) → high < 16 → Decodes high 8 second third
-column_8 second third h k =
-    of_digit (λ high. Decodes high 8 second third)
-    (row (omega arith) (refl, tt)) (row (omega arith) (refl, tt)) (row (omega arith) (refl, tt))
-    (row (omega arith) (refl, tt))
-    (row (omega arith) (refl, tt)) (row (omega arith) (refl, tt)) (row (omega arith) (refl, tt))
-    (row (omega arith) (refl, (refl, tt)))
-    (row (omega arith) (refl, (refl, tt))) (row (omega arith) (refl, tt)) (row (omega arith) (refl, (refl, tt)))
-    (row (omega arith) (refl, (refl, (refl, tt)))) (row (omega arith) (refl, tt)) (row (omega arith) (refl, (refl, tt)))
-    (row (omega arith) (refl, tt)) (row (omega arith) (refl, tt))
+  abbrev in_slot : ℕ → Slot → ℕ
+  in_slot first (Imm f) = in_field first f.field f.byte
+  in_slot first (Plain f) = in_field first f.field f.byte
+  in_slot first (NotBit f) = in_field first f.field f.byte
+  in_slot first s = 0
 
-column_9 : (second third : ℕ) → second < 256 → third < 256 → (high : ℕ) → high < 16 → Decodes high 9 second third
-column_9 second third h k =
-    of_digit (λ high. Decodes high 9 second third)
-    (row (omega arith) (refl, tt)) (row (omega arith) (refl, tt)) (row (omega arith) (refl, tt))
-    (row (omega arith) (refl, tt))
-    (row (omega arith) (refl, tt)) (row (omega arith) (refl, tt)) (row (omega arith) (refl, tt))
-    (row (omega arith) (refl, (refl, tt)))
-    (row (omega arith) (refl, (refl, tt))) (row (omega arith) (refl, tt)) (row (omega arith) (refl, (refl, tt)))
-    (row (omega arith) (refl, (refl, (refl, tt)))) (row (omega arith) (refl, tt)) (row (omega arith) (refl, (refl, tt)))
-    (row (omega arith) (refl, tt)) (row (omega arith) (refl, tt))
+  -- the three bytes, as rows of an addr11 and of a word write them
+  abbrev written_by : ℕ → Bool → Bool → List ℕ
+  written_by first true word =
+      (first % 32 + 32 * ((first / 32 * 256 + second) / 256)) ∷ ((first / 32 * 256 + second) % 256) ∷ third ∷ []
+  written_by first false true = first ∷ ((second * 256 + third) / 256) ∷ ((second * 256 + third) % 256) ∷ []
+  written_by first false false = first ∷ second ∷ third ∷ []
 
-column_a : (second third : ℕ) → second < 256 → third < 256 → (high : ℕ) → high < 16 → Decodes high 10 second third
-column_a second third h k =
-    of_digit (λ high. Decodes high 10 second third)
-    (row (omega arith) (refl, tt)) (row (omega arith) (refl, tt)) (row (omega arith) (refl, tt))
-    (row (omega arith) (refl, tt))
-    (row (omega arith) (refl, tt)) (row (omega arith) (refl, tt)) (row (omega arith) (refl, tt))
-    (row (omega arith) (refl, (refl, tt)))
-    (row (omega arith) (refl, (refl, tt))) (row (omega arith) (refl, tt)) (row (omega arith) (refl, (refl, tt)))
-    (row (omega arith) (refl, (refl, (refl, tt)))) (row (omega arith) (refl, tt)) (row (omega arith) (refl, (refl, tt)))
-    (row (omega arith) (refl, tt)) (row (omega arith) (refl, tt))
+  abbrev written : ℕ → List ℕ
+  written first = written_by first (first % 16 == 1) (first == 0x02 || (first == 0x12 || first == 0x90))
 
-column_b : (second third : ℕ) → second < 256 → third < 256 → (high : ℕ) → high < 16 → Decodes high 11 second third
-column_b second third h k =
-    of_digit (λ high. Decodes high 11 second third)
-    (row (omega arith) (refl, tt)) (row (omega arith) (refl, tt)) (row (omega arith) (refl, tt))
-    (row (omega arith) (refl, tt))
-    (row (omega arith) (refl, tt)) (row (omega arith) (refl, tt)) (row (omega arith) (refl, tt))
-    (row (omega arith) (refl, (refl, tt)))
-    (row (omega arith) (refl, (refl, tt))) (row (omega arith) (refl, tt)) (row (omega arith) (refl, (refl, tt)))
-    (row (omega arith) (refl, (refl, (refl, tt)))) (row (omega arith) (refl, tt)) (row (omega arith) (refl, (refl, tt)))
-    (row (omega arith) (refl, tt)) (row (omega arith) (refl, tt))
+  -- what is compared: the bytes, the numbers, and whether registers exist
+  abbrev Seen : Type 0
+  Seen = List ℕ × List ℕ × Bool
 
-column_c : (second third : ℕ) → second < 256 → third < 256 → (high : ℕ) → high < 16 → Decodes high 12 second third
-column_c second third h k =
-    of_digit (λ high. Decodes high 12 second third)
-    (row (omega arith) (refl, tt)) (row (omega arith) (refl, tt)) (row (omega arith) (refl, tt))
-    (row (omega arith) (refl, tt))
-    (row (omega arith) (refl, tt)) (row (omega arith) (refl, tt)) (row (omega arith) (refl, tt))
-    (row (omega arith) (refl, (refl, tt)))
-    (row (omega arith) (refl, (refl, tt))) (row (omega arith) (refl, tt)) (row (omega arith) (refl, (refl, tt)))
-    (row (omega arith) (refl, (refl, (refl, tt)))) (row (omega arith) (refl, tt)) (row (omega arith) (refl, (refl, tt)))
-    (row (omega arith) (refl, tt)) (row (omega arith) (refl, tt))
+  abbrev seen : List ℕ → (Slot → ℕ) → Bool → Text → Seen
+  seen bytes number fit t = (bytes, number t.first ∷ number t.second ∷ number t.third ∷ [], fit)
 
-column_d : (second third : ℕ) → second < 256 → third < 256 → (high : ℕ) → high < 16 → Decodes high 13 second third
-column_d second third h k =
-    of_digit (λ high. Decodes high 13 second third)
-    (row (omega arith) (refl, tt)) (row (omega arith) (refl, tt)) (row (omega arith) (refl, tt))
-    (row (omega arith) (refl, tt))
-    (row (omega arith) (refl, tt)) (row (omega arith) (refl, tt)) (row (omega arith) (refl, tt))
-    (row (omega arith) (refl, (refl, tt)))
-    (row (omega arith) (refl, (refl, tt))) (row (omega arith) (refl, tt)) (row (omega arith) (refl, (refl, tt)))
-    (row (omega arith) (refl, (refl, (refl, tt)))) (row (omega arith) (refl, tt)) (row (omega arith) (refl, (refl, tt)))
-    (row (omega arith) (refl, tt)) (row (omega arith) (refl, tt))
+  abbrev of_row : ℕ → Instr → Seen
+  of_row first i = seen (encoded i) number_of_slot (all_fit (text_of i)) (text_of i)
 
-column_e : (second third : ℕ) → second < 256 → third < 256 → (high : ℕ) → high < 16 → Decodes high 14 second third
-column_e second third h k =
-    of_digit (λ high. Decodes high 14 second third)
-    (row (omega arith) (refl, tt)) (row (omega arith) (refl, tt)) (row (omega arith) (refl, tt))
-    (row (omega arith) (refl, tt))
-    (row (omega arith) (refl, tt)) (row (omega arith) (refl, tt)) (row (omega arith) (refl, tt))
-    (row (omega arith) (refl, (refl, tt)))
-    (row (omega arith) (refl, (refl, tt))) (row (omega arith) (refl, tt)) (row (omega arith) (refl, (refl, tt)))
-    (row (omega arith) (refl, (refl, (refl, tt)))) (row (omega arith) (refl, tt)) (row (omega arith) (refl, (refl, tt)))
-    (row (omega arith) (refl, tt)) (row (omega arith) (refl, tt))
+  abbrev of_bytes : ℕ → Instr → Seen
+  of_bytes first i = seen (take (length_of i) (written first)) (in_slot first) true (text_of i)
 
-column_f : (second third : ℕ) → second < 256 → third < 256 → (high : ℕ) → high < 16 → Decodes high 15 second third
-column_f second third h k =
-    of_digit (λ high. Decodes high 15 second third)
-    (row (omega arith) (refl, tt)) (row (omega arith) (refl, tt)) (row (omega arith) (refl, tt))
-    (row (omega arith) (refl, tt))
-    (row (omega arith) (refl, tt)) (row (omega arith) (refl, tt)) (row (omega arith) (refl, tt))
-    (row (omega arith) (refl, (refl, tt)))
-    (row (omega arith) (refl, (refl, tt))) (row (omega arith) (refl, tt)) (row (omega arith) (refl, (refl, tt)))
-    (row (omega arith) (refl, (refl, (refl, tt)))) (row (omega arith) (refl, tt)) (row (omega arith) (refl, (refl, tt)))
-    (row (omega arith) (refl, tt)) (row (omega arith) (refl, tt))
+  abbrev decoded_as : (ℕ → Instr → Seen) → ℕ → Option Seen
+  decoded_as f first = option_map (f first) (decoded_at first second third)
 
--- bytes that are decoded begin with the row of their instruction
-pub decoded_rows : (first second third : ℕ) → first < 256 → second < 256 → third < 256
-    → IfSome (decoded_at first second third) (IsRowAt (first ∷ second ∷ third ∷ []))
-decoded_rows first second third f s t =
-    let same : first / 16 * 16 + first % 16 ≡ first = omega arith in
-    subst (λ byte. IfSome (decoded_at byte second third) (IsRowAt (byte ∷ second ∷ third ∷ []))) same
-    (of_digit (λ low. Decodes (first / 16) low second third)
-    (column_0 second third s t (first / 16) (omega (arith, f)))
-    (column_1 second third s t (first / 16) (omega (arith, f)))
-    (column_2 second third s t (first / 16) (omega (arith, f)))
-    (column_3 second third s t (first / 16) (omega (arith, f)))
-    (column_4 second third s t (first / 16) (omega (arith, f)))
-    (column_5 second third s t (first / 16) (omega (arith, f)))
-    (column_6 second third s t (first / 16) (omega (arith, f)))
-    (column_7 second third s t (first / 16) (omega (arith, f)))
-    (column_8 second third s t (first / 16) (omega (arith, f)))
-    (column_9 second third s t (first / 16) (omega (arith, f)))
-    (column_a second third s t (first / 16) (omega (arith, f)))
-    (column_b second third s t (first / 16) (omega (arith, f)))
-    (column_c second third s t (first / 16) (omega (arith, f)))
-    (column_d second third s t (first / 16) (omega (arith, f)))
-    (column_e second third s t (first / 16) (omega (arith, f)))
-    (column_f second third s t (first / 16) (omega (arith, f)))
-    (first % 16) (omega arith))
+  all_are : map (decoded_as of_row) (range_with_len 0 256) ≡ map (decoded_as of_bytes) (range_with_len 0 256)
+  all_are = refl
+
+  one_is : (first : ℕ) → first < 256 → decoded_as of_row first ≡ decoded_as of_bytes first
+  one_is first f =
+      sym (get_or-map-range_with_len (decoded_as of_row) 0 256 first first None f (omega arith))
+      ∙ ap (λ l. get_or l first None) all_are
+      ∙ get_or-map-range_with_len (decoded_as of_bytes) 0 256 first first None f (omega arith)
+
+module _ (first second third : ℕ) (f : first < 256) (s : second < 256) (t : third < 256) where
+  written_is : (b c : Bool) → written_by second third first b c ≡ first ∷ second ∷ third ∷ []
+  written_is b c = grind (arith, common_steps)
+
+  field_fits : (at : Field) (byte : ℕ) → FitsIn at (in_field second third first at byte)
+  field_fits field.Data16 byte = omega arith
+  field_fits field.Addr16 byte = omega arith
+  field_fits field.Addr11 byte = omega arith
+  field_fits at byte = one_of (byte == 1)
+    where
+      one_of : (b : Bool) → cond b second third < 256
+      one_of true = s
+      one_of false = t
+
+  slot_fits : (x : Slot) → is_fit x ≡ true → number_of_slot x ≡ in_slot second third first x → FitsSlot x
+  slot_fits (R n) fit e = ltb-true n 8 fit
+  slot_fits (AtR n) fit e = ltb-true n 2 fit
+  slot_fits (Imm x) fit e = subst (FitsIn x.field) (sym e) (field_fits x.field x.byte)
+  slot_fits (Plain x) fit e = subst (FitsIn x.field) (sym e) (field_fits x.field x.byte)
+  slot_fits (NotBit x) fit e = subst (FitsIn x.field) (sym e) (field_fits x.field x.byte)
+  slot_fits x fit e = tt
+
+  by_row : (o : Option Instr)
+      → option_map (of_row second third first) o ≡ option_map (of_bytes second third first) o
+      → IfSome o (IsDecoded (first ∷ second ∷ third ∷ []))
+  by_row None e = tt
+  by_row (Some i) e =
+      let same : of_row second third first i ≡ of_bytes second third first i = cc e in
+      let fit = and_all (is_fit (text_of i).first) (is_fit (text_of i).second) (is_fit (text_of i).third)
+      (ap (λ (x : Seen second third). x.2) same) in
+      let numbers = ap (λ (x : Seen second third). x.1) same in
+      record {
+        row = ap (λ (x : Seen second third). x.0) same
+            ∙ ap (take (length_of i)) (written_is (first % 16 == 1)
+            (first == 0x02 || (first == 0x12 || first == 0x90)));
+        first = slot_fits (text_of i).first fit.0 (cc numbers);
+        second = slot_fits (text_of i).second fit.1 (cc numbers);
+        third = slot_fits (text_of i).third fit.2 (cc numbers);
+      }
+
+  -- what three bytes are decoded as is written with them, and its numbers have room
+  pub decoded_rows : IfSome (decoded_at first second third) (IsDecoded (first ∷ second ∷ third ∷ []))
+  decoded_rows = by_row (decoded_at first second third) (one_is second third first f)
+
+abbrev pub is_data : Field → Bool
+is_data field.Data = true
+is_data field.Data16 = true
+is_data other = false
+
+abbrev pub is_bit : Field → Bool
+is_bit field.Bit = true
+is_bit other = false
+
+-- data are written after #, an address is not, and only a bit is written after /
+abbrev pub is_usual : Slot → Bool
+is_usual (Imm f) = is_data f.field
+is_usual (Plain f) = not (is_data f.field)
+is_usual (NotBit f) = is_bit f.field
+is_usual s = true
+
+pub rows_usual : (i : Instr) → (is_usual (text_of i).first ≡ true) × (is_usual (text_of i).second ≡ true)
+    × (is_usual (text_of i).third ≡ true)
+rows_usual i = grind (arith, common_steps)
+
+-- a target that is written as a label or as a number
+pub data LeadsTo (address : ℕ) (t : Target) : Type 0 where
+  ByLabel : t ≡ target.Label address → LeadsTo address t
+  ByNumber : t ≡ target.Number address → LeadsTo address t
+
+-- the address to which an operand leads, if there is one, is that of the target
+abbrev pub IsLed : Target → Option ℕ → Type 0
+IsLed t o = (address : ℕ) → o ≡ Some address → LeadsTo address t
+
+pub record AreLed (t : Target) (next : ℕ) (x : Text) : Type 0 where
+  pub first : IsLed t (slot_address next (field_in x.first))
+  pub second : IsLed t (slot_address next (field_in x.second))
+  pub third : IsLed t (slot_address next (field_in x.third))
+
+abbrev at_most_one : Option ℕ → Option ℕ → Option ℕ → Bool
+at_most_one None None c = true
+at_most_one None (Some b) None = true
+at_most_one (Some a) None None = true
+at_most_one a b c = false
+
+one_leads : (next : ℕ) (i : Instr)
+    → at_most_one (slot_address next (field_in (text_of i).first)) (slot_address next (field_in (text_of i).second))
+    (slot_address next (field_in (text_of i).third)) ≡ true
+unfolding address_by
+one_leads next Nop = refl
+one_leads next i = refl
+
+written_as : (address : ℕ) (b : Bool) → LeadsTo address (cond b (target.Label address) (target.Number address))
+written_as address true = ByLabel refl
+written_as address false = ByNumber refl
+
+nowhere : (t : Target) → IsLed t None
+nowhere t address e = absurd (cc e)
+
+leads_to : (begin : List ℕ) (o : Option ℕ) → IsLed (written_target begin o) o
+leads_to begin o address e =
+    subst (λ x. LeadsTo address (written_target begin x)) (sym e) (written_as address (is_among begin address))
+
+by_option : (begin : List ℕ) (a b c : Option ℕ) → at_most_one a b c ≡ true
+    → let t = written_target begin (option_or a (option_or b c)) in IsLed t a × IsLed t b × IsLed t c
+by_option begin None None c one = (nowhere _, nowhere _, leads_to begin c)
+by_option begin None (Some b) None one = (nowhere _, leads_to begin (Some b), nowhere _)
+by_option begin (Some a) None None one = (leads_to begin (Some a), nowhere _, nowhere _)
+by_option begin None (Some b) (Some c) one = absurd (cc one)
+by_option begin (Some a) None (Some c) one = absurd (cc one)
+by_option begin (Some a) (Some b) c one = absurd (cc one)
+
+-- the operands of a row lead to the target that is written
+pub rows_led : (begin : List ℕ) (next : ℕ) (i : Instr)
+    → AreLed (written_target begin (address_of next (text_of i))) next (text_of i)
+rows_led begin next i =
+    let led = by_option begin (slot_address next (field_in (text_of i).first))
+    (slot_address next (field_in (text_of i).second)) (slot_address next (field_in (text_of i).third))
+    (one_leads next i) in
+    record { first = led.0; second = led.1; third = led.2 }

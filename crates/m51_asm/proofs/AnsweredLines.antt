@@ -1,42 +1,102 @@
--- The answer of a text whose lines are placed: its faults, or its module and rows.
-use Rattle.m51_asm.proofs.Common.{◌≡◌, ℕ, suc, ◌≤◌, ◌==◌, false, List, [], ◌∷◌, ◌++◌, drop, take, length, Result, Ok}
-use Rattle.m51_asm.proofs.Common.{Err, refl, ap, sym, ◌∙◌, arith, length-take, Fault, Row, SourceFile, StmtTree}
-use Rattle.m51_asm.proofs.Common.{LineTree, Assignment, Faults}
-use Rattle.m51_asm.proofs.Common.{content_or_faults, rows_from, rows, faults_from, content_faults, IsGivenTo, AreFree}
-use Rattle.m51_asm.proofs.Common.{IsText}
+-- The first line that has a fault by the lines above it gives the answer.
+use Rattle.m51_asm.proofs.Common.{◌≡◌, ℕ, zero, suc, ◌+◌, ◌<◌, ◌≤◌, List, [], ◌∷◌, length, Option, Some, None, refl, ap}
+use Rattle.m51_asm.proofs.Common.{◌∙◌, slice_get, arith, LineTree, Assignment, content_faults, Faults, first_fault}
+use Rattle.m51_asm.proofs.Common.{content_or_faults, AreFree, IsFirstFault, Lines, map, get_or, option_map, line_tree}
+use Rattle.m51_asm.proofs.Common.{LinePlace, IsPlaceOf, ArePlaces, ◌==◌, false, ◌++◌, take, Ok, Err, sym, length-take}
+use Rattle.m51_asm.proofs.Common.{Fault, Row, SourceFile, StmtTree, rows_from, rows, faults_from, IsGivenTo, IsText}
+use Rattle.m51_asm.proofs.Common.{Result}
+use Rattle.m51_asm.specs.PlacedFaults.{placed_fault}
+use Rattle.m51_asm.specs.ContentFaults.{fault_of_line, content_fault}
+use Rattle.m51_asm.specs.Answer.{fault_or, placed_or_fault, answer_of_lines, Gives}
+use Rattle.m51_text.specs.Answer.{TextTree, Faults as TextFaults, statements_of, with_statement}
+use Rattle.m51_asm.specs.AnswerLaws.{HasOneAnswer}
+use Rattle.m51_asm.proofs.OneAssignment.{same}
+use Rattle.m51_asm.proofs.AnAssignment.{fitting, fits}
+use Rattle.std.proofs.lemmas.Option.{slice_get-map, slice_get_read, slice_get-get_or}
+use Rattle.m51_text.specs.declared.text.Line.{Line}
 use Rattle.m51_text.specs.Faults.{faults_of}
-use Rattle.m51_text.specs.Answer.{statements_of, with_statement}
-use Rattle.std.proofs.Common.{IfOk}
+use Rattle.std.proofs.Math.Seq.{drop-length}
 use Rattle.std.proofs.lemmas.List.{append-nil}
 use Rattle.m51_module.specs.declared.parts.ModuleParts.{ModuleParts}
 use Rattle.m51_text.specs.Said.{said}
 use Rattle.m51_text.specs.Text.{file_lines, text_lines, TextLine}
 use Rattle.m51_asm.specs.declared.contents.Contents.{Contents}
-use Rattle.m51_asm.specs.Answer.{Gives, answer_of_lines}
-use Rattle.m51_asm.specs.ContentFaults.{content_fault}
 use Rattle.m51_asm.specs.Parts.{parts}
-use Rattle.m51_asm.proofs.FirstFaults.{content_answer}
 use Rattle.m51_asm.proofs.GoodLines.{found_are}
 
-pub if_ok : {T E : Type 0} (r : Result T E) (P Q : T → Type 0) → ((t : T) → P t → Q t) → IfOk r P → IfOk r Q
-if_ok (Ok t) P Q f h = f t h
-if_ok (Err e) P Q f h = tt
+-- a number further on
+pub moved : (n k : ℕ) → suc n + k ≡ n + suc k
+moved n k = omega arith
 
-none_left : {A : Type 0} (xs : List A) → drop (length xs) xs ≡ []
-none_left [] = refl
-none_left (x ∷ xs) = none_left xs
+module _ (fault : ℕ → Option ℕ) where
+  no_fault : (lines : List LineTree) (n : ℕ) → ((m : ℕ) → n ≤ m → m < n + length lines → fault m ≡ None)
+      → first_fault fault n lines ≡ None
+  no_fault [] n h = refl
+  no_fault (l ∷ lines) n h =
+      ap (λ o. fault_or l o (first_fault fault (suc n) lines)) (h n (omega arith) (omega arith))
+      ∙ no_fault lines (suc n) (λ m low up. h m (omega arith) (omega arith))
+
+  fault_first : (lines : List LineTree) (n k m : ℕ) (line : LineTree) (number : ℕ) → slice_get lines k ≡ Some line
+      → m ≡ n + k → fault m ≡ Some number → ((j : ℕ) → n ≤ j → j < m → fault j ≡ None)
+      → first_fault fault n lines ≡ Some (fault_of_line line number)
+  fault_first [] n k m line number is at found earlier = absurd (cc is)
+  fault_first (l ∷ lines) n zero m line number is at found earlier =
+      let same : l ≡ line = cc is in
+      let here : n ≡ m = omega arith in
+      λ i. fault_or (same i) ((ap fault here ∙ found) i) (first_fault fault (suc n) lines)
+  fault_first (l ∷ lines) n (suc k) m line number is at found earlier =
+      ap (λ o. fault_or l o (first_fault fault (suc n) lines)) (earlier n (omega arith) (omega arith))
+      ∙ fault_first lines (suc n) k m line number is (omega arith) found (λ j low up. earlier j (omega arith) up)
+
+pub fault_answer : (file : List ℕ) (lines : List LineTree) (a : Assignment) (k number : ℕ) (line : LineTree)
+    → slice_get lines k ≡ Some line
+    → IsFirstFault lines a k number → answer_of_lines file lines a ≡ Faults (fault_of_line line number ∷ [])
+unfolding answer_of_lines
+fault_answer file lines a k number line is h =
+    ap (placed_or_fault file lines a)
+    (fault_first (placed_fault lines a) lines 0 k k line number is (omega arith) h.found (λ j low up. h.earlier j up))
+
+pub content_answer : (file : List ℕ) (lines : List LineTree) (a : Assignment) → AreFree lines a (length lines)
+    → answer_of_lines file lines a ≡ content_or_faults file lines a (content_faults lines a)
+unfolding answer_of_lines
+content_answer file lines a h =
+    ap (placed_or_fault file lines a) (no_fault (placed_fault lines a) lines 0 (λ m low up. h m (omega arith)))
+
+-- the answer of a text, and no other
+pub one_answer : (file : List ℕ) (text : TextTree) → HasOneAnswer file text
+one_answer file (TextFaults faults) = record { answer = Faults faults; is = refl; only = λ other h. h }
+one_answer file (Lines lines) = record {
+  answer = answer_of_lines file lines (fitting lines);
+  is = λ a f. ap (answer_of_lines file lines) (same (fits lines) f);
+  only = λ other h. h (fitting lines) (fits lines);
+}
+
+pub line_at : (lines : List Line) (k : ℕ) (line : Line) → k < length lines → line ≡ get_or lines k line
+    → slice_get (map line_tree lines) k ≡ Some (line_tree line)
+line_at lines k line within is =
+    slice_get-map line_tree lines k
+    ∙ ap (option_map line_tree) (slice_get_read lines (length lines) k line refl within is)
+
+-- a line that is read in a loop over the lines of a text and their places, and its place
+pub read_at : (lines : List Line) (a : Assignment) (places : List LinePlace) → ArePlaces (map line_tree lines) a places
+    → (k : ℕ) → k < length lines → k < length places
+    → (line : Line) → line ≡ get_or lines k line → (d : LinePlace)
+    → (slice_get (map line_tree lines) k ≡ Some (line_tree line))
+    × IsPlaceOf (map line_tree lines) a k (get_or places k d)
+read_at lines a places each k within room line is d =
+    (line_at lines k line within is, each k (get_or places k d) (slice_get-get_or places k d room))
 
 module _ (lines : List LineTree) (a : Assignment) (c : Contents) (h : IsGivenTo lines a (length lines) c) where
   -- the faults of all lines
   pub all_faults : content_faults lines a ≡ c.faults
   all_faults =
-      sym h.faults ∙ ap (λ ls. c.faults ++ faults_from (content_fault lines a) (length lines) ls) (none_left lines)
+      sym h.faults ∙ ap (λ ls. c.faults ++ faults_from (content_fault lines a) (length lines) ls) (drop-length lines)
       ∙ append-nil c.faults
 
   -- the rows of all lines
   pub all_rows : c.rows ≡ rows lines a
   all_rows =
-      sym (append-nil c.rows) ∙ ap (λ ls. c.rows ++ rows_from lines a (length lines) ls) (sym (none_left lines))
+      sym (append-nil c.rows) ∙ ap (λ ls. c.rows ++ rows_from lines a (length lines) ls) (sym (drop-length lines))
       ∙ h.rows
 
 module _ (file : List ℕ) (lines : List LineTree) (a : Assignment) (free : AreFree lines a (length lines)) where
@@ -68,7 +128,7 @@ said_few [] = omega arith
 said_few (l ∷ ls) = with_few l (said l.bytes) (statements_of ls) (length ls) (said_few ls)
 
 short : {A : Type 0} (n : ℕ) (xs : List A) → length (take n xs) ≤ n
-short n xs = let e = length-take n xs in omega (arith, e)
+short n xs = omega (arith, length-take n xs)
 
 read_few : (source : SourceFile) (includes : List SourceFile) → length (text_lines source includes) ≤ 65536
 unfolding text_lines
@@ -79,7 +139,4 @@ pub lines_few : (lines : List LineTree) → IsText lines → length lines ≤ 65
 lines_few lines text =
     let ls = text_lines text.source text.includes in
     let is : statements_of ls ≡ lines = found_are (faults_of text.includes ls) (statements_of ls) lines text.read in
-    let said = said_few ls in
-    let read = read_few text.source text.includes in
-    let e = ap length is in
-    omega (arith, said, read, e)
+    omega (arith, said_few ls, read_few text.source text.includes, ap length is)

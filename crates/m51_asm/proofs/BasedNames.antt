@@ -1,151 +1,184 @@
--- The values of the names of a text: an external in a base is one that the text declares, and no bit is above 7.
-use Rattle.m51_asm.proofs.Common.{◌≡◌, ◌⊎◌, inl, inr, ℕ, zero, suc, ◌+◌, ◌<◌, ◌≤◌, ◌-◌, nat_lt, Bool, true, false, cond}
-use Rattle.m51_asm.proofs.Common.{List, [], ◌∷◌, ◌++◌, length, Option, Some, None, option_map, Ok, Err, refl, sym}
-use Rattle.m51_asm.proofs.Common.{subst, arith, bytes_eq, ltb-true, Base, Kind, Whole, Value, Tree, Valued, plain}
-use Rattle.m51_asm.proofs.Common.{absolute_register_of, BodyTree, LineTree, Definition, Label, SegmentOf, EquOf, SetOf}
-use Rattle.m51_asm.proofs.Common.{AddressOf, ExternOf, definitions_in, label_defined, defined_by, externals_from}
-use Rattle.m51_asm.proofs.Common.{found_in, definition_from, Assignment, body_at, line_definitions, here_at, if_before}
-use Rattle.m51_asm.proofs.Common.{set_by, mod51, register_or_predefined, externals_in, value_by, named_value, Fits}
-use Rattle.m51_cells.specs.declared.kind.Base.TheVariants as base
-use Rattle.m51_expr.specs.Evaluation.{value_of}
-use Rattle.m51_predefined.specs.Predefined.{register_or_bit, register_value}
+-- What holds of the bases that names and the place of a statement have, and of the numbers of their bits, holds of the
+-- value of each expression.
+use Rattle.m51_asm.proofs.Common.{◌≡◌, ℕ, ◌==◌, List, Option, Some, None, Ok, refl, ap, subst, arith, ltb-false, Base}
+use Rattle.m51_asm.proofs.Common.{Value, Tree, Valued, Meanings, zero, suc, ◌+◌, ◌<◌, ◌≤◌, nat_lt, Bool, true, false}
+use Rattle.m51_asm.proofs.Common.{cond, [], ◌∷◌, ◌++◌, length, option_map, Err, sym, ltb-true, Kind, BodyTree, LineTree}
+use Rattle.m51_asm.proofs.Common.{Definition, Label, SegmentOf, EquOf, SetOf, AddressOf, ExternOf, label_defined}
+use Rattle.m51_asm.proofs.Common.{defined_by, externals_from, found_in, or_later, definition_from, Assignment, body_at}
+use Rattle.m51_asm.proofs.Common.{here_at, if_before, set_by, register_or_predefined, externals_in, value_by}
+use Rattle.m51_asm.proofs.Common.{named_value, Fits}
+use Rattle.m51_expr.specs.Evaluation.{or_unknown, value_of}
+use Rattle.m51_encode.specs.FieldLaws.{IsBitOf}
+use Rattle.m51_asm.proofs.RenumberedValues.{Tied, none, segment, external, Like, like, Both, ok, err, AreTied}
+use Rattle.m51_asm.proofs.RenumberedValues.{value_like}
+use borrow.Author.Count.{below_more}
+use Rattle.m51_expr.specs.Value.{whole}
+use Rattle.m51_predefined.specs.Predefined.{register_or_bit}
 use Rattle.m51_sfr.specs.Registers.{address_in, bits, registers}
-use Rattle.m51_stmt.specs.Statement as body
 use Rattle.m51_asm.specs.Definitions.{definition_of}
 use Rattle.m51_asm.specs.Assignment.{above, value_or_none}
-use Rattle.m51_asm.specs.Fitting.{last_set, bank_before, undefined_value}
-use Rattle.m51_asm.specs.Fitting.{externals_before, with_class, segment_value, external_value}
-use Rattle.m51_asm.proofs.KnownSegments.{found_if, later_is}
-use Rattle.m51_asm.proofs.BasedValues.{IsBased, IfBased, IfSomeBased, AreBased, no_bit, value_based}
+use Rattle.m51_asm.specs.Fitting.{last_set, undefined_value, externals_before, with_class}
+use Rattle.m51_cells.specs.declared.kind.Base.TheVariants as base
+use Rattle.m51_stmt.specs.Statement as body
 
--- a definition of an external by what a body defines
-extern_number : (xs : List (List ℕ × Kind)) (n : ℕ) (name : List ℕ) (k : Kind) (m : ℕ)
-    → found_in (externals_from n xs) name ≡ Some (ExternOf k m) → m < n + length xs
-extern_number [] n name k m h = absurd (cc h)
-extern_number (x ∷ xs) n name k m h =
-    elim (found_if (bytes_eq name x.0) (ExternOf x.1 n) (ExternOf k m) (found_in (externals_from (suc n) xs) name) h) [
-      | inl e ↦ let same : n ≡ m = cc e in omega (arith, same)
-      | inr e ↦ let less = extern_number xs (suc n) name k m e in omega (arith, less)
-    ]
+-- a value of such a base, under no bit above 7
+pub record IsBased (G : Base → Type 0) (v : Value) : Type 0 where
+  pub base_is : G v.base
+  pub bit_is : IsBitOf v.part
 
-one_found : (t : List ℕ) (d : Definition) (name : List ℕ) (k : Kind) (m : ℕ)
-    → found_in ((t, d) ∷ []) name ≡ Some (ExternOf k m) → d ≡ ExternOf k m
-one_found t d name k m h =
-    elim (found_if (bytes_eq name t) d (ExternOf k m) None h) [ inl e ↦ e | inr e ↦ absurd (cc e) ]
+-- the value of a result, if there is one
+pub record IfBased (G : Base → Type 0) (r : Valued Value) : Type 0 where
+  pub holds : (v : Value) → r ≡ Ok v → IsBased G v
 
-body_number : (b : BodyTree) (name : List ℕ) (k : Kind) (m : ℕ) → found_in (defined_by b) name ≡ Some (ExternOf k m)
-    → m < externals_in b
-body_number (body.Segment t j type overlayable) name k m h = absurd (cc (one_found t (SegmentOf j) name k m h))
-body_number (body.Equ t e) name k m h = absurd (cc (one_found t (EquOf e) name k m h))
-body_number (body.Set t e) name k m h = absurd (cc (one_found t (SetOf e) name k m h))
-body_number (body.Address t j e) name k m h = absurd (cc (one_found t (AddressOf j e) name k m h))
-body_number (body.Extrn xs) name k m h = let less = extern_number xs 0 name k m h in omega (arith, less)
-body_number b name k m h = absurd (cc h)
+-- the value of an option, if there is one
+pub record IfSomeBased (G : Base → Type 0) (o : Option Value) : Type 0 where
+  pub holds : (v : Value) → o ≡ Some v → IsBased G v
 
-line_number : (label : Option (List ℕ)) (b : BodyTree) (name : List ℕ) (k : Kind) (m : ℕ)
-    → found_in (label_defined label ++ defined_by b) name ≡ Some (ExternOf k m) → m < externals_in b
-line_number None b name k m h = body_number b name k m h
-line_number (Some t) b name k m h =
-    elim (found_if (bytes_eq name t) Label (ExternOf k m) (found_in (defined_by b) name) h) [
-      | inl e ↦ absurd (cc e)
-      | inr e ↦ body_number b name k m e
-    ]
+-- names and the place of a statement have such values
+pub record AreBased (G : Base → Type 0) (names : Meanings) : Type 0 where
+  pub value : (name : List ℕ) → IfSomeBased G (names.value name)
+  pub here : IsBased G names.here
 
--- an external in a line of these
-record IsExternIn (ls : List LineTree) (n line number : ℕ) : Type 0 where
+module _ (G : Base → Type 0) (no_base : G base.None) where
+  abbrev Stays : Value → Value → Type 0
+  Stays = Like ◌≡◌ G IsBitOf
+
+  tied : (b : Base) → G b → Tied ◌≡◌ G b b
+  tied base.None g = none
+  tied (base.Segment s) g = segment refl g
+  tied (base.External m) g = external g
+
+  stays : {v : Value} → IsBased G v → Stays v v
+  stays {v} h = like (tied v.base h.base_is) h.bit_is
+
+  base_of : {a b : Base} → Tied ◌≡◌ G a b → G a
+  base_of none = no_base
+  base_of (segment e g) = g
+  base_of (external g) = g
+
+  based : {r q : Valued Value} → Both Stays r q → IfBased G r
+  based (ok (like {n} {c} {a} {p = p} t h)) = record {
+    holds = λ v e.
+        let same : record { number = n; class = c; base = a; part = p } ≡ v = cc e in
+        subst (IsBased G) same (record { base_is = base_of t; bit_is = h });
+  }
+  based err = record { holds = λ v e. absurd (cc e) }
+
+  named : (o : Option Value) → IfSomeBased G o → Both Stays (or_unknown o) (or_unknown o)
+  named None h = err
+  named (Some v) h = ok (stays (h.holds v refl))
+
+  -- the value of an expression
+  pub value_based : (names : Meanings) → AreBased G names → (e : Tree) → IfBased G (value_of names e)
+  value_based names are e = based (value_like all e)
+    where
+      all : AreTied names names ◌≡◌ G IsBitOf
+      all = record {
+        fixed = λ h. ap names.fixed h;
+        bits = λ h. ap names.bitaddressable h;
+        apart = λ h k e i. h i == k i;
+        named = λ name. named (names.value name) (are.value name);
+        here = stays are.here;
+        whole = λ b e. cc e;
+        high = λ b e. cc e;
+        low = λ b e. cc e;
+        bit = λ {k} h b e. let same : k ≡ b = cc e in let most = ltb-false 7 k h in omega arith;
+      }
+
+-- the number of a definition of an external is below the count
+abbrev IsBelow : ℕ → Definition → Type 0
+IsBelow n (ExternOf kind m) = m < n
+IsBelow n d = Unit {0}
+
+abbrev IfBelow : ℕ → Option Definition → Type 0
+IfBelow n None = Unit {0}
+IfBelow n (Some d) = IsBelow n d
+
+if_found : (n : ℕ) (b : Bool) (d : Definition) (o : Option Definition) → IsBelow n d → IfBelow n o
+    → IfBelow n (cond b (Some d) o)
+if_found n true d o h k = h
+if_found n false d o h k = k
+
+externals_below : (xs : List (List ℕ × Kind)) (from n : ℕ) (name : List ℕ) → n ≡ from + length xs
+    → IfBelow n (found_in (externals_from from xs) name)
+externals_below [] from n name e = tt
+externals_below (x ∷ xs) from n name e =
+    if_found n _ _ _ (omega arith) (externals_below xs (suc from) n name (omega arith))
+
+body_below : (b : BodyTree) (name : List ℕ) → IfBelow (externals_in b) (found_in (defined_by b) name)
+body_below (body.Segment t kind type overlayable) name = if_found 0 _ _ None tt tt
+body_below (body.Equ t e) name = if_found 0 _ _ None tt tt
+body_below (body.Set t e) name = if_found 0 _ _ None tt tt
+body_below (body.Address t kind e) name = if_found 0 _ _ None tt tt
+body_below (body.Extrn xs) name = externals_below xs 0 (length xs) name (omega arith)
+body_below b name = tt
+
+line_below : (label : Option (List ℕ)) (b : BodyTree) (name : List ℕ)
+    → IfBelow (externals_in b) (found_in (label_defined label ++ defined_by b) name)
+line_below None b name = body_below b name
+line_below (Some t) b name = if_found (externals_in b) _ Label _ tt (body_below b name)
+
+-- a definition in one of these lines
+record IsIn (ls : List LineTree) (n line : ℕ) (d : Definition) : Type 0 where
   index : ℕ
   at : line ≡ n + index
-  below : index < length ls
-  among : number < externals_in (body_at ls index)
+  inside : index < length ls
+  below : IsBelow (externals_in (body_at ls index)) d
 
-declared_from : (ls : List LineTree) (n : ℕ) (name : List ℕ) (line : ℕ) (k : Kind) (m : ℕ)
-    → definition_from n ls name ≡ Some (line, ExternOf k m) → IsExternIn ls n line m
-declared_from [] n name line k m h = absurd (cc h)
-declared_from (l ∷ ls) n name line k m h =
-    elim (later_is n (found_in (definitions_in l.stmt) name) (definition_from (suc n) ls name) line (ExternOf k m) h) [
-      | inl p ↦ record {
-        index = 0;
-        at = omega (arith, p.0);
-        below = omega arith;
-        among = line_number l.stmt.label l.stmt.body name k m p.1;
-      }
-      | inr e ↦
-          let r = declared_from ls (suc n) name line k m e in
-          record {
-            index = suc r.index;
-            at = let e2 = r.at in omega (arith, e2);
-            below = let b = r.below in
-                omega (arith, b);
-            among = r.among;
-          }
-    ]
+abbrev IfIn : List LineTree → ℕ → Option (ℕ × Definition) → Type 0
+IfIn ls n None = Unit {0}
+IfIn ls n (Some (line, d)) = IsIn ls n line d
 
-externals_up : (lines : List LineTree) (j k : ℕ) → externals_before lines j ≤ externals_before lines (j + k)
-unfolding externals_before
-externals_up lines j zero = let e : j + 0 ≡ j = omega arith in
-    subst (λ n. externals_before lines j ≤ externals_before lines n) (sym e) (omega arith)
-externals_up lines j (suc k) =
-    let e : suc (j + k) ≡ j + suc k = omega arith in
-    let more = externals_up lines j k in
-    subst (λ n. externals_before lines j ≤ externals_before lines n) e (omega (arith, more))
+in_lines : (ls : List LineTree) (n : ℕ) (name : List ℕ) → IfIn ls n (definition_from n ls name)
+in_lines [] n name = tt
+in_lines (l ∷ ls) n name =
+    first _ _ (line_below l.stmt.label l.stmt.body name) (in_lines ls (suc n) name)
+  where
+    first : (f : Option Definition) (o : Option (ℕ × Definition)) → IfBelow (externals_in l.stmt.body) f
+        → IfIn ls (suc n) o → IfIn (l ∷ ls) n (or_later n f o)
+    first (Some d) o h k = record { index = 0; at = omega arith; inside = omega arith; below = h }
+    first None None h k = tt
+    first None (Some (line, d)) h k =
+        record { index = suc k.index; at = omega arith; inside = omega arith; below = k.below }
 
 -- an external in a base is declared
 abbrev pub IsDeclaredBase : List LineTree → Base → Type 0
 IsDeclaredBase lines (base.External e) = (1 ≤ e) × (e ≤ externals_before lines (length lines))
 IsDeclaredBase lines b = Unit {0}
 
-extern_declared : (lines : List LineTree) (name : List ℕ) (line : ℕ) (k : Kind) (m : ℕ)
-    → definition_of lines name ≡ Some (line, ExternOf k m)
-    → IsDeclaredBase lines (base.External (externals_before lines line + m + 1))
-unfolding definition_of externals_before
-extern_declared lines name line k m h =
-    let r = declared_from lines 0 name line k m h in
-    let at : line ≡ r.index = let e = r.at in omega (arith, e) in
-    let below = r.below in
-    let rest : suc line + (length lines - suc line) ≡ length lines = omega (arith, at, below) in
-    let up : externals_before lines (suc line) ≤ externals_before lines (length lines) =
-    subst (λ n. externals_before lines (suc line) ≤ externals_before lines n) rest
-    (externals_up lines (suc line) (length lines - suc line)) in
-    let few : m < externals_in (body_at lines line) =
-    subst (λ n. m < externals_in (body_at lines n)) (sym at) r.among in
-    (omega arith, omega (arith, up, few))
+-- the externals of a line are among those of the lines above a later one
+externals_up : (lines : List LineTree) (n j : ℕ) → j < n
+    → externals_before lines j + externals_in (body_at lines j) ≤ externals_before lines n
+unfolding externals_before
+externals_up lines zero j h = absurd (omega arith)
+externals_up lines (suc n) j h =
+    below_more (λ j. externals_before lines j + externals_in (body_at lines j) ≤ externals_before lines (suc n)) n
+    (λ j l. let up = externals_up lines n j l in omega arith) (omega arith) j (omega arith)
 
 module _ (lines : List LineTree) (a : Assignment) (f : Fits lines a) where
   abbrev D : Base → Type 0
   D = IsDeclaredBase lines
 
   abbrev Good : Option Value → Type 0
-  Good o = IfSomeBased D o
+  Good None = Unit {0}
+  Good (Some v) = IsBased D v
 
-  some_same : (v w : Value) → ◌≡◌ {A = Option Value} (Some v) (Some w) → v ≡ w
-  some_same v w h = cc h
-
-  some_good : (v : Value) → IsBased D v → Good (Some v)
-  some_good v h = record { holds = λ w e. subst (IsBased D) (some_same v w e) h }
-
-  none_good : Good None
-  none_good = record { holds = λ w e. absurd (cc e) }
-
-  result_good : (r : Valued Value) → IfBased D r → Good (value_or_none r)
-  result_good (Ok v) h = some_good v (h.holds v refl)
-  result_good (Err e) h = none_good
-
-  plain_good : (n : ℕ) (k : Kind) → IsBased D (plain n k)
-  plain_good n k = record { base_is = tt; bit_is = no_bit Whole (λ i e. cc e) }
-
-  here_good : (k : ℕ) → IsBased D (here_at a k)
-  here_good k = record { base_is = tt; bit_is = no_bit Whole (λ i e. cc e) }
+  good : {n : ℕ} {k : Kind} {b : Base} → D b → IsBased D (whole n k b)
+  good d = record { base_is = d; bit_is = λ i e. absurd (cc e) }
 
   tree_good : (k : ℕ) (e : Tree) → AreBased D (above lines a k) → Good (value_or_none (value_of (above lines a k) e))
-  tree_good k e are = result_good (value_of (above lines a k) e) (value_based D tt (above lines a k) are e)
+  tree_good k e are = if_ok (value_of (above lines a k) e) (value_based D tt (above lines a k) are e)
+    where
+      if_ok : (r : Valued Value) → IfBased D r → Good (value_or_none r)
+      if_ok (Ok v) h = h.holds v refl
+      if_ok (Err e) h = tt
 
   classed : (kind : Kind) (o : Option Value) → Good o → Good (option_map (with_class kind) o)
-  classed kind None h = none_good
-  classed kind (Some v) h = let b = h.holds v refl in
-      some_good (with_class kind v) (record { base_is = b.base_is; bit_is = b.bit_is })
+  classed kind None h = tt
+  classed kind (Some v) h = record { base_is = h.base_is; bit_is = h.bit_is }
 
   -- names above each line have such values
-  AllAbove : ℕ → Type 0
+  abbrev AllAbove : ℕ → Type 0
   AllAbove k = (j : ℕ) → j < k → AreBased D (above lines a j)
 
   set_good : (k : ℕ) (o : Option Definition) (last : Option Value) → AreBased D (above lines a k) → Good last
@@ -154,84 +187,79 @@ module _ (lines : List LineTree) (a : Assignment) (f : Fits lines a) where
   set_good k o last are h = h
 
   last_good : (name : List ℕ) (k : ℕ) → AllAbove k → Good (last_set lines a name k)
-  unfolding last_set AllAbove
-  last_good name zero all = none_good
+  unfolding last_set
+  last_good name zero all = tt
   last_good name (suc k) all =
-      set_good k (found_in (line_definitions lines k) name) (last_set lines a name k) (all k (omega arith))
-      (last_good name k (λ j less. all j (omega (arith, less))))
+      set_good k _ _ (all k (omega arith)) (last_good name k (λ j less. all j (omega arith)))
 
-  defined_good : (k : ℕ) (name : List ℕ) (d : ℕ) (definition : Definition)
-      → definition_of lines name ≡ Some (d, definition) → AllAbove k → AreBased D (above lines a d)
-      → Good (value_by (here_at a d) (above lines a d) (last_set lines a name k) (externals_before lines d) d
-      definition)
-  defined_good k name d Label is all are = some_good (here_at a d) (here_good d)
-  defined_good k name d (SegmentOf kind) is all are =
-      some_good (segment_value kind d) (record { base_is = tt; bit_is = no_bit Whole (λ i e. cc e) })
-  defined_good k name d (EquOf e) is all are = tree_good d e are
-  defined_good k name d (SetOf e) is all are = last_good name k all
-  defined_good k name d (AddressOf kind e) is all are =
-      classed kind (value_or_none (value_of (above lines a d) e)) (tree_good d e are)
-  defined_good k name d (ExternOf kind m) is all are =
-      some_good (external_value kind (externals_before lines d + m + 1))
-      (record { base_is = extern_declared lines name d kind m is; bit_is = no_bit Whole (λ i e. cc e) })
+  defined_good : (k : ℕ) (name : List ℕ) (d : ℕ) (h : Definition) → IsIn lines 0 d h → AllAbove k
+      → AreBased D (above lines a d)
+      → Good (value_by (here_at a d) (above lines a d) (last_set lines a name k) (externals_before lines d) d h)
+  defined_good k name d Label i all are = good tt
+  defined_good k name d (SegmentOf kind) i all are = good tt
+  defined_good k name d (EquOf e) i all are = tree_good d e are
+  defined_good k name d (SetOf e) i all are = last_good name k all
+  defined_good k name d (AddressOf kind e) i all are =
+      classed kind _ (tree_good d e are)
+  defined_good k name d (ExternOf kind m) i all are =
+      let at : i.index ≡ d = omega arith in
+      let up = externals_up lines (length lines) i.index i.inside in
+      let below = i.below in
+      let same = ap (externals_before lines) at in
+      good (omega arith, omega (arith, up, below, same))
 
   predefined_good : (o p : Option ℕ) → Good (register_or_bit o p)
-  predefined_good (Some n) p = some_good _ (plain_good n _)
-  predefined_good None (Some n) = some_good _ (plain_good n _)
-  predefined_good None None = none_good
+  predefined_good (Some n) p = good tt
+  predefined_good None (Some n) = good tt
+  predefined_good None None = tt
 
   register_good : (on : Bool) (bank : ℕ) (name : List ℕ) (o : Option ℕ) → Good (register_or_predefined on bank name o)
-  register_good on bank name (Some n) = some_good (register_value bank n) (plain_good _ _)
+  register_good on bank name (Some n) = good tt
   register_good true bank name None = predefined_good (address_in registers name) (address_in bits name)
-  register_good false bank name None = none_good
+  register_good false bank name None = tt
 
   undefined_good : (k : ℕ) (name : List ℕ) → Good (undefined_value lines a k name)
   unfolding undefined_value
-  undefined_good k name = register_good (mod51 lines) (bank_before lines a k) name (absolute_register_of name)
+  undefined_good k name = register_good _ _ name _
 
-  before_by : (k : ℕ) (name : List ℕ) (d : ℕ) (definition : Definition) (b : Bool) → nat_lt d k ≡ b
-      → definition_of lines name ≡ Some (d, definition) → AllAbove k
-      → Good (cond b (named_value lines a k name (Some (d, definition))) None)
-  unfolding AllAbove
-  before_by k name d definition true test is all = defined_good k name d definition is all (all d (ltb-true d k test))
-  before_by k name d definition false test is all = none_good
-
-  before_good : (k : ℕ) (name : List ℕ) (o : Option (ℕ × Definition)) → definition_of lines name ≡ o → AllAbove k
+  before_good : (k : ℕ) (name : List ℕ) (o : Option (ℕ × Definition)) → IfIn lines 0 o → AllAbove k
       → Good (if_before k (named_value lines a k name o) o)
-  before_good k name None is all = undefined_good k name
-  before_good k name (Some d) is all = before_by k name d.0 d.1 (nat_lt d.0 k) refl is all
+  before_good k name None i all = undefined_good k name
+  before_good k name (Some (d, h)) i all =
+      if_true _ (nat_lt d k) (λ t. defined_good k name d h i all (all d (ltb-true d k t)))
+    where
+      if_true : (o : Option Value) (b : Bool) → (b ≡ true → Good o) → Good (cond b o None)
+      if_true o true g = g refl
+      if_true o false g = tt
 
-  above_by : (k : ℕ) → AllAbove k → AreBased D (above lines a k)
-  unfolding above
-  above_by k all = record {
-    value = λ name.
-        subst (λ v. Good (if_before k v (definition_of lines name))) (sym (f.values k name))
-        (before_good k name (definition_of lines name) refl all);
-    here = here_good k;
+  holds : (o : Option Value) → Good o → IfSomeBased D o
+  holds None h = record { holds = λ w e. absurd (cc e) }
+  holds (Some v) h = record { holds = λ w e. let same : v ≡ w = cc e in subst (IsBased D) same h }
+
+  above_good : (k : ℕ) → AllAbove k → AreBased D (above lines a k)
+  unfolding above definition_of
+  above_good k all = record {
+    value = λ name. holds _ (subst (λ v. Good (if_before k v (definition_of lines name))) (sym (f.values k name))
+        (before_good k name (definition_of lines name) (in_lines lines 0 name) all));
+    here = good tt;
   }
 
-  all_above : (k : ℕ) → AllAbove k
-  unfolding AllAbove
-  all_above zero j less = absurd (omega (arith, less))
-  all_above (suc k) j less = elim (last_or_below j k less) [
-    | inl e ↦ subst (λ n. AreBased D (above lines a n)) (sym e) (above_by k (all_above k))
-    | inr l ↦ all_above k j l
-  ]
-    where
-      last_or_below : (j k : ℕ) → j < suc k → (j ≡ k) ⊎ (j < k)
-      last_or_below j k h = grind (arith, h)
+  all_good : (k : ℕ) → AllAbove k
+  all_good zero j less = absurd (omega arith)
+  all_good (suc k) j less = below_more (λ j. AreBased D (above lines a j)) k (all_good k) (above_good k (all_good k)) j
+      (omega arith)
 
-  above_good : (k : ℕ) → AreBased D (above lines a k)
-  above_good k = above_by k (all_above k)
-
-  named_good : (k : ℕ) (name : List ℕ) (o : Option (ℕ × Definition)) → definition_of lines name ≡ o
+  named_good : (k : ℕ) (name : List ℕ) (o : Option (ℕ × Definition)) → IfIn lines 0 o
       → Good (named_value lines a k name o)
-  named_good k name None is = undefined_good k name
-  named_good k name (Some d) is = defined_good k name d.0 d.1 is (all_above k) (above_good d.0)
+  named_good k name None i = undefined_good k name
+  named_good k name (Some (d, h)) i = defined_good k name d h i (all_good k) (all_good (suc d) d (omega arith))
 
   -- each name of the text has such a value
   pub name_good : (k : ℕ) (name : List ℕ) → IfSomeBased (IsDeclaredBase lines) (a.value k name)
-  name_good k name = subst Good (sym (f.values k name)) (named_good k name (definition_of lines name) refl)
+  unfolding definition_of
+  name_good k name =
+      holds _
+      (subst Good (sym (f.values k name)) (named_good k name (definition_of lines name) (in_lines lines 0 name)))
 
   pub place_good : (k : ℕ) → IsBased (IsDeclaredBase lines) (here_at a k)
-  place_good k = here_good k
+  place_good k = good tt

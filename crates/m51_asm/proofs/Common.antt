@@ -11,7 +11,6 @@ pub use Rattle.std.specs.Global.{Vec}
 pub use Rattle.std.specs.List.{flat_map, list_any, range_with_len}
 pub use Rattle.std.specs.Map.{lookup}
 pub use Rattle.std.specs.Str.{bytes_eq}
-pub use Rattle.m51_asm.specs.Above.{Valuation, kept_meanings, value_in}
 pub use Rattle.m51_asm.specs.Answer.{Faults, content_or_faults, first_fault}
 pub use Rattle.m51_asm.specs.AnswerRows.{rows, rows_from}
 pub use Rattle.m51_asm.specs.Assignment.{Assignment, TextSegment, body_at, body_of, defined_of, here_at, if_before}
@@ -30,7 +29,7 @@ pub use Rattle.m51_asm.specs.Gathering.{IsText, gathered_before, nothing_gathere
 pub use Rattle.m51_asm.specs.GivenValues.{expression_given, given_or}
 pub use Rattle.m51_expr.specs.Located.{located_value}
 pub use Rattle.m51_asm.specs.Naming.{with_front}
-pub use Rattle.m51_asm.specs.Numbering.{IsNumberedTo, number_at}
+pub use Rattle.m51_asm.specs.Numbering.{number_at}
 pub use Rattle.m51_asm.specs.ObjectNames.{AreNamesAt, IsAssignedText}
 pub use Rattle.m51_asm.specs.ObjectSegments.{Kept, declared_or, from_one, kept_by, object_segments, index_in}
 pub use Rattle.m51_asm.specs.ObjectSegments.{segment_number, segment_of, size_of}
@@ -43,6 +42,7 @@ pub use Rattle.m51_asm.specs.Placing.{AreLineFacts, IsAt, IsPlaceOf, here_of}
 pub use Rattle.m51_asm.specs.Publishing.{fault_among}
 pub use Rattle.m51_asm.specs.Repeats.{clashes, earlier, is_set, or_here, publics_again, publics_in, repeats_from}
 pub use Rattle.m51_asm.specs.Table.{Table, brief, first_definition, first_in, made_public}
+pub use Rattle.m51_asm.specs.Values.{Valuation, value_in}
 pub use Rattle.m51_asm.specs.ValuesAbove.{defined_value, or_kept}
 pub use Rattle.m51_asm.specs.ValuesAt.{IsSetAt}
 pub use Rattle.m51_asm.specs.declared.giving.Giving.{Giving}
@@ -88,3 +88,8 @@ pub use Rattle.m51_predefined.specs.Predefined.{absolute_register_of}
 pub use Rattle.m51_stmt.proofs.ListWords.{Each}
 pub use Rattle.m51_stmt.specs.Statement.{Address, BodyTree, Equ, Set, StmtTree}
 pub use Rattle.m51_text.specs.Answer.{LineTree, Lines, line_tree, text_of}
+pub use Rattle.m51_asm.specs.Assignment.{above}
+pub use Rattle.std.proofs.Common.{nat_le}
+pub use Rattle.std.proofs.lemmas.Bool.Decides.{nat_tests}
+pub use Rattle.std.proofs.lemmas.Bool.{cases_Bool, cases_eq}
+pub use Rattle.m51_asm.specs.ObjectSegments.{kept}

@@ -1,26 +1,100 @@
--- What a line gives: where it has no fault it gives as many bytes as are counted for it, and the fields of its
--- references
--- lie in these bytes, one after another.
-use Rattle.m51_asm.proofs.Common.{◌≡◌, ◌⊎◌, inl, inr, ℕ, zero, suc, ◌+◌, ◌<◌, ◌≤◌, ◌==◌, Bool, true, false, cond, List}
-use Rattle.m51_asm.proofs.Common.{[], ◌∷◌, length, Option, Some, None, Ok, Err, refl, sym, ap, subst, ◌∙◌, arith}
-use Rattle.m51_asm.proofs.Common.{eqb-true, Instr, Field, row_length, field_len, Part, Whole, High, Low, Value, Tree}
-use Rattle.m51_asm.proofs.Common.{Valued, Meanings, FieldValue, Number, Linked, Reference, reference_of, Answer}
-use Rattle.m51_asm.proofs.Common.{linked_is, ReferenceAt, EmittedContent}
-use Rattle.std.specs.Prelude.{slice_get}
-use Rattle.std.specs.Option.{option_or}
-use Rattle.m51_isa.specs.declared.slot.Field.TheVariants as field
+-- The fields of a row of the instruction table end in its bytes, and none lies over another.
+use Rattle.m51_asm.proofs.Common.{nat_tests, nat_le, ◌≡◌, ◌⊎◌, inl, inr, ℕ, ◌+◌, ◌<◌, ◌≤◌, Bool, true, ◌&&◌, ◌||◌, List}
+use Rattle.m51_asm.proofs.Common.{[], ◌∷◌, Option, Some, None, refl, sym, ap, ◌∙◌, arith, and_parts, Instr, Field}
+use Rattle.m51_asm.proofs.Common.{row_length, suc, length, Ok, Err, subst, eqb-true, field_len, Part, Value, Tree}
+use Rattle.m51_asm.proofs.Common.{Valued, Meanings, FieldValue, Number, Linked, Reference, Answer, linked_is}
+use Rattle.m51_asm.proofs.Common.{ReferenceAt, EmittedContent}
+use Rattle.std.specs.List.{list_all}
+use Rattle.std.proofs.lemmas.Bool.{leb-true}
+use Rattle.m51_isa.specs.declared.instr.Instr.TheVariants.{Nop}
 use Rattle.m51_isa.specs.declared.slot.FieldSlot.{FieldSlot}
 use Rattle.m51_isa.specs.Spelling.{field_in, text_of}
-use Rattle.m51_expr.specs.declared.value.Part.TheVariants.{Bit}
+use Rattle.m51_asm.proofs.Members.{In, Every, Pairs, pairs_weaker}
+use Rattle.std.specs.Option.{option_or}
+use Rattle.m51_cells.proofs.Passing.{guarded}
 use Rattle.m51_expr.specs.Evaluation.{value_of}
 use Rattle.m51_expr.specs.Operand.{OperandTree}
 use Rattle.m51_encode.specs.Reference.{form_of}
 use Rattle.m51_encode.specs.FieldValues.{field_of}
-use Rattle.m51_encode.specs.Filling.{and_then, or_out_of_range, held_at, nothing, valued, expression, filled_by}
-use Rattle.m51_encode.specs.Filling.{filled, beginning_at, reference_at, references_of}
-use Rattle.m51_asm.proofs.Members.{In, Every, Pairs, in_cons, no_element, pairs_weaker}
+use Rattle.m51_encode.specs.Filling.{and_then, or_out_of_range, held_at, nothing, valued, expression, filled_by, filled}
+use Rattle.m51_encode.specs.Filling.{beginning_at, reference_at, references_of}
 use Rattle.m51_asm.specs.Content.{placed_from}
-use Rattle.m51_asm.proofs.RowFields.{width, HasField, rows_do_lie}
+use Rattle.m51_isa.specs.declared.slot.Field.TheVariants as field
+
+-- how many bytes a field has
+abbrev pub width : Field → ℕ
+width field.Data16 = 2
+width field.Addr16 = 2
+width field.Addr11 = 2
+width at = 1
+
+abbrev pub end_of : FieldSlot → ℕ
+end_of f = f.byte + width f.field
+
+-- fields of a row end in its bytes, and none lies over another
+abbrev ends_in : ℕ → Option FieldSlot → Bool
+ends_in len None = true
+ends_in len (Some f) = nat_le (end_of f) len
+
+abbrev apart : Option FieldSlot → Option FieldSlot → Bool
+apart (Some f) (Some g) = nat_le (end_of f) g.byte || nat_le (end_of g) f.byte
+apart f g = true
+
+abbrev fields_lie : ℕ → List (Option FieldSlot) → Bool
+fields_lie len [] = true
+fields_lie len (f ∷ fs) = ends_in len f && (list_all (apart f) fs && fields_lie len fs)
+
+abbrev pub fields_of : Instr → List (Option FieldSlot)
+fields_of i = field_in (text_of i).first ∷ field_in (text_of i).second ∷ field_in (text_of i).third ∷ []
+
+rows_lie : (i : Instr) → fields_lie (row_length i) (fields_of i) ≡ true
+rows_lie Nop = refl
+rows_lie i = refl
+
+-- what the test of fields says
+pub record DoLie (len : ℕ) (fs : List (Option FieldSlot)) : Type 0 where
+  pub ends : (s : FieldSlot) → In (Some s) fs → end_of s ≤ len
+  pub orders : (s t : FieldSlot) → In (Some s) fs → In (Some t) fs → s.byte < t.byte → end_of s ≤ t.byte
+
+apart_from : (f : Option FieldSlot) (fs : List (Option FieldSlot)) → list_all (apart f) fs ≡ true
+    → (g : Option FieldSlot) → In g fs → apart f g ≡ true
+apart_from f [] h g i = absurd i
+apart_from f (x ∷ fs) h g (inl e) = ap (apart f) (sym e) ∙ (and_parts _ _ h).0
+apart_from f (x ∷ fs) h g (inr j) = apart_from f fs (and_parts _ _ h).1 g j
+
+two_apart : (f : Option FieldSlot) (fs : List (Option FieldSlot)) → list_all (apart f) fs ≡ true → (s t : FieldSlot)
+    → f ≡ Some s → In (Some t) fs → (end_of s ≤ t.byte) ⊎ (end_of t ≤ s.byte)
+two_apart f fs h s t is i =
+    let e : apart (Some s) (Some t) ≡ true = ap (λ x. apart x (Some t)) (sym is) ∙ apart_from f fs h (Some t) i in
+    grind (arith, nat_tests)
+
+do_lie : (len : ℕ) (fs : List (Option FieldSlot)) → fields_lie len fs ≡ true → DoLie len fs
+do_lie len [] h = record { ends = λ s i. absurd i; orders = λ s t i j less. absurd i }
+do_lie len (f ∷ fs) h =
+    let p = and_parts (ends_in len f) (list_all (apart f) fs && fields_lie len fs) h in
+    let q = and_parts (list_all (apart f) fs) (fields_lie len fs) p.1 in
+    let more = do_lie len fs q.1 in
+    record {
+      ends = λ s i. elim i [
+        | inl is ↦ leb-true (end_of s) len (sym (ap (ends_in len) is) ∙ p.0)
+        | inr j ↦ more.ends s j
+      ];
+      orders = λ s t i j less. elim i [
+        | inl is ↦ elim j [
+          | inl it ↦ let same : s ≡ t = cc (is, it) in
+              let e = ap (λ (x : FieldSlot). x.byte) same in absurd (omega arith)
+          | inr k ↦ let o = two_apart f fs q.0 s t is k in omega arith
+        ]
+        | inr k ↦ elim j [
+          | inl it ↦ let o = two_apart f fs q.0 t s it k in omega arith
+          | inr l ↦ more.orders s t k l less
+        ]
+      ];
+    }
+
+-- the fields of a row
+pub rows_do_lie : (i : Instr) → DoLie (row_length i) (fields_of i)
+rows_do_lie i = do_lie (row_length i) (fields_of i) (rows_lie i)
 
 -- the type of a value, also one that its crate keeps to itself
 abbrev pub type_of : {A : Type 0} → A → Type 0
@@ -30,33 +104,9 @@ type_of {A} x = A
 abbrev pub Held : Type 0
 Held = type_of nothing
 
-part_width : (part : Part) → field_len (form_of field.Data part) ≡ 1
-part_width Whole = refl
-part_width High = refl
-part_width Low = refl
-part_width (Bit b) = refl
-
-part_bit : (part : Part) → field_len (form_of field.Bit part) ≡ 1
-part_bit Whole = refl
-part_bit High = refl
-part_bit Low = refl
-part_bit (Bit b) = refl
-
-part_direct : (part : Part) → field_len (form_of field.Direct part) ≡ 1
-part_direct Whole = refl
-part_direct High = refl
-part_direct Low = refl
-part_direct (Bit b) = refl
-
 -- the form of a reference is as long as its field
 pub form_width : (at : Field) (part : Part) → field_len (form_of at part) ≡ width at
-form_width field.Data part = part_width part
-form_width field.Direct part = part_direct part
-form_width field.Bit part = part_bit part
-form_width field.Data16 part = refl
-form_width field.Addr16 part = refl
-form_width field.Addr11 part = refl
-form_width field.Rel part = refl
+form_width at part = grind arith
 
 -- a reference that a value gives in a field
 pub record IsLinkedBy (names : Meanings) (r : Reference) : Type 0 where
@@ -80,178 +130,110 @@ pub record IsContent (names : Meanings) (c : EmittedContent) : Type 0 where
   pub order : Pairs FieldAfter c.references
   pub linked : Every (λ r. IsLinkedBy names r.1) c.references
 
--- an operand's field, with the reference that it holds
-record IsLinking (names : Meanings) (slot : Option FieldSlot) (x : Held) (r : Reference) : Type 0 where
-  at : FieldSlot
-  slot_is : slot ≡ Some at
-  byte_is : x.byte ≡ at.byte
-  form_is : field_len r.form ≡ width at.field
-  by : IsLinkedBy names r
+-- what holds of each of these references at its byte
+abbrev EachAt : (ℕ → Reference → Type 0) → ℕ → List (Option Reference) → Type 0
+EachAt P n [] = Unit {0}
+EachAt P n (o ∷ os) = ((r : Reference) → o ≡ Some r → P n r) × EachAt P (suc n) os
 
-abbrev ok_held : Held → Answer Held
-ok_held x = Ok x
+record ArePlaced (P : ℕ → Reference → Type 0) (n : ℕ) (ps : List ReferenceAt) : Type 0 where
+  from : Every (λ p. n ≤ p.0) ps
+  each : Every (λ p. P p.0 p.1) ps
+  order : Pairs (λ p q. p.0 < q.0) ps
 
-held_same : (x y : Held) → ok_held x ≡ ok_held y → x ≡ y
-held_same x y h = cc h
-
-some_same : (r q : Reference) → ◌≡◌ {A = Option Reference} (Some r) (Some q) → r ≡ q
-some_same r q h = cc h
-
-by_field : (names : Meanings) (next : ℕ) (slot : FieldSlot) (e : Tree) (v : Value) → value_of names e ≡ Ok v
-    → (o : Option FieldValue) → field_of names slot.field next v ≡ o
-    → (x : Held) → and_then (or_out_of_range o) (λ held. ok_held (held_at slot.byte held)) ≡ ok_held x → (r : Reference)
-    → x.reference ≡ Some r → IsLinking names (Some slot) x r
-by_field names next slot e v is (Some (Number n)) from x h r has =
-    absurd (cc (has, ap (λ (y : Held). y.reference) (held_same (held_at slot.byte (Number n)) x h)))
-by_field names next slot e v is (Some (Linked q)) from x h r has =
-    let same : held_at slot.byte (Linked q) ≡ x = held_same (held_at slot.byte (Linked q)) x h in
-    let q_is : q ≡ r = some_same q r (ap (λ (y : Held). y.reference) same ∙ has) in
-    let form : reference_of slot.field v ≡ q = linked_is names slot.field next v q from in
+placed : (P : ℕ → Reference → Type 0) (n : ℕ) (os : List (Option Reference)) → EachAt P n os
+    → ArePlaced P n (placed_from n os)
+placed P n [] h = record { from = λ p i. absurd i; each = λ p i. absurd i; order = tt }
+placed P n (None ∷ os) h =
+    let m = placed P (suc n) os h.1 in
+    record { from = λ p i. let f = m.from p i in omega arith; each = m.each; order = m.order }
+placed P n (Some q ∷ os) h =
+    let m = placed P (suc n) os h.1 in
     record {
-      at = slot;
-      slot_is = refl;
-      byte_is = sym (ap (λ (y : Held). y.byte) same);
-      form_is = ap (λ (y : Reference). field_len y.form) (sym q_is ∙ sym form) ∙ form_width slot.field v.part;
-      by = record {
-        tree = e;
-        value = v;
-        is = is;
-        at = slot.field;
-        next = next;
-        from = from ∙ ap (λ y. Some (Linked y)) q_is;
-      };
+      from = λ p i. elim i [
+        | inl e ↦ omega (arith, ap (λ (x : ReferenceAt). x.0) e)
+        | inr j ↦ let f = m.from p j in omega arith
+      ];
+      each = λ p i. elim i
+          [ inl e ↦ subst (λ (x : ReferenceAt). P x.0 x.1) e (h.0 q refl) | inr j ↦ m.each p j ];
+      order = (λ p i. let f = m.from p i in omega arith, m.order);
     }
-by_field names next slot e v is None from x h r has = absurd (cc h)
-
-by_value : (names : Meanings) (next : ℕ) (slot : FieldSlot) (e : Tree) (w : Valued Value) → value_of names e ≡ w
-    → (x : Held) → valued names next slot.field slot.byte w ≡ Ok x
-    → (r : Reference) → x.reference ≡ Some r → IsLinking names (Some slot) x r
-by_value names next slot e (Ok v) is x h r has =
-    by_field names next slot e v is (field_of names slot.field next v) refl x h r has
-by_value names next slot e (Err k) is x h r has = absurd (cc h)
-
-none_held : (names : Meanings) (slot : Option FieldSlot) (x : Held) → ok_held nothing ≡ ok_held x → (r : Reference)
-    → x.reference ≡ Some r → IsLinking names slot x r
-none_held names slot x h r has = absurd (cc (has, ap (λ (y : Held). y.reference) (held_same nothing x h)))
-
-by_tree : (names : Meanings) (next : ℕ) (slot : FieldSlot) (t : Option Tree) (x : Held)
-    → filled_by names next slot t ≡ Ok x → (r : Reference) → x.reference ≡ Some r → IsLinking names (Some slot) x r
-by_tree names next slot (Some e) x h r has = by_value names next slot e (value_of names e) refl x h r has
-by_tree names next slot None x h r has = none_held names (Some slot) x h r has
-
-linking : (names : Meanings) (next : ℕ) (slot : Option FieldSlot) (o : Option OperandTree) (x : Held)
-    → filled names next slot o ≡ Ok x → (r : Reference) → x.reference ≡ Some r
-    → IsLinking names slot x r
-linking names next (Some slot) (Some operand) x h r has = by_tree names next slot (expression operand) x h r has
-linking names next (Some slot) None x h r has = none_held names (Some slot) x h r has
-linking names next None o x h r has = none_held names None x h r has
 
 or_some : (x y : Option Reference) (r : Reference) → option_or x y ≡ Some r → (x ≡ Some r) ⊎ (y ≡ Some r)
-or_some (Some q) y r h = inl h
-or_some None y r h = inr h
+or_some x y r h = grind arith
 
-begins_by : (b : Bool) (o : Option Reference) (r : Reference) → cond b o None ≡ Some r → (b ≡ true) × (o ≡ Some r)
-begins_by true o r h = (refl, h)
-begins_by false o r h = absurd (cc h)
+module _ (names : Meanings) (row : Instr) (next : ℕ) where
+  -- a reference at a byte of a row
+  record IsAtByte (k : ℕ) (r : Reference) : Type 0 where
+    slot : FieldSlot
+    there : In (Some slot) (fields_of row)
+    byte_is : slot.byte ≡ k
+    form_is : field_len r.form ≡ width slot.field
+    by : IsLinkedBy names r
 
-begins_at : (k : ℕ) (x : Held) (r : Reference) → beginning_at k x ≡ Some r → (x.byte ≡ k) × (x.reference ≡ Some r)
-begins_at k x r h = let p = begins_by (x.byte == k) x.reference r h in (eqb-true x.byte k p.0, p.1)
+  -- what is held has a reference only of a field of the row
+  abbrev Links : Answer Held → Type 0
+  Links (Ok x) = (r : Reference) → x.reference ≡ Some r → IsAtByte x.byte r
+  Links (Err e) = Unit {0}
 
--- a reference at a byte of a row
-record IsAtByte (names : Meanings) (f g h : Option FieldSlot) (k : ℕ) (r : Reference) : Type 0 where
-  slot : FieldSlot
-  there : HasField f g h slot
-  byte_is : slot.byte ≡ k
-  form_is : field_len r.form ≡ width slot.field
-  by : IsLinkedBy names r
+  module _ (slot : FieldSlot) (there : In (Some slot) (fields_of row)) where
+    by_field : (e : Tree) (v : Value) → value_of names e ≡ Ok v → (o : Option FieldValue)
+        → field_of names slot.field next v ≡ o
+        → Links (and_then (or_out_of_range o) (λ held. Ok (held_at slot.byte held)))
+    by_field e v is (Some (Number n)) from = λ r has. absurd (cc has)
+    by_field e v is None from = tt
+    by_field e v is (Some (Linked q)) from = λ r has.
+        let same : q ≡ r = cc has in
+        rw (← same) (record {
+          slot = slot;
+          there = there;
+          byte_is = refl;
+          form_is = ap (λ (y : Reference). field_len y.form) (sym (linked_is _ _ _ _ _ from))
+              ∙ form_width slot.field v.part;
+          by = record { tree = e; value = v; is = is; at = slot.field; next = next; from = from };
+        })
 
-placed_is : (os : List (Option Reference)) (n : ℕ) (p : ReferenceAt) → In p (placed_from n os)
-    → (j : ℕ) × (p.0 ≡ n + j) × (slice_get os j ≡ Some (Some p.1))
-placed_is [] n p i = absurd (no_element p i)
-placed_is (None ∷ os) n p i = let r = placed_is os (suc n) p i in (suc r.0, omega (arith, r.1), r.2)
-placed_is (Some q ∷ os) n p i = elim (in_cons p (n, q) (placed_from (suc n) os) i) [
-  | inl e ↦ (
-    0,
-    let z : n ≡ p.0 = ap (λ (x : ReferenceAt). x.0) e in
-        omega (arith, z),
-    ap (λ (x : ReferenceAt). Some (Some x.1)) e,
-  )
-  | inr j ↦ let r = placed_is os (suc n) p j in (suc r.0, omega (arith, r.1), r.2)
-]
+    by_value : (e : Tree) (w : Valued Value) → value_of names e ≡ w → Links (valued names next slot.field slot.byte w)
+    by_value e (Ok v) is = by_field e v is _ refl
+    by_value e (Err k) is = tt
 
-placed_order : (os : List (Option Reference)) (n : ℕ) → Pairs (λ p q. p.0 < q.0) (placed_from n os)
-unfolding Pairs Every
-placed_order [] n = tt
-placed_order (None ∷ os) n = placed_order os (suc n)
-placed_order (Some q ∷ os) n = (λ p i. let r = placed_is os (suc n) p i in omega (arith, r.1), placed_order os (suc n))
+    by_tree : (t : Option Tree) → Links (filled_by names next slot t)
+    by_tree (Some e) = by_value e _ refl
+    by_tree None = λ r has. absurd (cc has)
 
--- three operands of a row, with what they gave
-module _ (names : Meanings) (row : Instr) (next : ℕ) (oa ob oc : Option OperandTree) (a b c : Held)
-    (is_a : filled names next (field_in (text_of row).first) oa ≡ Ok a)
-    (is_b : filled names next (field_in (text_of row).second) ob ≡ Ok b)
-    (is_c : filled names next (field_in (text_of row).third) oc ≡ Ok c) where
-  abbrev Lies : ℕ → Reference → Type 0
-  Lies k r = IsAtByte names (field_in (text_of row).first) (field_in (text_of row).second)
-      (field_in (text_of row).third) k r
+  linking : (slot : Option FieldSlot) (o : Option OperandTree) → In slot (fields_of row)
+      → Links (filled names next slot o)
+  linking (Some slot) (Some operand) there = by_tree slot there (expression operand)
+  linking (Some slot) None there = λ r has. absurd (cc has)
+  linking None o there = λ r has. absurd (cc has)
 
-  at_byte : (k : ℕ) (r : Reference) → reference_at k a b c ≡ Some r → Lies k r
-  unfolding HasField
-  at_byte k r h = elim (or_some (beginning_at k a) (option_or (beginning_at k b) (beginning_at k c)) r h) [
-    | inl e ↦
-        let p = begins_at k a r e in
-        let l = linking names next (field_in (text_of row).first) oa a is_a r p.1 in
-        record { slot = l.at; there = inl l.slot_is; byte_is = sym l.byte_is ∙ p.0; form_is = l.form_is; by = l.by }
-    | inr more ↦ elim (or_some (beginning_at k b) (beginning_at k c) r more) [
-      | inl e ↦
-          let p = begins_at k b r e in
-          let l = linking names next (field_in (text_of row).second) ob b is_b r p.1 in
-          record {
-            slot = l.at;
-            there = inr (inl l.slot_is);
-            byte_is = sym l.byte_is ∙ p.0;
-            form_is = l.form_is;
-            by = l.by;
-          }
-      | inr e ↦
-          let p = begins_at k c r e in
-          let l = linking names next (field_in (text_of row).third) oc c is_c r p.1 in
-          record {
-            slot = l.at;
-            there = inr (inr l.slot_is);
-            byte_is = sym l.byte_is ∙ p.0;
-            form_is = l.form_is;
-            by = l.by;
-          }
+  begins : (k : ℕ) (r : Reference) (x : Held) → Links (Ok x) → beginning_at k x ≡ Some r → IsAtByte k r
+  begins k r x links e = let p = guarded _ _ _ e in subst (λ n. IsAtByte n r) (eqb-true _ _ p.0) (links r p.1)
+
+  -- what three operands of the row gave
+  module _ (oa ob oc : Option OperandTree) (a b c : Held)
+      (is_a : filled names next (field_in (text_of row).first) oa ≡ Ok a)
+      (is_b : filled names next (field_in (text_of row).second) ob ≡ Ok b)
+      (is_c : filled names next (field_in (text_of row).third) oc ≡ Ok c) where
+    at_byte : (k : ℕ) (r : Reference) → reference_at k a b c ≡ Some r → IsAtByte k r
+    at_byte k r h = elim (or_some _ _ _ h) [
+      | inl e ↦ begins k r a (subst Links is_a (linking _ oa (inl refl))) e
+      | inr more ↦ elim (or_some _ _ _ more) [
+        | inl e ↦ begins k r b (subst Links is_b (linking _ ob (inr (inl refl)))) e
+        | inr e ↦ begins k r c (subst Links is_c (linking _ oc (inr (inr (inl refl))))) e
+      ]
     ]
-  ]
 
-  got_at : (k : ℕ) (r : Reference) → slice_get (references_of a b c) k ≡ Some (Some r) → Lies k r
-  got_at zero r h = at_byte 0 r (cc h)
-  got_at (suc zero) r h = at_byte 1 r (cc h)
-  got_at (suc (suc zero)) r h = at_byte 2 r (cc h)
-  got_at (suc (suc (suc k))) r h = absurd (cc h)
-
-  placed_lies : (p : ReferenceAt) → In p (placed_from 0 (references_of a b c)) → Lies p.0 p.1
-  placed_lies p i =
-      let r = placed_is (references_of a b c) 0 p i in
-      let e : r.0 ≡ p.0 = omega (arith, r.1) in
-      subst (λ k. Lies k p.1) e (got_at r.0 p.1 r.2)
-
-  pub row_content : (bytes : List ℕ) → length bytes ≡ row_length row
-      → IsContent names (record { bytes = bytes; references = placed_from 0 (references_of a b c) })
-  unfolding Every
-  row_content bytes len =
-      let lie = rows_do_lie row in
-      record {
-        inside = λ p i.
-            let l = placed_lies p i in
-            let end = lie.ends l.slot l.there in
-            omega (arith, end, len, l.byte_is, l.form_is);
-        order = pairs_weaker (λ p q. p.0 < q.0) FieldAfter (placed_from 0 (references_of a b c))
-            (λ p q i j less.
-            let l = placed_lies p i in
-            let m = placed_lies q j in
-            let end = lie.orders l.slot m.slot l.there m.there (omega (arith, less, l.byte_is, m.byte_is)) in
-            omega (arith, end, l.byte_is, m.byte_is, l.form_is)) (placed_order (references_of a b c) 0);
-        linked = λ p i. (placed_lies p i).by;
-      }
+    pub row_content : (bytes : List ℕ) → length bytes ≡ row_length row
+        → IsContent names (record { bytes = bytes; references = placed_from 0 (references_of a b c) })
+    row_content bytes len =
+        let lie = rows_do_lie row in
+        let all = placed IsAtByte 0 (references_of a b c) (at_byte 0, (at_byte 1, (at_byte 2, tt))) in
+        record {
+          inside = λ p i. let l = all.each p i in let end = lie.ends l.slot l.there in omega arith;
+          order = pairs_weaker _ _ _ (λ p q i j less.
+              let l = all.each p i in
+              let m = all.each q j in
+              let end = lie.orders l.slot m.slot l.there m.there (omega arith) in
+              omega arith) all.order;
+          linked = λ p i. (all.each p i).by;
+        }

@@ -3,48 +3,44 @@ use Rattle.m51_asm.proofs.Common.{◌≡◌, ◌≢◌, inl, inr, ℕ, zero, suc
 use Rattle.m51_asm.proofs.Common.{List, [], ◌∷◌, ◌++◌, map, length, Option, Some, None, option_map, Result, Ok, Err}
 use Rattle.m51_asm.proofs.Common.{refl, ap, sym, ◌∙◌, slice_get, get_or, arith, eq-eqb, flat_map, eqb-true, ne_eqb}
 use Rattle.m51_asm.proofs.Common.{length-map, Fixup, Piece, Segment, LineTree, with_line, Assignment, body_at, Kept}
-use Rattle.m51_asm.proofs.Common.{object_segments, from_one, index_in, segment_number, Run, if_bytes, pieces_of_run}
+use Rattle.m51_asm.proofs.Common.{object_segments, from_one, index_in, segment_number, if_bytes, pieces_of_run}
 use Rattle.m51_asm.proofs.Common.{offset_at, pieces, fixups, nothing_gathered, gathered_before, IsText, IsAssignedText}
 use Rattle.m51_asm.proofs.Common.{PlacedText}
-use Rattle.std.proofs.Common.{append_assoc}
-use Rattle.std.proofs.Common.{OnOk}
+use Rattle.std.proofs.Common.{append_assoc, OnOk}
 use Rattle.std.specs.Prelude.{slice_set}
 use Rattle.std.proofs.lemmas.List.{append-nil}
 use Rattle.std.proofs.lemmas.List.Folds.{flat_map-map}
 use Rattle.m51_emit.specs.Within.{LieInside}
-use Rattle.m51_emit.specs.Gathering.{Gathered, run_of, runs_of, fixups_of, gathered_of, pieces_in}
-use Rattle.m51_emit.specs.Gathering.{all_pieces, all_fixups}
+use Rattle.m51_emit.specs.Gathering.{Gathered, run_of, runs_of, fixups_of, gathered_of, pieces_in, all_pieces}
+use Rattle.m51_emit.specs.Gathering.{all_fixups}
 use Rattle.m51_emit.specs.declared.content.EmittedContent.{EmittedContent}
 use Rattle.m51_emit.specs.declared.gathering.ModuleContent.{ModuleContent}
 use Rattle.m51_emit.proofs.GrownRuns.{gathered_grows}
 use Rattle.m51_emit.proofs.LyingContent.{references_lie}
 use Rattle.m51_asm.specs.ObjectMeanings.{final}
 use Rattle.m51_asm.specs.ObjectSegments.{kept, number_in}
-use Rattle.m51_asm.specs.Pieces.{content_at, runs_from, segment_pieces}
-use Rattle.m51_asm.specs.Pieces.{line_fixups, fixups_from}
-use Rattle.m51_asm.specs.Gathering.{nothing_in, changed_at, changed_element, placed_at, placed_before}
-use Rattle.m51_asm.specs.Gathering.{gathered_in}
+use Rattle.m51_asm.specs.Pieces.{content_at, runs_from, line_fixups, fixups_from}
+use Rattle.m51_asm.specs.Gathering.{nothing_in, changed_at, changed_element, placed_at, placed_before, gathered_in}
 use Rattle.m51_asm.specs.ContentFaults.{content_fault}
 use Rattle.m51_asm.proofs.FewSegments.{few_segments}
-use Rattle.m51_asm.proofs.Members.{In, Every, Pairs, in_first, in_later, got_in}
-use Rattle.m51_asm.proofs.FirstFaults.{moved}
+use Rattle.m51_asm.proofs.Members.{In, in_first, in_later, got_in}
+use Rattle.m51_asm.proofs.AnsweredLines.{moved}
 use Rattle.m51_asm.proofs.GivenContents.{given_at}
 use Rattle.m51_asm.proofs.GoodLines.{IsFreeText, free_where}
-use Rattle.m51_asm.proofs.KeptNumbers.{ids, Ascend}
-use Rattle.m51_asm.proofs.KeptSegments.{AreKept, all_kept}
+use Rattle.m51_asm.proofs.KeptSegments.{ids, Ascend, AreKept, all_kept}
 use Rattle.m51_asm.proofs.KnownSegments.{known}
 use Rattle.m51_asm.proofs.SegmentRoom.{room}
 use Rattle.m51_asm.proofs.ValidPieces.{ends_by}
 
 -- a write to an element is a change of it
-pub written : {A : Type 0} (change : A → A) (xs : List A) (i : ℕ) (d : A) → i < length xs
+written : {A : Type 0} (change : A → A) (xs : List A) (i : ℕ) (d : A) → i < length xs
     → slice_set xs i (change (get_or xs i d)) ≡ changed_at change i xs
 written change [] i d h = absurd (omega (arith, h))
 written change (x ∷ xs) zero d h = refl
 written change (x ∷ xs) (suc i) d h = ap (λ ys. x ∷ ys) (written change xs i d (omega (arith, h)))
 
 -- past the end there is nothing to change
-pub nothing_changed : {A : Type 0} (change : A → A) (xs : List A) (i : ℕ) → length xs ≤ i → changed_at change i xs ≡ xs
+nothing_changed : {A : Type 0} (change : A → A) (xs : List A) (i : ℕ) → length xs ≤ i → changed_at change i xs ≡ xs
 nothing_changed change [] i h = refl
 nothing_changed change (x ∷ xs) zero h = absurd (omega (arith, h))
 nothing_changed change (x ∷ xs) (suc i) h = ap (λ ys. x ∷ ys) (nothing_changed change xs i (omega (arith, h)))
@@ -53,24 +49,22 @@ pub on_ok : {T E : Type 0} (r : Result T E) (P Q : Type 0) → (P → Q) → OnO
 on_ok (Ok t) P Q f h = f h
 on_ok (Err e) P Q f h = tt
 
-number_less : (n : ℕ) → n ≢ 0 → n ≡ suc (n - 1)
-number_less n ne = grind (arith, ne)
-
 -- the element of this number is changed, where the change goes well
 pub added : {A T E : Type 0} (r : Result T E) (change : A → A) (xs : List A) (n number : ℕ) (x new : A) → n ≡ number
     → number ≢ 0 → get_or xs (n - 1) x ≡ x
     → n - 1 < length xs → OnOk r (new ≡ change x) → OnOk r (slice_set xs (n - 1) new ≡ changed_element change number xs)
-added r change xs n number x new same some is below h =
-    on_ok r (new ≡ change x) (slice_set xs (n - 1) new ≡ changed_element change number xs)
+added r change xs n zero x new same some is below h = absurd (some refl)
+added r change xs n (suc m) x new same some is below h =
+    let at : n - 1 ≡ m = omega (arith, same) in
+    on_ok r _ (slice_set xs (n - 1) new ≡ changed_at change m xs)
     (λ e. ap (slice_set xs (n - 1)) (e ∙ ap change (sym is)) ∙ written change xs (n - 1) x below
-    ∙ ap (λ m. changed_element change m xs) (sym (number_less n (λ z. some (sym same ∙ z))) ∙ same)) h
+    ∙ ap (λ j. changed_at change j xs) at) h
 
 -- no element has this number
 pub not_there : {A : Type 0} (change : A → A) (xs : List A) (n number : ℕ) → n ≡ number → number ≢ 0 → length xs ≤ n - 1
     → xs ≡ changed_element change number xs
-not_there change xs n number same some past =
-    sym (ap (λ m. changed_element change m xs) (sym same ∙ number_less n (λ z. some (sym same ∙ z)))
-    ∙ nothing_changed change xs (n - 1) past)
+not_there change xs n zero same some past = absurd (some refl)
+not_there change xs n (suc m) same some past = sym (nothing_changed change xs m (omega (arith, same, past)))
 
 module _ (F G : Kept → Gathered) (change : Gathered → Gathered) (id : ℕ)
     (same : (s : Kept) → s.id ≡ id → change (F s) ≡ G s)
@@ -99,11 +93,27 @@ module _ (F G : Kept → Gathered) (change : Gathered → Gathered) (id : ℕ)
       ∙ (λ i. other x (λ e. absurd (cc (test, eq-eqb x.id id e))) i ∷ go i)
 
   -- a change of the segment of one id, by its number
-  pub changed_is : (xs : List Kept) → Ascend xs → changed_element change (from_one (index_in (ids xs) id)) (map F xs)
+  changed_is : (xs : List Kept) → Ascend xs → changed_element change (from_one (index_in (ids xs) id)) (map F xs)
       ≡ map G xs
-  unfolding Pairs Every
   changed_is [] order = refl
-  changed_is (x ∷ xs) order = changed_by x xs (x.id == id) refl (λ s i. order.0 s i) (changed_is xs order.1)
+  changed_is (x ∷ xs) order = changed_by x xs (x.id == id) refl order.0 (changed_is xs order.1)
+
+-- a function of what a test chooses
+of_cond : {A B : Type 0} (f : A → B) (b : Bool) (x y : A) → f (cond b x y) ≡ cond b (f x) (f y)
+of_cond f true x y = refl
+of_cond f false x y = refl
+
+-- an item that is put between two lists, or not
+between : {A : Type 0} (b : Bool) (xs ys : List A) (x : A)
+    → xs ++ cond b (x ∷ ys) ys ≡ cond b (xs ++ x ∷ []) xs ++ ys
+between true xs ys x = sym (append_assoc xs (x ∷ []) ys)
+between false xs ys x = refl
+
+none_more : (n : ℕ) → n ≡ n + 0
+none_more n = omega arith
+
+none_before : (n : ℕ) → 0 + n ≡ n
+none_before n = omega arith
 
 module _ (lines : List LineTree) (a : Assignment) where
   -- what these lines, from line k on, give to a segment
@@ -112,86 +122,48 @@ module _ (lines : List LineTree) (a : Assignment) where
   placed_from id k (line ∷ more) =
       cond ((a.segment k).id == id) (placed_at lines a k ∷ placed_from id (suc k) more) (placed_from id (suc k) more)
 
-  one_more : (id k : ℕ) (b : Bool) (rest : List (ℕ × EmittedContent)) → ((a.segment k).id == id) ≡ b
-      → placed_before lines a id k ++ cond b (placed_at lines a k ∷ rest) rest ≡ placed_before lines a id (suc k)
-      ++ rest
-  unfolding placed_before
-  one_more id k true rest test =
-      sym (append_assoc (placed_before lines a id k) (placed_at lines a k ∷ []) rest)
-      ∙ ap (λ b. cond b (placed_before lines a id k ++ placed_at lines a k ∷ []) (placed_before lines a id k) ++ rest)
-      (sym test)
-  one_more id k false rest test =
-      ap (λ b. cond b (placed_before lines a id k ++ placed_at lines a k ∷ []) (placed_before lines a id k) ++ rest)
-      (sym test)
-
-  stays : (n : ℕ) → n ≡ n + 0
-  stays n = omega arith
-
   -- what is given before, with what these lines give, is what all of them give
   before_and : (id k : ℕ) (ls : List LineTree)
       → placed_before lines a id k ++ placed_from id k ls ≡ placed_before lines a id (k + length ls)
-  before_and id k [] = append-nil (placed_before lines a id k) ∙ ap (placed_before lines a id) (stays k)
+  unfolding placed_before
+  before_and id k [] = append-nil (placed_before lines a id k) ∙ ap (placed_before lines a id) (none_more k)
   before_and id k (line ∷ ls) =
-      one_more id k ((a.segment k).id == id) (placed_from id (suc k) ls) refl ∙ before_and id (suc k) ls
-      ∙ ap (placed_before lines a id) (moved k (length ls))
-
-  zero_more : (n : ℕ) → 0 + n ≡ n
-  zero_more n = omega arith
+      between ((a.segment k).id == id) (placed_before lines a id k) (placed_from id (suc k) ls) (placed_at lines a k)
+      ∙ before_and id (suc k) ls ∙ ap (placed_before lines a id) (moved k (length ls))
 
   all_placed : (id : ℕ) → placed_before lines a id (length lines) ≡ placed_from id 0 lines
   unfolding placed_before
-  all_placed id = sym (before_and id 0 lines ∙ ap (placed_before lines a id) (zero_more (length lines)))
-
-  runs_by : (b : Bool) (k : ℕ) (rest : List (ℕ × EmittedContent)) (runs : List Run) → runs_of (map run_of rest) ≡ runs
-      → runs_of (map run_of (cond b (placed_at lines a k ∷ rest) rest))
-      ≡ cond b (if_bytes (offset_at lines a k) (content_at lines a k).bytes runs) runs
-  runs_by true k rest runs e = ap (if_bytes (offset_at lines a k) (content_at lines a k).bytes) e
-  runs_by false k rest runs e = e
+  all_placed id = sym (before_and id 0 lines ∙ ap (placed_before lines a id) (none_before (length lines)))
 
   runs_are : (id k : ℕ) (ls : List LineTree) → runs_of (map run_of (placed_from id k ls)) ≡ runs_from lines a id k ls
   runs_are id k [] = refl
   runs_are id k (line ∷ ls) =
-      runs_by ((a.segment k).id == id) k (placed_from id (suc k) ls) (runs_from lines a id (suc k) ls)
-      (runs_are id (suc k) ls)
-
-  fixups_by : (b : Bool) (number k : ℕ) (rest : List (ℕ × EmittedContent)) (found : List Fixup)
-      → fixups_of (object_segments lines a) number rest ≡ found
-      → fixups_of (object_segments lines a) number (cond b (placed_at lines a k ∷ rest) rest)
-      ≡ cond b (line_fixups lines a number k ++ found) found
-  fixups_by true number k rest found e = ap (λ fs. line_fixups lines a number k ++ fs) e
-  fixups_by false number k rest found e = e
+      let here = (a.segment k).id == id in
+      of_cond (λ xs. runs_of (map run_of xs)) here _ _
+      ∙ (λ i. cond here (if_bytes (offset_at lines a k) (content_at lines a k).bytes (runs_are id (suc k) ls i))
+      (runs_are id (suc k) ls i))
 
   fixups_are : (s : Kept) (k : ℕ) (ls : List LineTree)
       → fixups_of (object_segments lines a) (segment_number lines a s.id) (placed_from s.id k ls)
       ≡ fixups_from lines a s k ls
   fixups_are s k [] = refl
   fixups_are s k (line ∷ ls) =
-      fixups_by ((a.segment k).id == s.id) (segment_number lines a s.id) k (placed_from s.id (suc k) ls)
-      (fixups_from lines a s (suc k) ls) (fixups_are s (suc k) ls)
+      let here = (a.segment k).id == s.id in
+      let number = segment_number lines a s.id in
+      of_cond (fixups_of (object_segments lines a) number) here _ _
+      ∙ (λ i. cond here (line_fixups lines a number k ++ fixups_are s (suc k) ls i) (fixups_are s (suc k) ls i))
 
-  -- what is gathered of all lines
-  abbrev all_of : List Gathered
-  all_of = gathered_before lines a (length lines)
-
-  flat_same : {B : Type 0} (f g : Kept → List B) (xs : List Kept) → ((s : Kept) → f s ≡ g s)
-      → flat_map f xs ≡ flat_map g xs
-  flat_same f g [] e = refl
-  flat_same f g (x ∷ xs) e = λ i. e x i ++ flat_same f g xs e i
-
-  pub pieces_are : all_pieces all_of ≡ pieces lines a
+  pieces_are : all_pieces (gathered_before lines a (length lines)) ≡ pieces lines a
   pieces_are =
       flat_map-map pieces_in (gathered_in lines a (length lines)) (kept lines a)
-      ∙ flat_same (λ s. pieces_in (gathered_in lines a (length lines) s)) (segment_pieces lines a) (kept lines a)
-      (λ s. ap (λ (runs : List Run). flat_map (pieces_of_run (segment_number lines a s.id)) runs)
-      (ap (λ xs. runs_of (map run_of xs)) (all_placed s.id) ∙ runs_are s.id 0 lines))
+      ∙ (λ i. flat_map (λ s. flat_map (pieces_of_run (segment_number lines a s.id))
+      ((ap (λ xs. runs_of (map run_of xs)) (all_placed s.id) ∙ runs_are s.id 0 lines) i)) (kept lines a))
 
-  pub fixups_all : all_fixups all_of ≡ fixups lines a
+  fixups_all : all_fixups (gathered_before lines a (length lines)) ≡ fixups lines a
   fixups_all =
       flat_map-map (λ (g : Gathered). g.fixups) (gathered_in lines a (length lines)) (kept lines a)
-      ∙ flat_same (λ s. (gathered_in lines a (length lines) s).fixups) (λ s. fixups_from lines a s 0 lines)
-      (kept lines a)
-      (λ s. ap (fixups_of (object_segments lines a) (segment_number lines a s.id)) (all_placed s.id)
-      ∙ fixups_are s 0 lines)
+      ∙ (λ i. flat_map (λ s. (ap (fixups_of (object_segments lines a) (segment_number lines a s.id)) (all_placed s.id)
+      ∙ fixups_are s 0 lines) i) (kept lines a))
 
   abbrev content_of : List Piece → List Fixup → ModuleContent
   content_of pieces fixups = record { pieces = pieces; fixups = fixups }
@@ -201,6 +173,13 @@ module _ (lines : List LineTree) (a : Assignment) where
       → content_of (all_pieces gathered) (all_fixups gathered) ≡ content_of (pieces lines a) (fixups lines a)
   whole gathered e = λ i. content_of ((ap all_pieces e ∙ pieces_are) i) ((ap all_fixups e ∙ fixups_all) i)
 
+  -- what is gathered in a segment, by whether line k gives to it
+  abbrev gathered_if : ℕ → Kept → Bool → Gathered
+  gathered_if k s here =
+      let before = placed_before lines a s.id k in
+      gathered_of (object_segments lines a) (segment_number lines a s.id)
+      (cond here (before ++ placed_at lines a k ∷ []) before)
+
   -- the segment of line k with that line added
   here_grows : (k : ℕ) (s : Kept) → s.id ≡ (a.segment k).id
       → with_line (object_segments lines a) (gathered_in lines a k s) (placed_at lines a k)
@@ -209,52 +188,12 @@ module _ (lines : List LineTree) (a : Assignment) where
   here_grows k s e =
       sym (gathered_grows (object_segments lines a) (segment_number lines a s.id) (placed_before lines a s.id k)
       (placed_at lines a k))
-      ∙ ap (λ b. gathered_of (object_segments lines a) (segment_number lines a s.id)
-      (cond b (placed_before lines a s.id k ++ placed_at lines a k ∷ []) (placed_before lines a s.id k)))
-      (sym (eq-eqb (a.segment k).id s.id (sym e)))
+      ∙ ap (gathered_if k s) (sym (eq-eqb (a.segment k).id s.id (sym e)))
 
   -- any other stays
   there_stays : (k : ℕ) (s : Kept) → s.id ≢ (a.segment k).id → gathered_in lines a k s ≡ gathered_in lines a (suc k) s
   unfolding placed_before
-  there_stays k s ne =
-      ap (λ b. gathered_of (object_segments lines a) (segment_number lines a s.id)
-      (cond b (placed_before lines a s.id k ++ placed_at lines a k ∷ []) (placed_before lines a s.id k)))
-      (sym (ne_eqb (a.segment k).id s.id (λ e. ne (sym e))))
-
-module _ (lines : List LineTree) (a : Assignment) (f : IsFreeText lines a) where
-  order : Ascend (kept lines a)
-  order = let all : AreKept lines a f (length lines) (kept lines a) = all_kept lines a f in all.order
-
-  -- with one more line
-  pub gathered_more : (k : ℕ)
-      → changed_element (λ g. with_line (object_segments lines a) g (placed_at lines a k))
-      (segment_number lines a (a.segment k).id) (gathered_before lines a k)
-      ≡ gathered_before lines a (suc k)
-  unfolding number_in
-  gathered_more k =
-      changed_is (gathered_in lines a k) (gathered_in lines a (suc k))
-      (λ g. with_line (object_segments lines a) g (placed_at lines a k)) (a.segment k).id
-      (here_grows lines a k) (there_stays lines a k) (kept lines a) order
-
-  -- what a line gives ends in memory
-  line_fits : (k : ℕ) → k < length lines → content_fault lines a k ≡ None
-      → offset_at lines a k + length (content_at lines a k).bytes ≤ 65536
-  line_fits k below none =
-      let s = a.segment k in
-      let test : (s.id == s.id) ≡ true = eq-eqb s.id s.id refl in
-      let end = ends_by lines a k s.id test (given_at lines a f k below none).within in
-      elim (room lines a f (suc k) (omega (arith, below)) s (known lines a f k).same) [
-        | inl none ↦ omega (arith, end, none)
-        | inr r ↦ let most = r.most in omega (arith, end, most)
-      ]
-
-  -- the same of a place and content that are those of the line
-  pub given_fits : (k at : ℕ) (x : EmittedContent) → k < length lines → content_fault lines a k ≡ None
-      → at ≡ offset_at lines a k → x ≡ content_at lines a k → at + length x.bytes ≤ 65536
-  given_fits k at x below none placed given =
-      let fit = line_fits k below none in
-      let len = ap (λ (y : EmittedContent). length y.bytes) given in
-      omega (arith, fit, placed, len)
+  there_stays k s ne = ap (gathered_if k s) (sym (ne_eqb (a.segment k).id s.id (λ e. ne (sym e))))
 
 -- the fields of a line lie in its bytes
 pub line_lies : (lines : List LineTree) (a : Assignment) (k : ℕ)
@@ -267,21 +206,14 @@ abbrev nothing_from : ℕ → ℕ → List Gathered
 nothing_from n zero = []
 nothing_from n (suc m) = nothing_in (suc n) ∷ nothing_from (suc n) m
 
-no_more : (n : ℕ) → n ≡ n + 0
-no_more n = omega arith
-
-zero_first : (n : ℕ) → 0 + n ≡ n
-zero_first n = omega arith
-
 nothing_and : (n m : ℕ) → nothing_gathered n ++ nothing_from n m ≡ nothing_gathered (n + m)
-nothing_and n zero = append-nil (nothing_gathered n) ∙ ap nothing_gathered (no_more n)
+nothing_and n zero = append-nil (nothing_gathered n) ∙ ap nothing_gathered (none_more n)
 nothing_and n (suc m) =
     sym (append_assoc (nothing_gathered n) (nothing_in (suc n) ∷ []) (nothing_from (suc n) m)) ∙ nothing_and (suc n) m
     ∙ ap nothing_gathered (moved n m)
 
 -- the number of a segment is its index, counted from 1
 index_is : (xs : List Kept) → Ascend xs → (j : ℕ) (s : Kept) → slice_get xs j ≡ Some s → index_in (ids xs) s.id ≡ Some j
-unfolding Pairs Every
 index_is [] order j s e = absurd (cc e)
 index_is (x ∷ xs) order zero s e =
     let same : x ≡ s = cc e in
@@ -289,36 +221,40 @@ index_is (x ∷ xs) order zero s e =
     (eq-eqb x.id s.id (ap (λ (k : Kept). k.id) same))
 index_is (x ∷ xs) order (suc j) s e =
     let less : x.id < s.id = order.0 s (got_in xs j s e) in
-    ap (λ b. cond b (Some 0) (option_map (λ n. suc n) (index_in (ids xs) s.id)))
-    (ne_eqb x.id s.id (omega (arith, less)))
-    ∙ ap (option_map (λ n. suc n)) (index_is xs order.1 j s e)
+    λ i. cond (ne_eqb x.id s.id (omega (arith, less)) i) (Some 0)
+    (option_map (λ n. suc n) (index_is xs order.1 j s e i))
 
 nothing_by : (f : Kept → ℕ) (n : ℕ) (xs : List Kept)
     → ((j : ℕ) (s : Kept) → slice_get xs j ≡ Some s → f s ≡ suc (n + j))
     → nothing_from n (length xs) ≡ map (λ s. nothing_in (f s)) xs
 nothing_by f n [] h = refl
-nothing_by f n (x ∷ xs) h = λ i. nothing_in (sym (h 0 x refl ∙ ap (λ m. suc m) (sym (no_more n))) i)
+nothing_by f n (x ∷ xs) h = λ i. nothing_in (sym (h 0 x refl ∙ ap (λ m. suc m) (sym (none_more n))) i)
     ∷ nothing_by f (suc n) xs (λ j s e. h (suc j) s e ∙ ap (λ m. suc m) (sym (moved n j))) i
 
 module _ (lines : List LineTree) (a : Assignment) (f : IsFreeText lines a) where
-  no_line : (s : Kept) → gathered_in lines a 0 s ≡ nothing_in (segment_number lines a s.id)
-  unfolding placed_before
-  no_line s = refl
+  order : Ascend (kept lines a)
+  order = let all : AreKept lines a f (length lines) (kept lines a) = all_kept lines a f in all.order
 
-  none_before : (xs : List Kept)
-      → map (gathered_in lines a 0) xs ≡ map (λ s. nothing_in (segment_number lines a s.id)) xs
-  none_before [] = refl
-  none_before (x ∷ xs) = λ i. no_line x i ∷ none_before xs i
+  -- the same of a place and content that are those of line k: what it gives ends in memory
+  pub given_fits : (k at : ℕ) (x : EmittedContent) → k < length lines → content_fault lines a k ≡ None
+      → at ≡ offset_at lines a k → x ≡ content_at lines a k → at + length x.bytes ≤ 65536
+  given_fits k at x below none placed given =
+      let s = a.segment k in
+      let len = ap (λ (y : EmittedContent). length y.bytes) given in
+      let end = ends_by lines a k s.id (eq-eqb s.id s.id refl) (given_at lines a f k below none).within in
+      elim (room lines a f (suc k) (omega (arith, below)) s (known lines a f k).same) [
+        | inl none ↦ omega (arith, end, none, placed, len)
+        | inr r ↦ let most = r.most in omega (arith, end, most, placed, len)
+      ]
 
   -- before the first line
-  pub gathered_first : nothing_gathered (length (kept lines a)) ≡ gathered_before lines a 0
-  unfolding number_in
+  gathered_first : nothing_gathered (length (kept lines a)) ≡ gathered_before lines a 0
+  unfolding number_in placed_before
   gathered_first =
       let xs = kept lines a in
-      sym (nothing_and 0 (length xs) ∙ ap nothing_gathered (zero_first (length xs)))
+      sym (nothing_and 0 (length xs) ∙ ap nothing_gathered (none_before (length xs)))
       ∙ nothing_by (λ s. segment_number lines a s.id) 0 xs
-      (λ j s e. ap from_one (index_is xs (order lines a f) j s e) ∙ ap (λ n. suc n) (sym (zero_first j)))
-      ∙ sym (none_before xs)
+      (λ j s e. ap from_one (index_is xs order j s e) ∙ ap (λ n. suc n) (sym (none_before j)))
 
   -- what is gathered grows with what is added of a line
   pub next_gathered : (k number at : ℕ) (content : EmittedContent) (segments : List Segment) (old new : List Gathered)
@@ -327,22 +263,23 @@ module _ (lines : List LineTree) (a : Assignment) (f : IsFreeText lines a) where
       → old ≡ gathered_before lines a k
       → new ≡ changed_element (λ g. with_line segments g (at, content)) number old → new
       ≡ gathered_before lines a (suc k)
+  unfolding number_in
   next_gathered k number at content segments old new same numbered placed given before e =
       e ∙ (λ i. changed_element (λ g. with_line (same i) g (placed i, given i)) (numbered i) (before i))
-      ∙ gathered_more lines a f k
+      ∙ changed_is (gathered_in lines a k) (gathered_in lines a (suc k))
+      (λ g. with_line (object_segments lines a) g (placed_at lines a k)) (a.segment k).id
+      (here_grows lines a k) (there_stays lines a k) (kept lines a) order
+
+  count_is : (segments : List Segment) → segments ≡ object_segments lines a → length segments ≡ length (kept lines a)
+  count_is segments e = ap length e ∙ length-map (kept lines a) (λ (k : Kept). k.segment)
 
   -- the segments of the module are not too many
   pub segments_few : (segments : List Segment) → segments ≡ object_segments lines a → length segments ≤ 254
-  segments_few segments e =
-      let few = few_segments lines a f in
-      let len : length segments ≡ length (kept lines a) =
-      ap length e ∙ length-map (kept lines a) (λ (k : Kept). k.segment) in
-      omega (arith, few, len)
+  segments_few segments e = omega (arith, few_segments lines a f, count_is segments e)
 
   pub first_gathered : (segments : List Segment) → segments ≡ object_segments lines a
       → nothing_gathered (length segments) ≡ gathered_before lines a 0
-  first_gathered segments e = ap nothing_gathered (ap length e ∙ length-map (kept lines a) (λ (k : Kept). k.segment))
-      ∙ gathered_first
+  first_gathered segments e = ap nothing_gathered (count_is segments e) ∙ gathered_first
 
 -- no line of a text that is placed has a fault by the lines above it
 pub placed_text : (lines : List LineTree) (a : Assignment) (t : PlacedText) → IsText lines → IsAssignedText lines a t

@@ -1,25 +1,110 @@
--- What the lines of a text without faults give: bytes in segments of program memory, within what is counted, and at
--- most
--- 65,535 references.
-use Rattle.m51_asm.proofs.Common.{◌≡◌, ◌⊎◌, inl, inr, ℕ, zero, suc, ◌+◌, ◌<◌, ◌≤◌, false, not, List, [], length, refl}
-use Rattle.m51_asm.proofs.Common.{sym, None, subst, arith, same_kind, kind_same, Jump, Meanings, BodyTree}
-use Rattle.m51_asm.proofs.Common.{OperandOutcome, LineTree, TextSegment, Assignment, body_at, size_by, is_misplaced}
-use Rattle.m51_asm.proofs.Common.{EmittedContent}
+-- An instruction without a fault gives the bytes of its row, and no more references than fixups are counted.
+use Rattle.m51_asm.proofs.Common.{nat_tests, ◌≡◌, ℕ, suc, ◌+◌, ◌≤◌, ◌==◌, Bool, cond, List, [], ◌∷◌, ◌++◌, length, take}
+use Rattle.m51_asm.proofs.Common.{Option, Some, None, Ok, refl, sym, subst, ◌∙◌, arith, length-append, length-take}
+use Rattle.m51_asm.proofs.Common.{Jump, Instr, row_length, Meanings, Reference, Answer, ◌⊎◌, inl, inr, zero, ◌<◌, false}
+use Rattle.m51_asm.proofs.Common.{not, same_kind, kind_same, BodyTree, OperandOutcome, LineTree, TextSegment}
+use Rattle.m51_asm.proofs.Common.{Assignment, body_at, size_by, is_misplaced, EmittedContent}
+use Rattle.std.specs.Prelude.{unwrap_or}
+use Rattle.std.specs.Option.{option_or}
+use Rattle.m51_isa.specs.Table.{encoded, padded}
+use Rattle.m51_isa.specs.Filling.{with_numbers}
+use Rattle.m51_isa.proofs.Codes.{rows_are_short}
+use Rattle.m51_isa.proofs.RowsFilled.{texts_are_rows}
+use Rattle.m51_expr.specs.Operand.{OperandTree}
+use Rattle.m51_encode.specs.JumpForm.{address_after}
+use Rattle.m51_encode.specs.Filling.{beginning_at, reference_at, references_of}
+use Rattle.m51_encode.specs.Outcomes.{linked}
+use Rattle.m51_encode.specs.Coding.{gathered, first_of, second_of, third_of, three_outcomes, coded, outcomes, length_of}
+use Rattle.m51_encode.specs.Lengths.{HasRow}
+use Rattle.m51_asm.specs.Content.{placed_from, coded_content, nothing, outcomes_by, content_by}
+use Rattle.m51_asm.proofs.ContentFields.{Held, row_content, IsContent}
+use Rattle.m51_asm.proofs.MadeParts.{one_fixup, fixes, AreFine, IsGiven, AreMade, made, nothing_given}
 use Rattle.std.proofs.lemmas.Bool.{not-false}
-use Rattle.m51_cells.specs.declared.kind.Kind.TheVariants as kind
-use Rattle.m51_stmt.specs.Statement as body
 use Rattle.m51_encode.proofs.FormRows.{forms_have_rows}
 use Rattle.m51_asm.specs.Assignment.{above}
 use Rattle.m51_asm.specs.Fitting.{size_at}
 use Rattle.m51_asm.specs.ObjectMeanings.{final}
-use Rattle.m51_asm.specs.Content.{nothing, outcomes_by, content_by}
 use Rattle.m51_asm.specs.ContentFaults.{line_outcomes_by, line_outcomes, made_before, content_fault}
 use Rattle.m51_asm.specs.Pieces.{content_at}
 use Rattle.m51_asm.proofs.GoodLines.{IsGood, IsFreeText, IsClean, free_text, free}
-use Rattle.m51_asm.proofs.ContentFields.{IsContent}
-use Rattle.m51_asm.proofs.MadeParts.{fixes, AreFine, AreMade, made, IsGiven, nothing_given}
-use Rattle.m51_asm.proofs.CodeContents.{code_given}
 use Rattle.m51_asm.proofs.ItemContents.{bytes_given, words_given}
+use Rattle.m51_cells.specs.declared.kind.Kind.TheVariants as kind
+use Rattle.m51_stmt.specs.Statement as body
+
+abbrev one_ref : Option Reference → ℕ
+one_ref None = 0
+one_ref (Some r) = 1
+
+one_or : (x y : Option Reference) → one_ref (option_or x y) ≤ one_ref x + one_ref y
+one_or x y = grind arith
+
+one_linked : (o : Option Reference) → one_fixup (linked o) ≡ one_ref o
+one_linked o = grind arith
+
+abbrev refs_in : List (Option Reference) → ℕ
+refs_in [] = 0
+refs_in (o ∷ os) = one_ref o + refs_in os
+
+refs_len : (os : List (Option Reference)) (n : ℕ) → length (placed_from n os) ≡ refs_in os
+refs_len [] n = refl
+refs_len (None ∷ os) n = let e = refs_len os (suc n) in omega arith
+refs_len (Some r ∷ os) n = let e = refs_len os (suc n) in omega arith
+
+one_if : (b : Bool) (o : Option Reference) → one_ref (cond b o None) ≡ cond b (one_ref o) 0
+one_if b o = grind arith
+
+one_byte : (byte n : ℕ) → cond (byte == 0) n 0 + (cond (byte == 1) n 0 + cond (byte == 2) n 0) ≤ n
+one_byte byte n = grind (arith, nat_tests)
+
+begins_once : (x : Held)
+    → one_ref (beginning_at 0 x) + (one_ref (beginning_at 1 x) + one_ref (beginning_at 2 x)) ≤ one_ref x.reference
+begins_once x = omega (arith, one_if, one_byte x.byte (one_ref x.reference))
+
+at_most : (k : ℕ) (a b c : Held) → one_ref (reference_at k a b c) ≤ one_ref
+    (beginning_at k a) + (one_ref (beginning_at k b) + one_ref (beginning_at k c))
+at_most k a b c = omega (arith, one_or)
+
+few_references : (a b c : Held) → length (placed_from 0 (references_of a b c)) ≤ fixes
+    (linked a.reference ∷ linked b.reference ∷ linked c.reference ∷ [])
+few_references a b c = omega (arith, refs_len (references_of a b c) 0, at_most, begins_once, one_linked)
+
+front_len : (bytes : List ℕ) → length bytes ≤ 3 → length (take (length bytes) (padded bytes)) ≡ length bytes
+front_len bytes short =
+    let zeros : List ℕ = 0 ∷ 0 ∷ 0 ∷ [] in
+    omega (
+      arith,
+      length-take (length bytes) (take 3 (bytes ++ zeros)),
+      length-take 3 (bytes ++ zeros),
+      length-append bytes zeros,
+    )
+
+-- an instruction of a row
+module _ (names : Meanings) (row : Instr) (oa ob oc : Option OperandTree) where
+  three_given : (x y z : Answer Held) → first_of names row oa ≡ x → second_of names row ob ≡ y
+      → third_of names row oc ≡ z → AreFine (three_outcomes x y z)
+      → IsGiven names (row_length row) (three_outcomes x y z) (coded_content (gathered row x y z))
+  three_given (Ok a) (Ok b) (Ok c) is_x is_y is_z fine =
+      let bytes = encoded (with_numbers row a.number b.number c.number) in
+      let len = front_len bytes (rows_are_short (with_numbers row a.number b.number c.number)).three
+      ∙ (texts_are_rows.filled row a.number b.number c.number).length in
+      record {
+        content = row_content names row (address_after names (row_length row)) oa ob oc a b c is_x is_y is_z
+            (take (length bytes) (padded bytes)) len;
+        size_is = len;
+        few = few_references a b c;
+      }
+  three_given x y z is_x is_y is_z fine = absurd (grind arith)
+
+pub code_given : (names : Meanings) (mnemonic : List ℕ) (operands : List OperandTree) (form : Jump)
+    → HasRow mnemonic operands form → AreFine (outcomes names mnemonic operands form)
+    → IsGiven names (unwrap_or (length_of mnemonic operands form) 0) (outcomes names mnemonic operands form)
+    (coded_content (coded names mnemonic operands form))
+code_given names mnemonic operands form has fine =
+    let given = three_given names has.row has.line.first has.line.second has.line.third _ _ _ refl refl refl
+    (subst AreFine (has.comes_to names) fine) in
+    subst (λ (X : Type 0). X)
+    (λ i. IsGiven names (unwrap_or (sym has.length i) 0) (sym (has.comes_to names) i)
+    (coded_content (sym (has.code names) i))) given
 
 -- what a line gives, by what it says
 record IsGivenBy (names : Meanings) (size : ℕ) (parts : List OperandOutcome) (segment : TextSegment)
@@ -32,40 +117,37 @@ record IsGivenBy (names : Meanings) (size : ℕ) (parts : List OperandOutcome) (
 in_code : (s : TextSegment) → not (same_kind s.kind kind.Code) ≡ false → s.kind ≡ kind.Code
 in_code s h = kind_same s.kind kind.Code (not-false (same_kind s.kind kind.Code) h)
 
-exactly : (names : Meanings) (size : ℕ) (parts : List OperandOutcome) (s : TextSegment) (c : EmittedContent)
-    → IsGiven names size parts c → s.kind ≡ kind.Code → IsGivenBy names size parts s c
-exactly names size parts s c g code =
-    record { content = g.content; within = let e = g.size_is in omega (arith, e); few = g.few; code = inr code }
+module _ (names counts : Meanings) (form : Jump) (s : TextSegment) where
+  exactly : (size : ℕ) (parts : List OperandOutcome) (c : EmittedContent) → IsGiven names size parts c
+      → not (same_kind s.kind kind.Code) ≡ false → IsGivenBy names size parts s c
+  exactly size parts c g stands = record {
+    content = g.content;
+    within = let e = g.size_is in omega (arith, e);
+    few = g.few;
+    code = inr (in_code s stands);
+  }
 
-none_given : (names : Meanings) (size : ℕ) (parts : List OperandOutcome) (s : TextSegment)
-    → IsGivenBy names size parts s nothing
-none_given names size parts s =
-    let g = nothing_given names parts in
-    record { content = g.content; within = omega arith; few = g.few; code = inl refl }
+  none_given : (size : ℕ) (parts : List OperandOutcome) → IsGivenBy names size parts s nothing
+  none_given size parts =
+      let g = nothing_given names parts in
+      record { content = g.content; within = omega arith; few = g.few; code = inl refl }
 
-given_by : (lines : List LineTree) (a : Assignment) (k : ℕ) (names counts : Meanings) (form : Jump) (s : TextSegment)
-    (b : BodyTree) → IsGood b → is_misplaced s b ≡ false → AreFine (outcomes_by names form b)
-    → IsGivenBy names (size_by counts form b) (outcomes_by names form b) s (content_by names form b)
-given_by lines a k names counts form s (body.Code mnemonic operands) good stands fine =
-    exactly names _ _ s _ (code_given names mnemonic operands form (forms_have_rows mnemonic operands good form) fine)
-    (in_code s stands)
-given_by lines a k names counts form s (body.Db items) good stands fine =
-    exactly names _ _ s _ (bytes_given names items fine) (in_code s stands)
-given_by lines a k names counts form s (body.Dw items) good stands fine =
-    exactly names _ _ s _ (words_given names items good fine) (in_code s stands)
-given_by lines a k names counts form s b good stands fine = none_given names (size_by counts form b) [] s
+  given_by : (b : BodyTree) → IsGood b → is_misplaced s b ≡ false → AreFine (outcomes_by names form b)
+      → IsGivenBy names (size_by counts form b) (outcomes_by names form b) s (content_by names form b)
+  given_by (body.Code mnemonic operands) good stands fine =
+      exactly _ _ _ (code_given names mnemonic operands form (forms_have_rows mnemonic operands good form) fine) stands
+  given_by (body.Db items) good stands fine = exactly _ _ _ (bytes_given names items fine) stands
+  given_by (body.Dw items) good stands fine = exactly _ _ _ (words_given names items good fine) stands
+  given_by b good stands fine = none_given (size_by counts form b) []
 
-line_given : (lines : List LineTree) (a : Assignment) (k : ℕ) (names counts : Meanings) (form : Jump) (s : TextSegment)
-    (b : BodyTree) → final lines a k ≡ names → a.form k ≡ form → IsGood b
-    → is_misplaced s b ≡ false → AreFine (line_outcomes_by lines a k b)
-    → IsGivenBy names (size_by counts form b) (line_outcomes_by lines a k b) s (content_by names form b)
-line_given lines a k names counts form s (body.Public ps) is same good stands fine =
-    none_given names 0 (line_outcomes_by lines a k (body.Public ps)) s
-line_given lines a k names counts form s b is same good stands fine =
-    let e : outcomes_by (final lines a k) (a.form k) b ≡ outcomes_by names form b =
-    λ i. outcomes_by (is i) (same i) b in
-    subst (λ ps. IsGivenBy names (size_by counts form b) ps s (content_by names form b)) (sym e)
-    (given_by lines a k names counts form s b good stands (subst AreFine e fine))
+line_given : (lines : List LineTree) (a : Assignment) (k : ℕ) (counts : Meanings) (s : TextSegment) (b : BodyTree)
+    → IsGood b → is_misplaced s b ≡ false → AreFine (line_outcomes_by lines a k b)
+    → IsGivenBy (final lines a k) (size_by counts (a.form k) b) (line_outcomes_by lines a k b) s
+    (content_by (final lines a k) (a.form k) b)
+line_given lines a k counts s (body.Public ps) good stands fine =
+    none_given (final lines a k) counts (a.form k) s 0 (line_outcomes_by lines a k (body.Public ps))
+line_given lines a k counts s b good stands fine =
+    given_by (final lines a k) counts (a.form k) s b good stands fine
 
 -- what line k gives
 pub record IsLineGiven (lines : List LineTree) (a : Assignment) (k : ℕ) : Type 0 where
@@ -85,11 +167,9 @@ pub given_at : (lines : List LineTree) (a : Assignment) → IsFreeText lines a �
 unfolding content_at size_at made_before line_outcomes
 given_at lines a f k below none =
     let m = made_at lines a k none in
-    let g = line_given lines a k (final lines a k) (above lines a k) (a.form k) (a.segment k) (body_at lines k) refl
-    refl (f.good k) (free lines a k (f.placed k below)).stands m.fine in
-    let few = g.few in
-    let sum = m.made_is in
-    record { content = g.content; within = g.within; few = omega (arith, few, sum); code = g.code }
+    let g = line_given lines a k (above lines a k) (a.segment k) (body_at lines k) (f.good k)
+    (free lines a k (f.placed k below)).stands m.fine in
+    record { content = g.content; within = g.within; few = omega (arith, g.few, m.made_is); code = g.code }
 
 module _ (lines : List LineTree) (a : Assignment) (c : IsClean lines a) where
   pub given : (k : ℕ) → k < length lines → IsLineGiven lines a k

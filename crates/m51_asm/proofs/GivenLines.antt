@@ -1,6 +1,6 @@
 -- Pass 2 line by line: what is kept grows with a line as the definitions say.
 use Rattle.m51_asm.proofs.Common.{◌≡◌, ℕ, zero, suc, ◌%◌, ◌||◌, cond, is_some, List, [], ◌∷◌, ◌++◌, map, drop, ◌<◌}
-use Rattle.m51_asm.proofs.Common.{Option, Some, None, Ok, Err, refl, ap, sym, ◌∙◌, slice_get, add-one, arith, Jump}
+use Rattle.m51_asm.proofs.Common.{Option, Some, None, Ok, Err, refl, ap, sym, ◌∙◌, slice_get, add-one, arith}
 use Rattle.m51_asm.proofs.Common.{Meanings, Fault, Row, BodyTree, StmtTree, LineTree, or_next, Assignment, body_of}
 use Rattle.m51_asm.proofs.Common.{body_at, if_fault, faults_from, content_faults, rows_from, rows, LinePlace, Fits}
 use Rattle.m51_asm.proofs.Common.{text_segment, here_of, IsPlaceOf, IsSetAt, fault_among, publics_in, IsGivenTo}
@@ -76,11 +76,10 @@ fault_before line None more = refl
 
 -- what a line gives by its names is its content
 pub content_is : (lines : List LineTree) (a : Assignment) (k : ℕ) (line : LineTree) → slice_get lines k ≡ Some line
-    → (names : Meanings) (form : Jump) → names ≡ final lines a k → form ≡ a.form k → (c : EmittedContent)
-    → c ≡ content_by names form line.stmt.body → c ≡ content_at lines a k
+    → (names : Meanings) → names ≡ final lines a k → (c : EmittedContent)
+    → c ≡ content_by names (a.form k) line.stmt.body → c ≡ content_at lines a k
 unfolding content_at
-content_is lines a k line is names form same jumps c e =
-    e ∙ (λ i. content_by (same i) (jumps i) (body_of (sym is i)))
+content_is lines a k line is names same c e = e ∙ (λ i. content_by (same i) (a.form k) (body_of (sym is i)))
 
 -- where there is no fault after a line, there was none before it, and the line has none
 pub unfaulted : (line : LineTree) (fault : Option ℕ) (before : List Fault) → before ++ if_fault line fault [] ≡ []
@@ -91,25 +90,24 @@ unfaulted line fault (x ∷ xs) e = absurd (cc e)
 
 module _ (lines : List LineTree) (a : Assignment) (k : ℕ) (line : LineTree) (is : slice_get lines k ≡ Some line)
     (before after : Contents)
-    (h : IsGivenTo lines a k before) (names : Meanings) (form : Jump) (same : names ≡ final lines a k)
-    (jumps : form ≡ a.form k)
+    (h : IsGivenTo lines a k before) (names : Meanings) (same : names ≡ final lines a k)
     (of : List ℕ → Published) (publish : of ≡ published lines a k) where
-  made_next : after.made ≡ made_with_all before.made (outcomes_by names form line.stmt.body)
+  made_next : after.made ≡ made_with_all before.made (outcomes_by names (a.form k) line.stmt.body)
       → after.made ≡ made_before lines a (suc k)
   unfolding made_before line_outcomes
   made_next e =
-      e ∙ (λ i. made_with_all (h.made i) (outcomes_by (same i) (jumps i) (body_of (sym is i))))
+      e ∙ (λ i. made_with_all (h.made i) (outcomes_by (same i) (a.form k) (body_of (sym is i))))
       ∙ made_is lines a k (made_before lines a k) (body_at lines k)
 
   -- the fault of the line
   abbrev fault : Option ℕ
-  fault = or_next (leftmost_fault before.made (outcomes_by names form line.stmt.body))
+  fault = or_next (leftmost_fault before.made (outcomes_by names (a.form k) line.stmt.body))
       (fault_among of (publics_in line.stmt.body))
 
   fault_here : fault ≡ content_fault lines a k
   unfolding content_fault line_outcomes
   fault_here =
-      (λ i. or_next (leftmost_fault (h.made i) (outcomes_by (same i) (jumps i) (body_of (sym is i))))
+      (λ i. or_next (leftmost_fault (h.made i) (outcomes_by (same i) (a.form k) (body_of (sym is i))))
       (fault_among (publish i) (publics_in (body_of (sym is i)))))
       ∙ fault_is lines a k (made_before lines a k) (body_at lines k)
 
@@ -150,17 +148,17 @@ module _ (lines : List LineTree) (a : Assignment) (k : ℕ) (line : LineTree) (i
       rw (← add-one) (below_more (λ j. content_fault lines a j ≡ None) k (h.clean u.0) (sym fault_here ∙ u.1))
 
   pub next_given : (row : Row) (c : EmittedContent) → IsSetAt lines a (suc k) after.set
-      → after.made ≡ made_with_all before.made (outcomes_by names form line.stmt.body)
+      → after.made ≡ made_with_all before.made (outcomes_by names (a.form k) line.stmt.body)
       → after.publics ≡ before.publics ++ publics_among of (publics_in line.stmt.body)
       → after.faults ≡ before.faults ++ if_fault line fault []
       → after.rows ≡ before.rows ++ row ∷ [] → row ≡ listing_row line (place_of a k line) c
-      → c ≡ content_by names form line.stmt.body → IsGivenTo lines a (suc k) after
+      → c ≡ content_by names (a.form k) line.stmt.body → IsGivenTo lines a (suc k) after
   next_given row c sets made publics faults rows row_is content = record {
     sets = sets;
     made = made_next made;
     publics = publics_next publics;
     faults = faults_next faults;
-    rows = rows_next row c rows row_is (content_is lines a k line is names form same jumps c content);
+    rows = rows_next row c rows row_is (content_is lines a k line is names same c content);
     clean = clean_next faults;
   }
 

@@ -1,76 +1,119 @@
--- What a line gives to names is what their definitions say, and its externals have numbers.
-use Rattle.m51_asm.proofs.Common.{◌≡◌, ℕ, suc, ◌+◌, ◌≤◌, length, Bool, true, false, cond, List, [], ◌∷◌, ◌++◌, map}
-use Rattle.m51_asm.proofs.Common.{Option, Some, None, refl, ap, sym, subst, arith, option_map, bytes_eq, Kind, BodyTree}
-use Rattle.m51_asm.proofs.Common.{StmtTree, Equ, Set, Address, LineTree, Located, Giving, Definition, Label, SegmentOf}
-use Rattle.m51_asm.proofs.Common.{EquOf, SetOf, AddressOf, ExternOf, externals_from, defined_by, label_defined}
-use Rattle.m51_asm.proofs.Common.{definitions_in, found_in, Assignment, here_at, externals_in, located_value, brief}
-use Rattle.m51_asm.proofs.Common.{or_kept, expression_given, given_or}
+-- The values of names, as the map keeps them.
+use Rattle.m51_asm.proofs.Common.{◌≡◌, ℕ, Bool, true, false, cond, List, [], ◌∷◌, Option, Some, refl, ap, sym, ◌∙◌}
+use Rattle.m51_asm.proofs.Common.{bytes_eq-Decides, lookup, Vec, bytes_eq, Located, value_in, suc, ◌+◌, ◌≤◌, length}
+use Rattle.m51_asm.proofs.Common.{◌++◌, map, None, subst, arith, option_map, Kind, BodyTree, StmtTree, Equ, Set}
+use Rattle.m51_asm.proofs.Common.{Address, LineTree, Giving, SegmentOf, ExternOf, externals_from, defined_by}
+use Rattle.m51_asm.proofs.Common.{label_defined, definitions_in, found_in, Assignment, here_at, externals_in}
+use Rattle.m51_asm.proofs.Common.{located_value, brief, or_kept, expression_given, given_or, Defined, take, slice_get}
+use Rattle.m51_asm.proofs.Common.{or_parts, Value, Definition, SetOf, line_definitions, defined_of, set_by, value_by}
+use Rattle.m51_asm.proofs.Common.{clashes, or_here, earlier, repeats_from}
+use Rattle.indexmap.specs.IndexMap.{insert_entry}
+use Rattle.m51_asm.specs.Values.{valuation_of, known, Puts}
 use Rattle.m51_stmt.specs.Statement.{Segment, Extrn}
 use Rattle.m51_asm.specs.Assignment.{above}
-use Rattle.m51_asm.specs.Fitting.{externals_before}
+use Rattle.m51_asm.specs.Fitting.{externals_before, last_set}
 use Rattle.m51_asm.specs.Table.{Brief, how_of}
-use Rattle.m51_asm.specs.ValuesAbove.{line_value}
+use Rattle.m51_asm.specs.ValuesAbove.{line_value, value_above}
 use Rattle.m51_asm.specs.GivenValues.{given_by, HaveNumbers}
+use Rattle.m51_asm.specs.Definitions.{definition_of}
+use Rattle.m51_asm.specs.Repeats.{repeats_a_name, is_repeated}
+use Rattle.m51_asm.proofs.DefinedLines.{or_none, at_line, defined_more}
+
+-- the map's entry of a name
+pub lookup_value : (name : List ℕ) (entries : List (Vec ℕ × Option (Located ℕ)))
+    → known (lookup (λ (k : Vec ℕ). bytes_eq name k.items) entries) ≡ value_in (valuation_of entries) name
+lookup_value name [] = refl
+lookup_value name (e ∷ es) =
+    known_if (bytes_eq name e.0.items) e.1 (lookup (λ (k : Vec ℕ). bytes_eq name k.items) es) (lookup_value name es)
+  where
+    known_if : (b : Bool) (v : Option (Located ℕ)) (o : Option (Option (Located ℕ))) {w : Option (Located ℕ)}
+        → known o ≡ w → known (cond b (Some v) o) ≡ cond b v w
+    known_if true v o h = refl
+    known_if false v o h = h
+
+value_if : (b : Bool) (xs ys : List (Vec ℕ × Option (Located ℕ))) (name : List ℕ)
+    → value_in (valuation_of (cond b xs ys)) name
+    ≡ cond b (value_in (valuation_of xs) name) (value_in (valuation_of ys) name)
+value_if true xs ys name = refl
+value_if false xs ys name = refl
+
+-- one entry more: whether its key is the one that is put in, whether it is the name, and whether the two are the same
+put_step : (b p q : Bool) (v w x y : Option (Located ℕ)) → (b ≡ true → p ≡ q) → (p ≡ true → q ≡ true → b ≡ true)
+    → y ≡ cond q v x → cond b (cond p v x) (cond p w y) ≡ cond q v (cond p w x)
+put_step true true true v w x y s t h = refl
+put_step true false false v w x y s t h = refl
+put_step true true false v w x y s t h = absurd (cc (s refl))
+put_step true false true v w x y s t h = absurd (cc (s refl))
+put_step false true true v w x y s t h = absurd (cc (t refl refl))
+put_step false true false v w x y s t h = refl
+put_step false false q v w x y s t h = h
+
+-- a value that is put in
+pub put_value : (entries : List (Vec ℕ × Option (Located ℕ))) (key : Vec ℕ) (v : Option (Located ℕ))
+    → Puts (valuation_of entries)
+    (valuation_of (insert_entry (λ (a b : Vec ℕ). bytes_eq a.items b.items) entries key v)) key.items v
+put_value [] key v other = refl
+put_value (e ∷ es) key v other =
+    let same : (m n : List ℕ) → bytes_eq m n ≡ true → m ≡ n = λ m n. (bytes_eq-Decides m n).0 in
+    let rest = insert_entry (λ (a b : Vec ℕ). bytes_eq a.items b.items) es key v in
+    value_if (bytes_eq key.items e.0.items) ((e.0, v) ∷ es) (e ∷ rest) other
+    ∙ put_step (bytes_eq key.items e.0.items) (bytes_eq other e.0.items) (bytes_eq other key.items) v e.1
+    (value_in (valuation_of es) other) (value_in (valuation_of rest) other)
+    (λ p. ap (bytes_eq other) (sym (same key.items e.0.items p)))
+    (λ p q. ap (λ n. bytes_eq n e.0.items) (sym (same other key.items q)) ∙ p)
+    (put_value es key v other)
 
 module _ (lines : List LineTree) (a : Assignment) (k : ℕ) (g : Giving) (here : located_value g.here ≡ here_at a k)
     (line : g.line ≡ k)
-    (externals : g.externals ≡ externals_before lines k) (name : List ℕ) (kept : Option (Located ℕ)) where
-  -- one more definition, which is first
-  first_given : (b : Bool) (d : Definition) (f : Option Definition) (later : Option (Located ℕ))
-      → option_map located_value (given_by g (how_of d)) ≡ line_value lines a k d
-      → option_map located_value later ≡ or_kept lines a k f (option_map located_value kept)
-      → option_map located_value (cond b (given_by g (how_of d)) later)
-      ≡ or_kept lines a k (cond b (Some d) f) (option_map located_value kept)
-  first_given true d f later h m = h
-  first_given false d f later h m = m
+    (externals : g.externals ≡ externals_before lines k) where
+  -- by each of these definitions the line gives what the definition says
+  abbrev Agree : List Defined → Type 0
+  Agree [] = Unit {0}
+  Agree (d ∷ ds) = (option_map located_value (given_by g (how_of d.1)) ≡ line_value lines a k d.1) × Agree ds
 
-  external_is : (kind : Kind) (number : ℕ)
-      → option_map located_value (given_by g (how_of (ExternOf kind number)))
-      ≡ line_value lines a k (ExternOf kind number)
-  external_is kind number =
-      ap (λ n. option_map located_value (given_by (record g { externals = n }) (how_of (ExternOf kind number))))
-      externals
+  given_in : (ds : List Defined) → Agree ds → (name : List ℕ) (kept : Option (Located ℕ))
+      → option_map located_value (given_or g (map brief ds) name kept)
+      ≡ or_kept lines a k (found_in ds name) (option_map located_value kept)
+  given_in [] h name kept = refl
+  given_in (d ∷ ds) h name kept = by_test (bytes_eq name d.0) (given_in ds h.1 name kept)
+    where
+      by_test : (b : Bool)
+          → option_map located_value (given_or g (map brief ds) name kept)
+          ≡ or_kept lines a k (found_in ds name) (option_map located_value kept)
+          → option_map located_value (cond b (given_by g (how_of d.1)) (given_or g (map brief ds) name kept))
+          ≡ or_kept lines a k (cond b (Some d.1) (found_in ds name)) (option_map located_value kept)
+      by_test true later = h.0
+      by_test false later = later
 
-  externals_given : (number : ℕ) (names : List (List ℕ × Kind))
-      → option_map located_value (given_or g (map brief (externals_from number names)) name kept)
-      ≡ or_kept lines a k (found_in (externals_from number names) name) (option_map located_value kept)
-  externals_given number [] = refl
-  externals_given number (e ∷ names) =
-      first_given (bytes_eq name e.0) (ExternOf e.1 number) (found_in (externals_from (suc number) names) name)
-      (given_or g (map brief (externals_from (suc number) names)) name kept) (external_is e.1 number)
-      (externals_given (suc number) names)
+  externals_agree : (number : ℕ) (names : List (List ℕ × Kind)) → Agree (externals_from number names)
+  externals_agree number [] = tt
+  externals_agree number (e ∷ names) = (
+    ap (λ n. option_map located_value (given_by (record g { externals = n }) (how_of (ExternOf e.1 number)))) externals,
+    externals_agree (suc number) names,
+  )
 
-  body_given : (body : BodyTree) → option_map located_value g.expression ≡ expression_given (above lines a k) body
-      → option_map located_value (given_or g (map brief (defined_by body)) name kept)
-      ≡ or_kept lines a k (found_in (defined_by body) name) (option_map located_value kept)
-  body_given (Segment other kind reloc overlayable) h =
-      first_given (bytes_eq name other) (SegmentOf kind) None kept
-      (ap (λ n. option_map located_value (given_by (record g { line = n }) (how_of (SegmentOf kind)))) line) refl
-  body_given (Equ other e) h = first_given (bytes_eq name other) (EquOf e) None kept h refl
-  body_given (Set other e) h = first_given (bytes_eq name other) (SetOf e) None kept h refl
-  body_given (Address other kind e) h = first_given (bytes_eq name other) (AddressOf kind e) None kept h refl
-  body_given (Extrn names) h = externals_given 0 names
-  body_given body h = refl
+  body_agrees : (body : BodyTree) → option_map located_value g.expression ≡ expression_given (above lines a k) body
+      → Agree (defined_by body)
+  body_agrees (Segment other kind reloc overlayable) h =
+      (ap (λ n. option_map located_value (given_by (record g { line = n }) (how_of (SegmentOf kind)))) line, tt)
+  body_agrees (Equ other e) h = (h, tt)
+  body_agrees (Set other e) h = (h, tt)
+  body_agrees (Address other kind e) h = (h, tt)
+  body_agrees (Extrn names) h = externals_agree 0 names
+  body_agrees body h = tt
 
-  label_given : (label : Option (List ℕ)) (body : BodyTree)
-      → option_map located_value g.expression ≡ expression_given (above lines a k) body
-      → option_map located_value (given_or g (map brief (label_defined label ++ defined_by body)) name kept)
-      ≡ or_kept lines a k (found_in (label_defined label ++ defined_by body) name) (option_map located_value kept)
-  label_given None body h = body_given body h
-  label_given (Some label) body h =
-      first_given (bytes_eq name label) Label (found_in (defined_by body) name)
-      (given_or g (map brief (defined_by body)) name kept)
-      (ap Some here) (body_given body h)
+  label_agrees : (label : Option (List ℕ)) (ds : List Defined) → Agree ds → Agree (label_defined label ++ ds)
+  label_agrees None ds h = h
+  label_agrees (Some label) ds h = (ap Some here, h)
 
--- after a line a name has the value that its definition there gives it, or else the one that it had
-pub given : (lines : List LineTree) (a : Assignment) (k : ℕ) (g : Giving) → located_value g.here ≡ here_at a k
-    → g.line ≡ k
-    → g.externals ≡ externals_before lines k → (name : List ℕ) (kept : Option (Located ℕ)) (stmt : StmtTree)
-    → option_map located_value g.expression ≡ expression_given (above lines a k) stmt.body
-    → option_map located_value (given_or g (map brief (definitions_in stmt)) name kept)
-    ≡ or_kept lines a k (found_in (definitions_in stmt) name) (option_map located_value kept)
-given lines a k g here line externals name kept stmt h =
-    label_given lines a k g here line externals name kept stmt.label stmt.body h
+  -- after a line a name has the value that its definition there gives it, or else the one that it had
+  pub given : (name : List ℕ) (kept : Option (Located ℕ)) (stmt : StmtTree)
+      → option_map located_value g.expression ≡ expression_given (above lines a k) stmt.body
+      → option_map located_value (given_or g (map brief (definitions_in stmt)) name kept)
+      ≡ or_kept lines a k (found_in (definitions_in stmt) name) (option_map located_value kept)
+  given name kept stmt h =
+      given_in (definitions_in stmt) (label_agrees stmt.label (defined_by stmt.body) (body_agrees stmt.body h)) name
+      kept
 
 externals_have : (above number : ℕ) (names : List (List ℕ × Kind)) → above + number + length names ≤ 255
     → HaveNumbers above (map brief (externals_from number names))
@@ -96,3 +139,68 @@ label_has above (Some label) body h = (tt, body_has above body h)
 pub have_numbers : (above : ℕ) (stmt : StmtTree) (defined : List Brief) → defined ≡ map brief (definitions_in stmt)
     → above + externals_in stmt.body ≤ 255 → HaveNumbers above defined
 have_numbers above stmt defined is h = subst (HaveNumbers above) (sym is) (label_has above stmt.label stmt.body h)
+
+-- a definition that clashes with none of two clashes with none of the first
+no_clash_first : (x y : Option Definition) (d : Definition) → clashes (or_here x y) d ≡ false → clashes x d ≡ false
+no_clash_first None y d h = refl
+no_clash_first (Some e) y d h = h
+
+abbrev pub above_of : List LineTree → ℕ → List ℕ → Option Definition
+above_of lines k name = option_map (λ d. d.1) (definition_of (take k lines) name)
+
+-- what a line that repeats no name defines does not clash with the definitions above it
+pub no_clash_in : (lines : List LineTree) (k : ℕ) (before ds : List Defined) (name : List ℕ) (d : Definition)
+    → repeats_from lines k before ds ≡ false
+    → found_in ds name ≡ Some d → clashes (above_of lines k name) d ≡ false
+no_clash_in lines k before [] name d h f = absurd (cc f)
+no_clash_in lines k before (e ∷ ds) name d h f =
+    let p = or_parts (clashes (earlier lines k before e.0) e.1) _ h in
+    first_or (bytes_eq name e.0) (bytes_eq-Decides name e.0).0 f p.0
+    (no_clash_in lines k (before ++ e ∷ []) ds name d p.1)
+  where
+    first_or : (b : Bool) → (b ≡ true → name ≡ e.0) → cond b (Some e.1) (found_in ds name) ≡ Some d
+        → clashes (earlier lines k before e.0) e.1 ≡ false
+        → (found_in ds name ≡ Some d → clashes (above_of lines k name) d ≡ false)
+        → clashes (above_of lines k name) d ≡ false
+    first_or true t f h g =
+        let same : d ≡ e.1 = cc f in
+        (λ i. clashes (above_of lines k (t refl i)) (same i))
+        ∙ no_clash_first (above_of lines k e.0) (found_in before e.0) e.1 h
+    first_or false t f h g = g f
+
+module _ (lines : List LineTree) (a : Assignment) (k : ℕ) (name : List ℕ) where
+  -- the value by a definition and what the last SET gave
+  abbrev value_with : Option Value → Option (ℕ × Definition) → Option Value
+  value_with last (Some d) =
+      value_by (here_at a d.0) (above lines a d.0) last (externals_before lines d.0) d.0 d.1
+  value_with last None = None
+
+  -- A line that defines a name gives it a value that does not depend on an earlier SET, and a SET of a name that SET
+  -- defines above gives its value.
+  grow : (last : Option Value) (d : Option (ℕ × Definition)) (f : Option Definition)
+      → ((x : Definition) → f ≡ Some x → clashes (option_map (λ e. e.1) d) x ≡ false)
+      → value_with (set_by (above lines a k) last f) (or_here d (option_map (at_line k) f))
+      ≡ or_kept lines a k f (value_with last d)
+  unfolding at_line
+  grow last d None c = ap (value_with last) (or_none d)
+  grow last None (Some (SetOf e)) c = refl
+  grow last None (Some x) c = refl
+  grow last (Some (j, SetOf e)) (Some (SetOf x)) c = refl
+  grow last (Some (j, e)) (Some x) c = absurd (cc (c x refl))
+
+  pub not_again : is_repeated lines k ≡ false → repeats_from lines k [] (line_definitions lines k) ≡ false
+  unfolding is_repeated
+  not_again h =
+      (or_parts (repeats_a_name lines k) _ (or_parts _ _ h).0).0
+
+  pub grown : (line : LineTree) → slice_get lines k ≡ Some line → is_repeated lines k ≡ false
+      → value_above lines a (suc k) name ≡ or_kept lines a k (found_in (line_definitions lines k) name)
+      (value_above lines a k name)
+  unfolding value_above last_set
+  grown line is h =
+      ap (value_with (last_set lines a name (suc k)))
+      (defined_more lines k line name is
+      ∙ ap (λ l. or_here (definition_of (take k lines) name) (option_map (at_line k) (found_in (defined_of l) name)))
+      (sym is))
+      ∙ grow (last_set lines a name k) (definition_of (take k lines) name) (found_in (line_definitions lines k) name)
+      (λ x f. no_clash_in lines k [] (line_definitions lines k) name x (not_again h) f)

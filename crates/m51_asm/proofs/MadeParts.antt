@@ -1,11 +1,10 @@
 -- The outcomes of the parts of a line: where none has a fault, the fixups of all are made, never more than 65,535.
-use Rattle.m51_asm.proofs.Common.{◌≡◌, ℕ, suc, ◌+◌, ◌<◌, ◌≤◌, nat_lt, Bool, true, false, cond, List, [], ◌∷◌, length}
-use Rattle.m51_asm.proofs.Common.{Some, None, refl, sym, ◌∙◌, arith, add-zero, ltb-true, Meanings, OperandOutcome}
-use Rattle.m51_asm.proofs.Common.{Faulty, EmittedContent}
+use Rattle.m51_asm.proofs.Common.{cases_Bool, inl, inr, ◌<◌, ◌≡◌, ℕ, suc, ◌+◌, ◌≤◌, nat_lt, List, [], ◌∷◌, length, None}
+use Rattle.m51_asm.proofs.Common.{refl, sym, arith, add-zero, ltb-true, Meanings, OperandOutcome, Faulty}
+use Rattle.m51_asm.proofs.Common.{EmittedContent}
 use Rattle.m51_encode.specs.declared.outcome.OperandOutcome.TheVariants.{Fixes, Stands}
-use Rattle.m51_asm.specs.Outcomes.{made_with_all, or_next, leftmost_fault}
+use Rattle.m51_asm.specs.Outcomes.{made_with_all, leftmost_fault}
 use Rattle.m51_asm.specs.Content.{nothing}
-use Rattle.m51_asm.proofs.Members.{Every, Pairs, no_element}
 use Rattle.m51_asm.proofs.ContentFields.{IsContent}
 
 -- 1 for a fixup
@@ -30,34 +29,23 @@ pub record AreMade (made : ℕ) (parts : List OperandOutcome) : Type 0 where
   pub made_is : made_with_all made parts ≡ made + fixes parts
   pub most : made ≤ 65535 → made_with_all made parts ≤ 65535
 
-made_by : (made : ℕ) (parts : List OperandOutcome) (b : Bool) → nat_lt made 65535 ≡ b
-    → ((m : ℕ) → leftmost_fault m parts ≡ None → AreMade m parts)
-    → or_next (cond b None (Some 19)) (leftmost_fault (cond b (suc made) made) parts) ≡ None
-    → (made_with_all (cond b (suc made) made) parts ≡ made + suc (fixes parts)) × AreFine parts
-    × (made_with_all (cond b (suc made) made) parts ≤ 65535)
-made_by made parts true test go h =
-    let r = go (suc made) h in
-    let less : made < 65535 = ltb-true made 65535 test in
-    (let e = r.made_is in omega (arith, e), r.fine, r.most (omega (arith, less)))
-made_by made parts false test go h = absurd (cc h)
-
 pub made : (m : ℕ) (parts : List OperandOutcome) → leftmost_fault m parts ≡ None → AreMade m parts
 made m [] h = record { fine = tt; made_is = sym (add-zero m); most = λ most. most }
 made m (Faulty n ∷ parts) h = absurd (cc h)
 made m (Stands ∷ parts) h =
     let r = made m parts h in
-    record {
-      fine = r.fine;
-      made_is = r.made_is ∙ (let e : m + fixes parts ≡ m + (0 + fixes parts) = omega arith in e);
-      most = r.most;
-    }
-made m (Fixes ∷ parts) h =
-    let r = made_by m parts (nat_lt m 65535) refl (λ k e. made k parts e) h in
-    record {
-      fine = r.1;
-      made_is = r.0 ∙ (let e : m + suc (fixes parts) ≡ m + (1 + fixes parts) = omega arith in e);
-      most = λ most. r.2;
-    }
+    record { fine = r.fine; made_is = omega (arith, r.made_is); most = r.most }
+made m (Fixes ∷ parts) h = elim (cases_Bool (nat_lt m 65535)) [
+  | inr most ↦ absurd (cc (rw most at h))
+  | inl test ↦
+      let r = made (suc m) parts (rw test at h) in
+      let less : m < 65535 = ltb-true _ _ test in
+      record {
+        fine = r.fine;
+        made_is = rw test (omega (arith, r.made_is));
+        most = λ most. rw test (r.most (omega arith));
+      }
+]
 
 -- what a line gives, over what is counted for it
 pub record IsGiven (names : Meanings) (size : ℕ) (parts : List OperandOutcome) (c : EmittedContent) : Type 0 where
@@ -67,9 +55,7 @@ pub record IsGiven (names : Meanings) (size : ℕ) (parts : List OperandOutcome)
 
 -- content without references
 pub no_refs : (names : Meanings) (bytes : List ℕ) → IsContent names (record { bytes = bytes; references = [] })
-unfolding Every Pairs
-no_refs names bytes =
-    record { inside = λ r i. absurd (no_element r i); order = tt; linked = λ r i. absurd (no_element r i) }
+no_refs names bytes = record { inside = λ r i. absurd i; order = tt; linked = λ r i. absurd i }
 
 -- a line that gives no bytes
 pub nothing_given : (names : Meanings) (parts : List OperandOutcome) → IsGiven names 0 parts nothing

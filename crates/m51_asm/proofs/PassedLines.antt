@@ -1,6 +1,6 @@
 -- Pass 1 line by line: where it stops, and how one more line is passed.
-use Rattle.m51_asm.proofs.Common.{◌≡◌, ℕ, zero, suc, ◌<◌, ◌≤◌, true, false, List, [], ◌∷◌, ◌++◌, length, Option, Some}
-use Rattle.m51_asm.proofs.Common.{None, refl, ap, sym, subst, ◌∙◌, slice_get, arith, add-one, length-append, LineTree}
+use Rattle.m51_asm.proofs.Common.{◌≡◌, ℕ, zero, suc, ◌<◌, true, false, List, [], ◌∷◌, ◌++◌, length, Option, Some, None}
+use Rattle.m51_asm.proofs.Common.{refl, ap, sym, subst, ◌∙◌, slice_get, arith, add-one, length-append, LineTree}
 use Rattle.m51_asm.proofs.Common.{PassOneState, LinePlace, Assignment, IsAt, IsPlaceOf, AreFree, IsFirstFault}
 use Rattle.m51_asm.proofs.Common.{ArePlaces, IsPassedTo}
 use Rattle.std.proofs.Common.{below_more}
@@ -28,19 +28,16 @@ pub reached : (lines : List LineTree) (a : Assignment) (repeated : Option ℕ) (
     → is_reached repeated k ≡ true → IsFirstFault lines a k DEFINED_TWICE
 reached lines a None k h free e = absurd (cc e)
 reached lines a (Some first) k h free e =
-    at_first (leb-true first k e) (λ b. free_repeats (repeat_is_fault lines a first h.0.1) (free first b))
+    let not_below : first < k → ⊥ = λ b. free_repeats (repeat_is_fault lines a first h.0.1) (free first b) in
+    let same : first ≡ k = omega (arith, leb-true first k e, not_below) in
+    record {
+      within = subst (λ n. n < length lines) same h.0.0;
+      found = repeat_is_fault lines a k (subst (λ n. is_repeated lines n ≡ true) same h.0.1);
+      earlier = free;
+    }
   where
     free_repeats : {x : Option ℕ} → x ≡ Some DEFINED_TWICE → x ≡ None → ⊥
     free_repeats p q = cc (p, q)
-
-    at_first : first ≤ k → (first < k → ⊥) → IsFirstFault lines a k DEFINED_TWICE
-    at_first le not_lt =
-        let same : first ≡ k = omega (arith, le, not_lt) in
-        record {
-          within = subst (λ n. n < length lines) same h.0.0;
-          found = repeat_is_fault lines a k (subst (λ n. is_repeated lines n ≡ true) same h.0.1);
-          earlier = free;
-        }
 
 -- what holds of each item of a list, and of one more
 pub pushed_each : {T : Type 0} (P : ℕ → T → Type 0) (xs : List T) (y : T)

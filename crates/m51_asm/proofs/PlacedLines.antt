@@ -3,37 +3,27 @@ use Rattle.m51_asm.proofs.Common.{◌≡◌, inl, inr, ℕ, suc, ◌+◌, ◌-�
 use Rattle.m51_asm.proofs.Common.{true, false, cond, List, [], ◌∷◌, map, Option, Some, None, refl, ap, sym, subst, ◌∙◌}
 use Rattle.m51_asm.proofs.Common.{option_map, slice_get, add-zero, arith, eqb-true, ltb-false, or_parts, Kind}
 use Rattle.m51_asm.proofs.Common.{is_absolute, BodyTree, LineTree, Giving, PassOneState, definitions_in, found_in}
-use Rattle.m51_asm.proofs.Common.{TextSegment, Assignment, body_of, defined_of, body_at, is_absolute_of, bank_by}
-use Rattle.m51_asm.proofs.Common.{externals_in, Fits, kind_end, is_misplaced, operand_fault, brief, or_kept}
-use Rattle.m51_asm.proofs.Common.{located_value, value_in, text_segment, size_in, expression_given, given_or, IsAt}
-use Rattle.m51_asm.proofs.Common.{AreLineFacts}
+use Rattle.m51_asm.proofs.Common.{TextSegment, Assignment, body_of, defined_of, body_at, is_absolute_of, bank_by, Fits}
+use Rattle.m51_asm.proofs.Common.{kind_end, is_misplaced, brief, or_kept, located_value, value_in, text_segment}
+use Rattle.m51_asm.proofs.Common.{size_in, expression_given, given_or, IsAt, AreLineFacts}
 use Rattle.std.proofs.Common.{◌^◌}
-use Rattle.m51_cells.specs.declared.kind.Kind.TheVariants as kind
 use Rattle.m51_stmt.specs.Statement.{Segment}
 use Rattle.m51_asm.specs.declared.counts.Counts.{Counts}
 use Rattle.m51_asm.specs.declared.told.LineFacts.{LineFacts}
 use Rattle.m51_asm.specs.Definitions.{definition_of}
 use Rattle.m51_asm.specs.Assignment.{above}
-use Rattle.m51_asm.specs.Fitting.{last_absolute, size_at, given_to, filled, bank_before}
-use Rattle.m51_asm.specs.Fitting.{externals_before}
+use Rattle.m51_asm.specs.Fitting.{last_absolute, size_at, filled, bank_before, externals_before}
 use Rattle.m51_asm.specs.Repeats.{is_repeated}
-use Rattle.m51_asm.specs.PlacedFaults.{is_past, is_numbered_by, segments_before, is_too_many}
-use Rattle.m51_asm.specs.PlacedFaults.{placed_fault}
+use Rattle.m51_asm.specs.PlacedFaults.{is_past, is_numbered_by, segments_before, is_too_many, placed_fault}
 use Rattle.m51_asm.specs.ValuesAbove.{value_above}
 use Rattle.m51_asm.specs.OpenSegments.{last_with, last_in}
 use Rattle.m51_asm.specs.Filled.{saturated, Sets}
 use Rattle.m51_asm.specs.Operands.{evaluated_fault, given_in, bank_in}
-use Rattle.m51_asm.specs.Placing.{IsCounted, numbers_one, exceeds_end, are_too_many, fault_by}
-use Rattle.m51_asm.proofs.GrowingValues.{grown}
-use Rattle.m51_asm.proofs.GivenValues.{given}
-use Rattle.m51_asm.proofs.GoodLines.{IsFaultFree}
-use Rattle.m51_asm.proofs.SegmentRoom.{stays}
-
-numbers_same : (lines : List LineTree) (a : Assignment) (k : ℕ) (body : BodyTree)
-    → numbers_one (a.segment k) (filled lines a (a.segment k).id k) (size_at lines a k) body
-    ≡ is_numbered_by lines a k body
-numbers_same lines a k (Segment name kind reloc overlayable) = refl
-numbers_same lines a k body = refl
+use Rattle.m51_asm.specs.Placing.{IsCounted, AreCounts, AreSmall, numbers_one, exceeds_end, are_too_many, fault_by}
+use Rattle.m51_asm.proofs.GivenValues.{grown, given}
+use Rattle.m51_asm.proofs.GoodLines.{IsFaultFree, test_none}
+use Rattle.m51_asm.proofs.SegmentRoom.{stays, filled_there}
+use Rattle.m51_cells.specs.declared.kind.Kind.TheVariants as kind
 
 -- a size past 64 bits is over each limit, as the exact one is
 small_sum : (a n most : ℕ) → min (a + min n most) most ≡ min (a + n) most
@@ -47,9 +37,6 @@ small_over limit n most h = grind (arith, h)
 
 small_end : (limit base n most : ℕ) → limit < most → nat_lt limit (base + min n most) ≡ nat_lt limit (base + n)
 small_end limit base n most h = grind (arith, h)
-
-below_most : (n : ℕ) → n ≤ 65536 → n < 2 ^ 64 - 1
-below_most n h = omega (arith, h)
 
 small_is : (n most : ℕ) → most < 2 ^ 64 - 1 → saturated n ≤ most → saturated n ≡ n
 small_is n most h less = omega (arith, h, less)
@@ -68,90 +55,24 @@ end_most kind.Number = omega arith
 
 passes_same : (s : TextSegment) (n : ℕ) → exceeds_end s (saturated n) ≡ exceeds_end s n
 passes_same s n =
-    let less : kind_end s.kind < 2 ^ 64 - 1 = below_most (kind_end s.kind) (end_most s.kind) in
+    let less : kind_end s.kind < 2 ^ 64 - 1 = omega (arith, end_most s.kind) in
     λ i. small_end (kind_end s.kind) s.base n (2 ^ 64 - 1) less i || small_over 65535 n (2 ^ 64 - 1) (omega arith) i
 
-numbers_whole : (s : TextSegment) (before n : ℕ) (body : BodyTree)
-    → numbers_one s before (saturated n) body ≡ numbers_one s before n body
-numbers_whole s before n (Segment name kind reloc overlayable) = refl
-numbers_whole s before n body =
-    ap (λ b. is_absolute s.reloc && (before == 0 && not b)) (small_zero n (2 ^ 64 - 1) (omega arith))
-
-nothing_more : (n : ℕ) (b : Bool) → n + cond b 0 0 ≡ n
-nothing_more n true = add-zero n
-nothing_more n false = add-zero n
-
--- what is counted
-pub counted : (lines : List LineTree) (a : Assignment) (k : ℕ) (s : PassOneState) (t : LineFacts) (c : Counts)
-    (body : BodyTree)
-    → IsAt lines a k s → AreLineFacts lines a k t → body ≡ body_at lines k
-    → c.next ≡ saturated (size_in s.filled t.next.id + given_to t.next.id (text_segment s.segment) t.size)
-    → c.segments ≡ s.segments + cond (numbers_one (text_segment s.segment) (size_in s.filled s.segment.id) t.size body)
-    1 0
-    → c.externals ≡ saturated (s.externals + externals_in body)
-    → IsCounted lines a k c
-unfolding filled segments_before externals_before
-counted lines a k s t c body at told is next segments externals = record {
-  next =
-      next ∙ ap (λ n. saturated (n + given_to t.next.id (text_segment s.segment) t.size)) (at.sizes t.next.id)
-      ∙ (λ i. saturated (filled lines a (told.next i).id k + given_to (told.next i).id (at.segment i) (told.size i)))
-      ∙ given_sum ((a.segment k).id == (a.segment (suc k)).id) (filled lines a (a.segment (suc k)).id k)
-      (size_at lines a k);
-  segments =
-      segments
-      ∙ ap (λ n. s.segments + cond (numbers_one (text_segment s.segment) n t.size body) 1 0) (at.sizes s.segment.id)
-      ∙ (λ i. at.numbered i + cond
-      (numbers_one (at.segment i) (filled lines a (at.segment i).id k) (told.size i) (is i)) 1 0)
-      ∙ ap (λ b. segments_before lines a k + cond b 1 0)
-      (numbers_whole (a.segment k) (filled lines a (a.segment k).id k) (size_at lines a k) (body_at lines k)
-      ∙ numbers_same lines a k (body_at lines k));
-  externals = externals ∙ (λ i. saturated (at.declared i + externals_in (is i)));
-}
-
--- the fault of a line that repeats nothing
-pub fault_told : (lines : List LineTree) (a : Assignment) (k : ℕ) (s : PassOneState) (t : LineFacts) (c : Counts)
-    (body : BodyTree) → Fits lines a
-    → IsAt lines a k s → AreLineFacts lines a k t → IsCounted lines a k c → body ≡ body_at lines k
-    → is_repeated lines k ≡ false
-    → fault_by (exceeds_end (text_segment t.next) c.next) (is_misplaced (text_segment s.segment) body)
-    (are_too_many c.segments c.externals) (evaluated_fault t.operand)
-    ≡ placed_fault lines a k
-unfolding placed_fault
-fault_told lines a k s t c body f at told counts is once =
-    (λ i. fault_by (exceeds_end (told.next i) (counts.next i)) (is_misplaced (at.segment i) (is i))
-    (are_too_many (counts.segments i) (counts.externals i)) (told.operand.fault_is i))
-    ∙ (λ i. fault_by (passes_same (a.segment (suc k)) (filled lines a (a.segment (suc k)).id (suc k)) i)
-    (is_misplaced (a.segment k) (body_at lines k))
-    (nat_lt 254 (segments_before lines a (suc k)) || small_over 255 (externals_before lines (suc k)) (2 ^ 64 - 1)
-    (omega arith) i)
-    (operand_fault lines (above lines a k) k (body_at lines k)))
-    ∙ ap (λ p. fault_by (nat_lt (kind_end (a.segment (suc k)).kind) p
-    || nat_lt 65535 (filled lines a (a.segment (suc k)).id (suc k)))
-    (is_misplaced (a.segment k) (body_at lines k)) (is_too_many lines a k)
-    (operand_fault lines (above lines a k) k (body_at lines k))) (sym (f.places (suc k)))
-    ∙ sym (ap (λ b. cond b (Some 13)
-    (fault_by (is_past lines a k) (is_misplaced (a.segment k) (body_at lines k)) (is_too_many lines a k)
-    (operand_fault lines (above lines a k) k (body_at lines k)))) once)
-
--- what is counted down to a line without a fault
-pub record IsSmall (c : Counts) : Type 0 where
-  pub next : c.next ≤ 65535
-  pub segments : c.segments ≤ 255
-  pub externals : c.externals ≤ 255
-
-none_past : (past misplaced many : Bool) (operand : Option ℕ) → fault_by past misplaced many operand ≡ None
-    → (past ≡ false) × (many ≡ false)
-none_past false false false operand h = (refl, refl)
-none_past true misplaced many operand h = absurd (cc h)
-none_past false true many operand h = absurd (cc h)
-none_past false false true operand h = absurd (cc h)
+numbers_same : (lines : List LineTree) (a : Assignment) (k : ℕ) (body : BodyTree)
+    → numbers_one (a.segment k) (filled lines a (a.segment k).id k) (saturated (size_at lines a k)) body
+    ≡ is_numbered_by lines a k body
+numbers_same lines a k (Segment name kind reloc overlayable) = refl
+numbers_same lines a k body =
+    ap (λ b. is_absolute (a.segment k).reloc && (filled lines a (a.segment k).id k == 0 && not b))
+    (small_zero (size_at lines a k) (2 ^ 64 - 1) (omega arith))
 
 pub small_counts : (s : TextSegment) (c : Counts) (misplaced : Bool) (operand : Option ℕ)
-    → fault_by (exceeds_end s c.next) misplaced (are_too_many c.segments c.externals) operand ≡ None → IsSmall c
+    → fault_by (exceeds_end s c.next) misplaced (are_too_many c.segments c.externals) operand ≡ None → AreSmall c
 small_counts s c misplaced operand h =
-    let p = none_past (exceeds_end s c.next) misplaced (are_too_many c.segments c.externals) operand h in
+    let p = test_none (exceeds_end s c.next) _ _ h in
+    let q = test_none (are_too_many c.segments c.externals) _ operand (test_none misplaced _ _ p.1).1 in
     let past = or_parts (nat_lt (kind_end s.kind) (s.base + c.next)) (nat_lt 65535 c.next) p.0 in
-    let many = or_parts (nat_lt 254 c.segments) (nat_lt 255 c.externals) p.1 in
+    let many = or_parts (nat_lt 254 c.segments) (nat_lt 255 c.externals) q.0 in
     let segments : c.segments ≤ 254 = ltb-false 254 c.segments many.0 in
     record {
       next = ltb-false 65535 c.next past.1;
@@ -166,19 +87,57 @@ small_sum_is above here counted h less =
     let same : saturated (above + here) ≡ above + here = small_is (above + here) 255 (omega arith) e in
     omega (arith, same, e)
 
--- the bank after a line without a fault
-pub bank_after : (lines : List LineTree) (a : Assignment) (k : ℕ) → IsFaultFree lines a k → (s : PassOneState)
-    → IsAt lines a k s
-    → (t : LineFacts) → AreLineFacts lines a k t → bank_in s.bank t.operand ≡ bank_before lines a (suc k)
-unfolding bank_before
-bank_after lines a k free s at t told =
-    told.operand.bank_is free.operand s.bank ∙ ap (λ b. bank_by (above lines a k) b (body_at lines k)) at.selected
+module _ {lines : List LineTree} {a : Assignment} {k : ℕ} {s : PassOneState} {t : LineFacts} (at : IsAt lines a k s)
+    (told : AreLineFacts lines a k t) where
+  -- what is counted
+  pub counted : {c : Counts} {body : BodyTree} → body ≡ body_at lines k
+      → AreCounts (size_in s.filled) s.segments s.externals (text_segment s.segment) (text_segment t.next) t.size body c
+      → IsCounted lines a k c
+  unfolding filled segments_before externals_before
+  counted {c = c} is counts =
+      let h : AreCounts (λ id. filled lines a id k) (segments_before lines a k) (externals_before lines k) (a.segment k)
+      (a.segment (suc k)) (saturated (size_at lines a k)) (body_at lines k) c =
+      coe 0 1 (i. AreCounts (λ id. at.sizes id i) (at.numbered i) (at.declared i) (at.segment i) (told.next i)
+      (told.size i) (is i) c) counts in
+      record {
+        next =
+            h.next ∙ given_sum ((a.segment k).id == (a.segment (suc k)).id) (filled lines a (a.segment (suc k)).id k)
+            (size_at lines a k);
+        segments =
+            h.segments ∙ ap (λ b. segments_before lines a k + cond b 1 0) (numbers_same lines a k (body_at lines k));
+        externals = h.externals;
+      }
 
-module _ (lines : List LineTree) (a : Assignment) (f : Fits lines a) (k : ℕ) (line : LineTree)
-    (is : slice_get lines k ≡ Some line)
-    (free : IsFaultFree lines a k) (s : PassOneState) (at : IsAt lines a k s) (t : LineFacts)
-    (told : AreLineFacts lines a k t)
-    (c : Counts) (counts : IsCounted lines a k c) (small : IsSmall c) (g : Giving) (here : g.here ≡ t.here)
+  -- the fault of a line that repeats nothing
+  pub fault_told : {c : Counts} {body : BodyTree} → Fits lines a → body ≡ body_at lines k → is_repeated lines k ≡ false
+      → IsCounted lines a k c
+      → fault_by (exceeds_end (text_segment t.next) c.next) (is_misplaced (text_segment s.segment) body)
+      (are_too_many c.segments c.externals) (evaluated_fault t.operand)
+      ≡ placed_fault lines a k
+  unfolding placed_fault
+  fault_told {c = c} f is once counts =
+      let past : exceeds_end (text_segment t.next) c.next ≡ is_past lines a k =
+      (λ i. exceeds_end (told.next i) (counts.next i))
+      ∙ passes_same (a.segment (suc k)) (filled lines a (a.segment (suc k)).id (suc k))
+      ∙ ap (λ p. nat_lt (kind_end (a.segment (suc k)).kind) p
+      || nat_lt 65535 (filled lines a (a.segment (suc k)).id (suc k))) (sym (f.places (suc k))) in
+      let many : are_too_many c.segments c.externals ≡ is_too_many lines a k =
+      (λ i. are_too_many (counts.segments i) (counts.externals i))
+      ∙ ap (λ b. nat_lt 254 (segments_before lines a (suc k)) || b)
+      (small_over 255 (externals_before lines (suc k)) (2 ^ 64 - 1) (omega arith)) in
+      (λ i. fault_by (past i) (is_misplaced (at.segment i) (is i)) (many i) (told.operand.fault_is i))
+      ∙ sym (rw once refl)
+
+  -- the bank after a line without a fault
+  pub bank_after : IsFaultFree lines a k → bank_in s.bank t.operand ≡ bank_before lines a (suc k)
+  unfolding bank_before
+  bank_after free =
+      told.operand.bank_is free.operand s.bank ∙ ap (λ b. bank_by (above lines a k) b (body_at lines k)) at.selected
+
+module _ {lines : List LineTree} {a : Assignment} {k : ℕ} {s : PassOneState} {t : LineFacts} {c : Counts}
+    (f : Fits lines a) (line : LineTree) (is : slice_get lines k ≡ Some line) (free : IsFaultFree lines a k)
+    (at : IsAt lines a k s) (told : AreLineFacts lines a k t) (counts : IsCounted lines a k c) (small : AreSmall c)
+    (g : Giving) (here : g.here ≡ t.here)
     (expression : option_map located_value g.expression ≡ given_in t.operand) (number : g.line ≡ k)
     (externals : g.externals ≡ s.externals) (n : PassOneState) where
   known_next : ((name : List ℕ)
@@ -200,10 +159,13 @@ module _ (lines : List LineTree) (a : Assignment) (f : Fits lines a) (k : ℕ) (
   size_by_test id true e = ap (λ x. filled lines a x (suc k)) (eqb-true (a.segment (suc k)).id id e)
   size_by_test id false e = elim (stays lines a f k) [
     | inl none ↦ sym (ap (λ n. filled lines a id k + cond ((a.segment k).id == id) n 0) none
-        ∙ nothing_more (filled lines a id k) ((a.segment k).id == id))
-    | inr same ↦ sym (ap (λ b. filled lines a id k + cond b (size_at lines a k) 0)
-        (ap (λ (x : TextSegment). x.id == id) (sym same) ∙ e) ∙ add-zero (filled lines a id k))
+        ∙ nothing (filled lines a id k) ((a.segment k).id == id))
+    | inr same ↦ sym (filled_there lines a k id (ap (λ (x : TextSegment). x.id == id) (sym same) ∙ e))
   ]
+    where
+      nothing : (n : ℕ) (b : Bool) → n + cond b 0 0 ≡ n
+      nothing n true = add-zero n
+      nothing n false = add-zero n
 
   sizes_next : Sets s.filled n.filled t.next.id c.next → (id : ℕ) → size_in n.filled id ≡ filled lines a id (suc k)
   sizes_next h id =
@@ -230,7 +192,7 @@ module _ (lines : List LineTree) (a : Assignment) (f : Fits lines a) (k : ℕ) (
     sizes = sizes_next sizes;
     segment = ap text_segment segment ∙ told.next;
     latest = latest_next latest;
-    selected = selected ∙ bank_after lines a k free s at t told;
+    selected = selected ∙ bank_after at told free;
     numbered = segments ∙ counts.segments;
     declared =
         declared ∙ counts.externals

@@ -1,11 +1,11 @@
 -- What PUBLIC makes of names by what is kept for pass 2 is what the definitions say.
 use Rattle.m51_asm.proofs.Common.{◌≡◌, ℕ, zero, suc, ◌+◌, ◌-◌, ◌≤◌, List, [], ◌∷◌, map, length, Option, Some, None}
 use Rattle.m51_asm.proofs.Common.{option_map, Ok, Err, refl, ap, sym, ◌∙◌, slice_get, arith, Base, Value, BodyTree}
-use Rattle.m51_asm.proofs.Common.{LineTree, or_next, PlacedText, LinePlace, Definition, Label, SegmentOf, EquOf, SetOf}
-use Rattle.m51_asm.proofs.Common.{AddressOf, ExternOf, Assignment, body_of, body_at, segment_by, Fits, first_definition}
-use Rattle.m51_asm.proofs.Common.{segment_number, segment_of, declared_or, text_segment}
-use Rattle.m51_asm.proofs.Common.{IsAssignedText, AreNamesAt, fault_among}
-use Rattle.std.proofs.lemmas.Option.{slice_get_past}
+use Rattle.m51_asm.proofs.Common.{LineTree, or_next, PlacedText, Definition, Label, SegmentOf, EquOf, SetOf, AddressOf}
+use Rattle.m51_asm.proofs.Common.{ExternOf, Assignment, body_of, body_at, segment_by, Fits, first_definition}
+use Rattle.m51_asm.proofs.Common.{segment_number, segment_of, declared_or, text_segment, IsAssignedText, AreNamesAt}
+use Rattle.m51_asm.proofs.Common.{fault_among, inl, inr}
+use Rattle.std.proofs.lemmas.Option.{slice_get_past, slice_get_cases}
 use Rattle.m51_cells.specs.declared.kind.Base.TheVariants as base
 use Rattle.m51_stmt.specs.Statement.{Segment as Declares}
 use Rattle.m51_emit.specs.Outcomes.{leftmost_fault}
@@ -51,12 +51,6 @@ module _ (lines : List LineTree) (a : Assignment) (name : List ℕ) where
   by_definition value (Some (line, ExternOf kind number)) = refl
   by_definition value None = of_value value
 
--- where a list has no item
-none_past : {T : Type 0} (xs : List T) (k : ℕ) → slice_get xs k ≡ None → length xs ≤ k
-none_past [] k e = omega arith
-none_past (x ∷ xs) zero e = absurd (cc e)
-none_past (x ∷ xs) (suc k) e = omega (arith, none_past xs k e)
-
 -- past the last line the segment stays
 module _ (lines : List LineTree) (a : Assignment) (f : Fits lines a) where
   behind_empty : (k : ℕ) → length lines ≤ k → segment_behind lines a k ≡ a.segment k
@@ -65,29 +59,21 @@ module _ (lines : List LineTree) (a : Assignment) (f : Fits lines a) where
       ap (λ b. segment_by lines k (above lines a k) (λ kind. last_absolute a.segment kind k) (a.segment k) b)
       (ap body_of (slice_get_past lines k h))
 
-  stays : (n : ℕ) → a.segment (n + length lines) ≡ a.segment (length lines)
-  stays zero =
-      let same : 0 + length lines ≡ length lines = omega arith in
+  stays : (n k : ℕ) → n + length lines ≡ k → a.segment k ≡ a.segment (length lines)
+  stays zero k e =
+      let same : k ≡ length lines = omega (arith, e) in
       ap a.segment same
-  stays (suc n) =
-      let same : suc n + length lines ≡ suc (n + length lines) = omega arith in
-      ap a.segment same ∙ f.segments (n + length lines) ∙ behind_empty (n + length lines) (omega arith) ∙ stays n
-
-  stays_from : (k : ℕ) → length lines ≤ k → a.segment k ≡ a.segment (length lines)
-  stays_from k h =
-      let same : (k - length lines) + length lines ≡ k = omega (arith, h) in
-      ap a.segment (sym same) ∙ stays (k - length lines)
+  stays (suc n) zero e = absurd (omega (arith, e))
+  stays (suc n) (suc k) e =
+      f.segments k ∙ behind_empty k (omega (arith, e)) ∙ stays n k (omega (arith, e))
 
 module _ (lines : List LineTree) (a : Assignment) (t : PlacedText) (h : IsAssignedText lines a t) where
   after_is : (k : ℕ) → next_of (text_segment t.end.now.segment) (slice_get t.places.now k) ≡ a.segment (suc k)
-  after_is k = by_place (slice_get t.places.now k) refl
-    where
-      by_place : (o : Option LinePlace) → slice_get t.places.now k ≡ o
-          → next_of (text_segment t.end.now.segment) o ≡ a.segment (suc k)
-      by_place (Some p) e = (h.placed.each k p e).next
-      by_place None e =
-          let past : length lines ≤ suc k = omega (arith, none_past t.places.now k e, h.placed.counted) in
-          h.placed.at.segment ∙ sym (stays_from lines a h.fits (suc k) past)
+  after_is k = elim (slice_get_cases t.places.now k).1 [
+    | inl p ↦ ap (next_of (text_segment t.end.now.segment)) p.2 ∙ (h.placed.each k p.0 p.2).next
+    | inr p ↦ ap (next_of (text_segment t.end.now.segment)) p.1 ∙ h.placed.at.segment
+        ∙ sym (stays lines a h.fits (suc k - length lines) (suc k) (omega (arith, p.0, h.placed.counted)))
+  ]
 
   declared_same : (k : ℕ) (body : BodyTree) → body ≡ body_at lines k
       → declared_as (suc (suc k)) (a.segment (suc k)) body ≡ declared_or lines k (a.segment (suc k)) body

@@ -1,27 +1,22 @@
 -- The publics of the module of a text: their names, and what they count from.
-use Rattle.m51_asm.proofs.Common.{◌≡◌, ◌≢◌, inl, inr, ℕ, zero, suc, ◌<◌, ◌≤◌, ◌==◌, Bool, true, false, not, cond, List}
-use Rattle.m51_asm.proofs.Common.{[], ◌∷◌, length, Option, Some, None, Ok, Err, refl, sym, ap, subst, ◌∙◌, arith}
-use Rattle.m51_asm.proofs.Common.{eqb-false, Base, same_kind, IsWritten, kind_same, numbered, Value, is_whole, BodyTree}
-use Rattle.m51_asm.proofs.Common.{LineTree, Definition, SegmentOf, SetOf, ExternOf, Assignment, body_at, publics_in}
-use Rattle.m51_asm.proofs.Common.{object_segments, segment_of, segment_number, external}
-use Rattle.m51_cells.specs.declared.kind.Base.TheVariants as base
+use Rattle.m51_asm.proofs.Common.{kept, cases_Bool, cases_eq, ◌≡◌, ◌≢◌, inl, inr, ℕ, zero, suc, ◌<◌, ◌≤◌, List, [], ◌∷◌}
+use Rattle.m51_asm.proofs.Common.{length, Option, Some, None, Ok, Err, refl, sym, ap, subst, ◌∙◌, arith, eq-eqb, ne_eqb}
+use Rattle.m51_asm.proofs.Common.{Base, same_kind, IsWritten, kind_same, Value, is_whole, BodyTree, LineTree}
+use Rattle.m51_asm.proofs.Common.{Definition, SegmentOf, SetOf, ExternOf, Assignment, body_at, publics_in}
+use Rattle.m51_asm.proofs.Common.{object_segments, segment_of, segment_number}
 use Rattle.m51_module.specs.declared.symbol.Public.{Public}
 use Rattle.m51_module.specs.Validity.{IsPublicBase, IsPublicValid}
-use Rattle.m51_stmt.specs.Statement as body
 use Rattle.m51_asm.specs.Definitions.{definition_of}
-use Rattle.m51_asm.specs.ObjectSegments.{kept, number_in}
-use Rattle.m51_asm.specs.PublicNames.{Published, public, from_base, public_in, public_of_value, public_valued}
-use Rattle.m51_asm.specs.PublicNames.{public_by, published, if_public, publics_of}
+use Rattle.m51_asm.specs.PublicNames.{Published, public_of_value, public_valued, public_by, published, if_public}
+use Rattle.m51_asm.specs.PublicNames.{publics_of}
 use Rattle.m51_asm.specs.Parts.{publics_by, publics_before}
-use Rattle.m51_asm.proofs.Members.{In, Every, Pairs, in_cons, no_element, in_first, in_later, in_append, pairs_append}
+use Rattle.m51_asm.proofs.Members.{In, Every, Pairs, every_append, pairs_append}
 use Rattle.m51_asm.proofs.GoodLines.{IsClean, IsGood, free_text}
-use Rattle.m51_asm.proofs.KeptSegments.{AreKept, all_kept}
-use Rattle.m51_asm.proofs.KeptNumbers.{IsNumbered, has_number, leads_to}
-use Rattle.m51_asm.proofs.DefinedOnce.{AreOnce, publics_once}
+use Rattle.m51_asm.proofs.KeptSegments.{all_kept, has_number}
+use Rattle.m51_asm.proofs.DefinedOnce.{publics_once}
 use Rattle.m51_asm.proofs.ValidNames.{each_in, once_at}
-
-ok_same : (x y : Public) → ◌≡◌ {A = Published} (Ok x) (Ok y) → x ≡ y
-ok_same x y h = cc h
+use Rattle.m51_cells.specs.declared.kind.Base.TheVariants as base
+use Rattle.m51_stmt.specs.Statement as body
 
 abbrev OtherPublic : Public → Public → Type 0
 OtherPublic p q = p.name ≢ q.name
@@ -32,169 +27,120 @@ module _ (lines : List LineTree) (a : Assignment) (c : IsClean lines a) where
     name_is : p.name ≡ name
     counts : IsPublicBase (object_segments lines a) p.kind p.base
 
-  abbrev ok_public : Public → Published
-  ok_public p = Ok p
+  abbrev Makes : List ℕ → Published → Type 0
+  Makes name (Ok p) = IsMade name p
+  Makes name (Err n) = Unit {0}
 
-  numbered_base : (v : Value) (id : ℕ) → segment_number lines a id ≢ 0
-      → same_kind v.class (segment_of lines a id).kind ≡ true
-      → IsPublicBase (object_segments lines a) v.class (base.Segment (segment_number lines a id))
-  unfolding Every
-  numbered_base v id ne same =
-      let all : AreKept lines a (free_text lines a c) (length lines) (kept lines a) =
-      all_kept lines a (free_text lines a c) in
-      let n : IsNumbered (kept lines a) id = has_number (kept lines a) id ne in
-      let is : numbered (object_segments lines a) (segment_number lines a id) ≡ Some n.kept.segment =
-      ap (λ i. numbered (object_segments lines a) (number_in (kept lines a) i)) (sym n.id_is)
-      ∙ leads_to (kept lines a) all.order n.kept n.there in (
-        n.kept.segment,
-        is,
-        (all.every n.kept n.there).kind_is ∙ ap (λ i. (segment_of lines a i).kind) n.id_is
-            ∙ sym (kind_same v.class (segment_of lines a id).kind same),
-      )
-
-  by_number : (name : List ℕ) (v : Value) (id : ℕ) (p : Public) (b : Bool) → (segment_number lines a id == 0) ≡ b
-      → same_kind v.class (segment_of lines a id).kind ≡ true
-      → cond b (public name v base.None v.number)
-      (public name v (base.Segment (segment_number lines a id)) (from_base (segment_of lines a id).base v.number))
-      ≡ ok_public p
-      → IsMade name p
-  by_number name v id p true test same h =
-      subst (IsMade name) (ok_same _ p h) (record { name_is = refl; counts = tt })
-  by_number name v id p false test same h =
-      subst (IsMade name) (ok_same _ p h)
-      (record { name_is = refl; counts = numbered_base v id (eqb-false (segment_number lines a id) 0 test) same })
-
-  by_kind : (name : List ℕ) (v : Value) (id : ℕ) (p : Public) (b : Bool)
-      → same_kind v.class (segment_of lines a id).kind ≡ b
-      → cond (not b) (Err 14) (cond (segment_number lines a id == 0) (public name v base.None v.number)
-      (public name v (base.Segment (segment_number lines a id)) (from_base (segment_of lines a id).base v.number)))
-      ≡ ok_public p → IsMade name p
-  by_kind name v id p true same h = by_number name v id p (segment_number lines a id == 0) refl same h
-  by_kind name v id p false same h = absurd (cc h)
-
-  by_part : (name : List ℕ) (v : Value) (id : ℕ) (p : Public) (b : Bool)
-      → cond b (public_in name v (segment_of lines a id) (segment_number lines a id)) (Err 8) ≡ ok_public p
-      → IsMade name p
-  by_part name v id p true h = by_kind name v id p (same_kind v.class (segment_of lines a id).kind) refl h
-  by_part name v id p false h = absurd (cc h)
-
-  by_base : (name : List ℕ) (v : Value) (p : Public) (b : Base) → public_of_value lines a name v b ≡ ok_public p
-      → IsMade name p
-  by_base name v p base.None h = subst (IsMade name) (ok_same _ p h) (record { name_is = refl; counts = tt })
-  by_base name v p (base.External external) h = absurd (cc h)
-  by_base name v p (base.Segment id) h = by_part name v id p (is_whole v.part) h
-
-  by_value : (name : List ℕ) (v : Option Value) (p : Public) → public_valued lines a name v ≡ ok_public p
-      → IsMade name p
-  by_value name (Some v) p h = by_base name v p v.base h
-  by_value name None p h = absurd (cc h)
-
-  by_definition : (name : List ℕ) (v : Option Value) (p : Public) (d : Option (ℕ × Definition))
-      → public_by lines a name v d ≡ ok_public p → IsMade name p
-  by_definition name v p (Some (line, SegmentOf kind)) h = absurd (cc h)
-  by_definition name v p (Some (line, SetOf e)) h = absurd (cc h)
-  by_definition name v p (Some (line, ExternOf kind number)) h = absurd (cc h)
-  by_definition name v p d h = by_value name v p h
-
-  made : (k : ℕ) (name : List ℕ) (p : Public) → published lines a k name ≡ ok_public p → IsMade name p
-  unfolding published
-  made k name p h = by_definition name (a.value k name) p (definition_of lines name) h
-
-  -- a public of these names of line k
-  record IsAmong (names : List (List ℕ)) (p : Public) : Type 0 where
-    name : List ℕ
-    there : In name names
-    is : IsMade name p
-
-  among_by : (k : ℕ) (name : List ℕ) (names : List (List ℕ)) (r : Published) (p : Public) → published lines a k name ≡ r
-      → ((q : Public) → In q (publics_of lines a k names) → IsAmong names q)
-      → In p (if_public r (publics_of lines a k names)) → IsAmong (name ∷ names) p
-  among_by k name names (Ok q) p is go i = elim (in_cons p q (publics_of lines a k names) i) [
-    | inl e ↦ record { name = name; there = in_first name names; is = subst (IsMade name) e (made k name q is) }
-    | inr j ↦ let r = go p j in record { name = r.name; there = in_later r.name name names r.there; is = r.is }
+  of_base : (name : List ℕ) (v : Value) (b : Base) → Makes name (public_of_value lines a name v b)
+  of_base name v base.None = record { name_is = refl; counts = tt }
+  of_base name v (base.External external) = tt
+  of_base name v (base.Segment id) = elim (cases_Bool (is_whole v.part)) [
+    | inr part ↦ rw part tt
+    | inl part ↦ rw part (elim (cases_Bool (same_kind v.class (segment_of lines a id).kind)) [
+      | inr same ↦ rw same tt
+      | inl same ↦ rw same (elim (cases_eq (segment_number lines a id) 0) [
+        | inl none ↦ rw (eq-eqb _ _ none) (record { name_is = refl; counts = tt })
+        | inr ne ↦
+            let all = all_kept lines a (free_text lines a c) in
+            let n = has_number (kept lines a) all.order id ne in
+            rw (ne_eqb _ _ ne) (record {
+              name_is = refl;
+              counts = (
+                n.0.segment,
+                n.3,
+                (all.every n.0 n.1).kind_is ∙ ap (λ i. (segment_of lines a i).kind) n.2 ∙ sym (kind_same _ _ same),
+              );
+            })
+      ])
+    ])
   ]
-  among_by k name names (Err n) p is go i = let r = go p i in
-      record { name = r.name; there = in_later r.name name names r.there; is = r.is }
 
-  among : (k : ℕ) (names : List (List ℕ)) (p : Public) → In p (publics_of lines a k names) → IsAmong names p
-  among k [] p i = absurd (no_element p i)
-  among k (name ∷ names) p i = among_by k name names (published lines a k name) p refl (λ q j. among k names q j) i
+  of_value : (name : List ℕ) (v : Option Value) → Makes name (public_valued lines a name v)
+  of_value name (Some v) = of_base name v v.base
+  of_value name None = tt
 
-  pairs_by : (k : ℕ) (name : List ℕ) (names : List (List ℕ)) (r : Published) → published lines a k name ≡ r
-      → Every (λ y. y ≢ name) names → Pairs OtherPublic (publics_of lines a k names)
-      → Pairs OtherPublic (if_public r (publics_of lines a k names))
-  unfolding Pairs Every
-  pairs_by k name names (Ok q) is others more = (
-    λ p i.
-        let r = among k names p i in
-        let q_is = made k name q is in
-        λ e. others r.name r.there (sym r.is.name_is ∙ sym e ∙ q_is.name_is),
-    more,
-  )
-  pairs_by k name names (Err n) is others more = more
+  of_definition : (name : List ℕ) (v : Option Value) (d : Option (ℕ × Definition))
+      → Makes name (public_by lines a name v d)
+  of_definition name v (Some (line, SegmentOf kind)) = tt
+  of_definition name v (Some (line, SetOf e)) = tt
+  of_definition name v (Some (line, ExternOf kind number)) = tt
+  of_definition name v d = of_value name v
 
-  line_pairs : (k : ℕ) (names : List (List ℕ)) → Pairs (λ x y. y ≢ x) names
-      → Pairs OtherPublic (publics_of lines a k names)
-  unfolding Pairs
-  line_pairs k [] h = tt
-  line_pairs k (name ∷ names) h = pairs_by k name names (published lines a k name) refl h.0 (line_pairs k names h.1)
+  made : (k : ℕ) (name : List ℕ) → Makes name (published lines a k name)
+  unfolding published
+  made k name = of_definition name (a.value k name) (definition_of lines name)
 
-  -- a public of a line
-  among_line : (k : ℕ) (b : BodyTree) (p : Public) → In p (publics_by lines a k b) → IsAmong (publics_in b) p
-  among_line k (body.Public names) p i = among k names p i
-  among_line k b p i = absurd (no_element p i)
+  -- a public of one of these names
+  abbrev IsAmong : List (List ℕ) → Public → Type 0
+  IsAmong names p = (name : List ℕ) × In name names × IsMade name p
 
-  line_publics : (k : ℕ) (b : BodyTree) → Pairs (λ x y. y ≢ x) (publics_in b)
-      → Pairs OtherPublic (publics_by lines a k b)
-  unfolding Pairs
-  line_publics k (body.Public names) h = line_pairs k names h
-  line_publics k b h = tt
+  -- publics of these names, no two of one name
+  record AreOf (names : List (List ℕ)) (ps : List Public) : Type 0 where
+    each : Every (IsAmong names) ps
+    order : Pairs OtherPublic ps
 
-  once_public : (k : ℕ) → k < length lines → AreOnce lines k [] (publics_in (body_at lines k))
-  once_public k below = publics_once lines k [] (publics_in (body_at lines k)) (once_at lines a c k below).publics
+  with_name : (name : List ℕ) (names : List (List ℕ)) (ps : List Public) (r : Published)
+      → Every (λ y. y ≢ name) names → Makes name r → AreOf names ps
+      → AreOf (name ∷ names) (if_public r ps)
+  with_name name names ps (Err n) others m h =
+      record { each = λ p i. let r = h.each p i in (r.0, inr r.1, r.2); order = h.order }
+  with_name name names ps (Ok q) others m h = record {
+    each = λ p i. elim i [
+      | inl e ↦ (name, inl refl, subst (IsMade name) e m)
+      | inr j ↦ let r = h.each p j in (r.0, inr r.1, r.2)
+    ];
+    order = (
+      λ p i e. let r = h.each p i in others r.0 r.1 (sym r.2.name_is ∙ sym e ∙ m.name_is),
+      h.order,
+    );
+  }
+
+  of_names : (k : ℕ) (names : List (List ℕ)) → Pairs (λ x y. y ≢ x) names → AreOf names (publics_of lines a k names)
+  of_names k [] h = record { each = λ p i. absurd i; order = tt }
+  of_names k (name ∷ names) h =
+      with_name name names (publics_of lines a k names) (published lines a k name) h.0 (made k name)
+      (of_names k names h.1)
+
+  of_line : (k : ℕ) (b : BodyTree) → Pairs (λ x y. y ≢ x) (publics_in b) → AreOf (publics_in b) (publics_by lines a k b)
+  of_line k (body.Public names) h = of_names k names h
+  of_line k b h = record { each = λ p i. absurd i; order = tt }
 
   -- a public of the first k lines
-  record IsPublicOf (k : ℕ) (p : Public) : Type 0 where
-    line : ℕ
-    above : line < k
-    among : IsAmong (publics_in (body_at lines line)) p
+  abbrev IsPublicOf : ℕ → Public → Type 0
+  IsPublicOf k p = (line : ℕ) × (line < k) × IsAmong (publics_in (body_at lines line)) p
 
-  public_of : (k : ℕ) (p : Public) → In p (publics_before lines a k) → IsPublicOf k p
+  record AreAbove (k : ℕ) (ps : List Public) : Type 0 where
+    each : Every (IsPublicOf k) ps
+    order : Pairs OtherPublic ps
+
+  are_above : (k : ℕ) → k ≤ length lines → AreAbove k (publics_before lines a k)
   unfolding publics_before
-  public_of zero p i = absurd (no_element p i)
-  public_of (suc k) p i = elim (in_append p (publics_before lines a k) (publics_by lines a k (body_at lines k)) i) [
-    | inl l ↦ let r = public_of k p l in
-        record { line = r.line; above = let h = r.above in omega arith; among = r.among }
-    | inr r ↦ record { line = k; above = omega arith; among = among_line k (body_at lines k) p r }
-  ]
-
-  publics_differ_to : (k : ℕ) → k ≤ length lines → Pairs OtherPublic (publics_before lines a k)
-  unfolding publics_before Pairs
-  publics_differ_to zero within = tt
-  publics_differ_to (suc k) within =
-      let o = once_public k (omega (arith, within)) in
-      pairs_append OtherPublic (publics_before lines a k) (publics_by lines a k (body_at lines k))
-      (publics_differ_to k (omega (arith, within)))
-      (line_publics k (body_at lines k) o.within)
-      (λ p q i j.
-      let u = public_of k p i in
-      let v = among_line k (body_at lines k) q j in
-      λ e. o.above v.name v.there u.line u.above u.among.name u.among.there
-      (sym v.is.name_is ∙ sym e ∙ u.among.is.name_is))
+  are_above zero within = record { each = λ p i. absurd i; order = tt }
+  are_above (suc k) within =
+      let o = publics_once lines k [] (publics_in (body_at lines k)) (once_at lines a c k (omega arith)).publics in
+      let before = are_above k (omega arith) in
+      let here = of_line k (body_at lines k) o.within in
+      record {
+        each = every_append _ _ _ (λ p i. let r = before.each p i in (r.0, omega arith, r.2))
+            (λ p i. (k, omega arith, here.each p i));
+        order = pairs_append _ _ _ before.order here.order (λ p q i j e.
+            let u = before.each p i in
+            let v = here.each q j in
+            o.above v.0 v.1 u.0 u.1 u.2.0 u.2.1 (sym v.2.name_is ∙ sym e ∙ u.2.2.name_is));
+      }
 
   pub publics_differ : Pairs OtherPublic (publics_before lines a (length lines))
-  publics_differ = publics_differ_to (length lines) (omega arith)
+  publics_differ = (are_above (length lines) (omega arith)).order
 
   public_written : (b : BodyTree) → IsGood b → (name : List ℕ) → In name (publics_in b) → IsWritten name
   public_written (body.Public names) good name i = each_in IsWritten names good name i
-  public_written b good name i = absurd (no_element name i)
+  public_written b good name i = absurd i
 
   pub publics_valid : Every (IsPublicValid (object_segments lines a)) (publics_before lines a (length lines))
-  unfolding Every
   publics_valid p i =
-      let r = public_of (length lines) p i in
+      let r = (are_above (length lines) (omega arith)).each p i in
+      let among = r.2 in
       record {
-        name = subst IsWritten (sym r.among.is.name_is)
-            (public_written (body_at lines r.line) (c.good r.line) r.among.name r.among.there);
-        base = r.among.is.counts;
+        name = subst IsWritten (sym among.2.name_is) (public_written _ (c.good r.0) among.0 among.1);
+        base = among.2.counts;
       }

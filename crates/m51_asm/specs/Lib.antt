@@ -21,9 +21,10 @@ pub mod Answer
 pub mod AnswerLaws
 pub mod LineFaults
 pub mod ValuesAbove
-pub mod Above
+pub mod Values
+pub mod ValuesAt
+pub mod NamesAt
 pub mod OpenSegments
-pub mod LabelledNames
 pub mod Filled
 pub mod GivenValues
 pub mod Operands
@@ -31,7 +32,6 @@ pub mod Placing
 pub mod FirstFault
 pub mod ValidTexts
 pub mod Passing
-pub mod ValuesAt
 pub mod Numbering
 pub mod ObjectNames
 pub mod Banks

@@ -6,8 +6,7 @@ use Rattle.m51_stmt.specs.Statement.{BodyTree, Segment as Declares}
 use Rattle.m51_text.specs.Answer.{LineTree}
 use Rattle.m51_asm.specs.declared.numbering.Numbering.{Numbering}
 use Rattle.m51_asm.specs.Assignment.{TextSegment, Assignment}
-use Rattle.m51_asm.specs.ObjectSegments.{relocatable, absolute_of, kept_before, object_segments, number_in}
-use Rattle.m51_asm.specs.ObjectSegments.{segment_number}
+use Rattle.m51_asm.specs.ObjectSegments.{Kept, relocatable, absolute_of, object_segments, number_in, segment_number}
 
 -- the number of an id in a list of numbers by id, 0 past its end
 abbrev pub number_at : List ℕ → ℕ → ℕ
@@ -34,12 +33,16 @@ abbrev pub next_number : ℕ → Option Segment → ℕ
 next_number count None = 0
 next_number count (Some s) = suc count
 
--- these are the segments of the first k lines, and the numbers of the ids so far
-pub record IsNumberedTo (lines : List LineTree) (a : Assignment) (k : ℕ) (segments : List Segment) (numbers : List ℕ)
-    : Type 0 where
-  pub same : segments ≡ map (λ s. s.segment) (kept_before lines a k)
-  pub counted : length numbers ≡ k + 2
-  pub each : (id : ℕ) → number_at numbers id ≡ number_in (kept_before lines a k) id
+-- the segment with its id, as a list
+abbrev pub kept_as : ℕ → Option Segment → List Kept
+kept_as id None = []
+kept_as id (Some s) = record { id = id; segment = s } ∷ []
+
+-- these are the segments of a table, and the numbers of the ids below n
+pub record AreNumbered (table : List Kept) (n : ℕ) (segments : List Segment) (numbers : List ℕ) : Type 0 where
+  pub same : segments ≡ map (λ s. s.segment) table
+  pub counted : length numbers ≡ n
+  pub each : (id : ℕ) → number_at numbers id ≡ number_in table id
 
 -- these are the segments of the module, and this is the number of each id
 pub record IsNumbering (lines : List LineTree) (a : Assignment) (n : Numbering) : Type 0 where

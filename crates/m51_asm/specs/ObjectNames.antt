@@ -1,28 +1,21 @@
 -- What names and the place of a line mean over the segments of the module, by the state for pass 2.
-use Rattle.std.specs.Prelude.{◌≡◌, ℕ, List, Option, map}
-use Rattle.m51_expr.specs.declared.value.Value.{Value}
+use Rattle.std.specs.Prelude.{◌≡◌, ℕ, List, map}
 use Rattle.m51_expr.specs.Meanings.{Meanings}
 use Rattle.m51_text.specs.Answer.{LineTree, line_tree}
 use Rattle.m51_asm.specs.declared.object_names.ObjectNames.{ObjectNames}
 use Rattle.m51_asm.specs.declared.object_names.PlacedText.{PlacedText}
-use Rattle.m51_asm.specs.declared.values_at.ValuesAt.{ValuesAt}
 use Rattle.m51_asm.specs.Assignment.{Assignment}
 use Rattle.m51_asm.specs.Fitting.{mod51, Fits}
-use Rattle.m51_expr.specs.Located.{located_value}
 use Rattle.m51_asm.specs.ObjectMeanings.{object_meanings, final}
 use Rattle.m51_asm.specs.Placing.{IsTableOf}
 use Rattle.m51_asm.specs.Passing.{IsPlaced}
-use Rattle.m51_asm.specs.ValuesAt.{value_at}
+use Rattle.m51_asm.specs.NamesAt.{names_at}
 use Rattle.m51_asm.specs.Numbering.{number_at, IsNumbering}
 
--- the value of a name by what is kept of the text
-abbrev pub kept_value : ValuesAt → List ℕ → Option Value
-kept_value v name = value_at v.names.now v.kept.now v.set.now v.mod51 v.bank name
-
--- what names and a place mean
+-- what names and the place of a line mean
 abbrev pub object_names : ObjectNames → Meanings
 object_names n =
-    object_meanings (kept_value n.values) (located_value n.place) (number_at n.numbering.now.numbers)
+    object_meanings (names_at n.names).value (names_at n.names).here (number_at n.numbering.now.numbers)
     n.numbering.now.segments
 
 -- What is kept of a text is what it gives under an assignment that fits it: its names, whether those of the 8052 are
@@ -37,5 +30,5 @@ pub record IsAssignedText (lines : List LineTree) (a : Assignment) (t : PlacedTe
 
 -- names and the place are those of line k
 pub record AreNamesAt (lines : List LineTree) (a : Assignment) (k : ℕ) (n : ObjectNames) : Type 0 where
-  pub values : (name : List ℕ) → kept_value n.values name ≡ a.value k name
+  pub values : (name : List ℕ) → (names_at n.names).value name ≡ a.value k name
   pub meanings : object_names n ≡ final lines a k

@@ -1,8 +1,9 @@
 -- The state after the lines above a line, and what follows for the line from it. The facts are those of the loop over
 -- the lines of a text, by the assignment that fits it.
-use Rattle.std.specs.Prelude.{◌≡◌, ℕ, suc, ◌+◌, ◌%◌, ◌==◌, ◌&&◌, ◌||◌, not, Bool, true, nat_lt, if◌then◌else◌, List}
+use Rattle.std.specs.Prelude.{◌≡◌, ℕ, suc, ◌+◌, ◌%◌, ◌==◌, ◌&&◌, ◌||◌, ◌≤◌, not, Bool, true, nat_lt, if◌then◌else◌}
+use Rattle.std.specs.Prelude.{List}
 use Rattle.std.specs.Prelude.{Option}
-use Rattle.std.specs.Prelude.{Some, None, option_map}
+use Rattle.std.specs.Prelude.{Some, None, option_map, is_some}
 use Rattle.m51_cells.specs.declared.fault.TheConstants.{BAD_FORM, PAST_THE_END, TOO_MANY}
 use Rattle.m51_cells.specs.declared.kind.Base.TheVariants as base
 use Rattle.m51_cells.specs.declared.kind.Kind.{Kind}
@@ -10,6 +11,8 @@ use Rattle.m51_cells.specs.declared.limits.TheConstants.{MOST_MODULE_SEGMENTS, M
 use Rattle.m51_cells.specs.Kinds.{is_absolute}
 use Rattle.m51_expr.specs.declared.value.Part.TheVariants.{Whole}
 use Rattle.m51_expr.specs.declared.value.Value.{Value}
+use Rattle.m51_expr.specs.Meanings.{Meanings}
+use Rattle.m51_isa.specs.declared.generics.Jump.{Jump}
 use Rattle.m51_stmt.specs.Statement.{BodyTree, Segment}
 use Rattle.m51_text.specs.Answer.{LineTree}
 use Rattle.m51_asm.specs.declared.placing.PassOneState.{PassOneState}
@@ -20,13 +23,15 @@ use Rattle.m51_asm.specs.declared.stepping.LineOutcome.TheVariants as outcome
 use Rattle.m51_asm.specs.declared.told.LineFacts.{LineFacts}
 use Rattle.m51_asm.specs.Definitions.{definition_of}
 use Rattle.m51_asm.specs.Assignment.{TextSegment, Assignment, body_at, here_at, above}
-use Rattle.m51_asm.specs.Fitting.{last_absolute, size_at, filled, bank_by, bank_before, externals_before}
+use Rattle.m51_asm.specs.Fitting.{last_absolute, size_at, size_by, filled, bank_by, bank_before, externals_before}
+use Rattle.m51_asm.specs.Fitting.{given_to, externals_in}
 use Rattle.m51_asm.specs.PlacedFaults.{kind_end, segments_before, operand_fault, placed_fault}
 use Rattle.m51_asm.specs.Table.{Table, first_in, first_definition}
 use Rattle.m51_asm.specs.ValuesAbove.{value_above}
 use Rattle.m51_expr.specs.Located.{located_value}
-use Rattle.m51_asm.specs.Above.{value_in}
-use Rattle.m51_asm.specs.OpenSegments.{text_segment, last_in}
+use Rattle.m51_asm.specs.Values.{value_in}
+use Rattle.m51_asm.specs.OpenSegments.{text_segment, last_in, open_behind}
+use Rattle.m51_asm.specs.LineFaults.{operand_fault_by}
 use Rattle.m51_asm.specs.Filled.{size_in, saturated}
 use Rattle.m51_asm.specs.GivenValues.{expression_given}
 use Rattle.m51_asm.specs.Operands.{operand_number, IsOperand}
@@ -54,6 +59,17 @@ here_of s before = record {
   part = Whole;
 }
 
+-- these follow for line k from what names mean, its form, the last absolute segments, the segment that its RSEG names,
+-- its own segment, and what it says
+pub record AreFactsFrom (k : ℕ) (names : Meanings) (form : Jump) (last : Kind → Option TextSegment)
+    (named : Option TextSegment) (segment : TextSegment) (body : BodyTree) (t : LineFacts) : Type 0 where
+  pub here : located_value t.here ≡ names.here
+  pub form_is : t.form ≡ form
+  pub size : t.size ≡ saturated (size_by names form body)
+  pub next : text_segment t.next ≡ open_behind k names last named segment body
+  pub operand : IsOperand (operand_fault_by names (is_some named) body) (operand_number names body)
+      (expression_given names body) (λ bank. bank_by names bank body) t.operand
+
 -- these are the place, the form and the size of line k, the segment that it leaves open, and its operand
 pub record AreLineFacts (lines : List LineTree) (a : Assignment) (k : ℕ) (t : LineFacts) : Type 0 where
   pub here : located_value t.here ≡ here_at a k
@@ -68,6 +84,20 @@ pub record AreLineFacts (lines : List LineTree) (a : Assignment) (k : ℕ) (t : 
 abbrev pub numbers_one : TextSegment → ℕ → ℕ → BodyTree → Bool
 numbers_one s before size (Segment name kind reloc overlayable) = true
 numbers_one s before size body = is_absolute s.reloc && (before == 0 && not (size == 0))
+
+-- these are counted after a line of this size, from the sizes of the segments, and the segments with a number and the
+-- externals, above it
+pub record AreCounts (sizes : ℕ → ℕ) (above declared : ℕ) (segment behind : TextSegment) (size : ℕ) (body : BodyTree)
+    (c : Counts) : Type 0 where
+  pub next : c.next ≡ saturated (sizes behind.id + given_to behind.id segment size)
+  pub segments : c.segments ≡ above + (if numbers_one segment (sizes segment.id) size body then 1 else 0)
+  pub externals : c.externals ≡ saturated (declared + externals_in body)
+
+-- what is counted down to a line without a fault
+pub record AreSmall (c : Counts) : Type 0 where
+  pub next : c.next ≤ 65535
+  pub segments : c.segments ≤ 255
+  pub externals : c.externals ≤ 255
 
 -- what is counted down to line k: the size of the segment that it leaves open, segments with a number, and externals
 pub record IsCounted (lines : List LineTree) (a : Assignment) (k : ℕ) (c : Counts) : Type 0 where

@@ -21,7 +21,7 @@ use Rattle.m51_asm.specs.ObjectMeanings.{object_value}
 use Rattle.m51_asm.specs.OpenSegments.{text_segment}
 use Rattle.m51_asm.specs.Table.{first_in}
 use Rattle.m51_asm.specs.Numbering.{number_at}
-use Rattle.m51_asm.specs.ObjectNames.{kept_value}
+use Rattle.m51_asm.specs.NamesAt.{names_at}
 
 abbrev pub definer_how : How → Definer
 definer_how (how.Segment kind) = by.Segment
@@ -70,8 +70,8 @@ published_from name definer s value = public_by name definer s.kind s.base value
 abbrev pub published_by : PlacedText → ObjectNames → List ℕ → Published
 published_by t n name =
     published_from name (definer_of (first_in t.text.names.now name))
-    (counted_by (segment_in t) (kept_value n.values name))
-    (option_map (object_value (number_at n.numbering.now.numbers)) (kept_value n.values name))
+    (counted_by (segment_in t) ((names_at n.names).value name))
+    (option_map (object_value (number_at n.numbering.now.numbers)) ((names_at n.names).value name))
 
 -- the publics of these names
 abbrev pub publics_among : (List ℕ → Published) → List (List ℕ) → List Public

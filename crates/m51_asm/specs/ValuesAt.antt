@@ -11,10 +11,10 @@ use Rattle.m51_expr.specs.declared.located.Located.{Located}
 use Rattle.m51_asm.specs.Assignment.{Assignment}
 use Rattle.m51_asm.specs.Fitting.{mod51, bank_before, last_set, register_or_predefined}
 use Rattle.m51_expr.specs.Located.{located_value}
-use Rattle.m51_asm.specs.Table.{Table, first_in, sets}
+use Rattle.m51_asm.specs.Table.{Table, first_in, first_definition, sets}
 use Rattle.m51_asm.specs.ValuesAbove.{value_above}
-use Rattle.m51_asm.specs.Above.{Valuation, value_in}
-use Rattle.m51_asm.specs.Placing.{IsTableOf}
+use Rattle.m51_asm.specs.Values.{Valuation, value_in}
+use Rattle.m51_asm.specs.Definitions.{definition_of}
 
 -- the value of a name of this first definition
 abbrev pub value_by_first : Option Value → Option Value → Option Value → Option FirstDefinition → Option Value
@@ -58,7 +58,7 @@ PutsIf old new put value = (name : List ℕ) → value_in new name ≡ if_put pu
 -- what is kept of the whole text and of the lines above line k
 pub record IsKnownAt (lines : List LineTree) (a : Assignment) (k : ℕ) (table : Table) (kept set : Valuation)
     (predefines : Bool) (bank : ℕ) : Type 0 where
-  pub names : IsTableOf lines table
+  pub names : (name : List ℕ) → first_in table name ≡ option_map first_definition (definition_of lines name)
   pub values : IsKeptOfAll lines a kept
   pub sets : IsSetAt lines a k set
   pub predefined : predefines ≡ mod51 lines

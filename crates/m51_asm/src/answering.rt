@@ -14,12 +14,13 @@ ghost use Rattle.m51_asm.specs.Gathering.{IsText};
 
 use crate::banks::banks;
 use crate::contents::{Contents, TextContents, give_lines};
+use crate::names_at::NamedText;
 use crate::naming::module_name;
 use crate::naming_lines::{externals, name_in};
 use crate::numbering::{Numbering, number_segments};
 use crate::object_names::PlacedText;
 use crate::outcome::Assembled;
-use crate::placing::{NamedText, PassOneState};
+use crate::placing::PassOneState;
 use crate::stepping::LinePlace;
 use m51_cells::NoMemory;
 use m51_emit::{ModuleContent, gather};

@@ -12,14 +12,16 @@ ghost use Rattle.m51_asm.specs.Contents.{nothing_given, IsGivenTo};
 ghost use Rattle.m51_asm.specs.Gathering.{IsText, gathered_before};
 
 use crate::gathering::{gather_line, nothing_gathered};
-use crate::object_names::{PlacedText, names_of};
+use crate::names_at::NamesAt;
+use crate::object_names::{ObjectNames, PlacedText};
 use crate::outcome::fault_of_line;
 use crate::placing::here_of;
 use crate::publishing::{or_next, publish};
 use crate::repeats::publics_in;
+use crate::setting::take_set;
+use crate::sizes::row_by;
 use crate::stepping::LinePlace;
 use crate::valuation::Values;
-use crate::values_at::take_set;
 use m51_cells::{ListOf, NoMemory};
 use m51_emit::{EmittedContent, SegmentContent, line_content, place_of, row_of};
 use m51_module::{Faults, Publics, Row, Rows};
@@ -87,27 +89,28 @@ fn give_line(
     place: &LinePlace,
     contents: &mut Contents,
 ) -> Result<EmittedContent, NoMemory>
-    ensures given { OnOk result ((lines : List LineTree) (a : Assignment) (k : ℕ) → IsAssignedText lines a text.now
-        → slice_get lines k ≡ Some (line_tree line.now) → IsPlaceOf lines a k place.now
-        → IsGivenTo lines a k contents.old → IsGivenTo lines a (suc k) contents.new) }
-    ensures content { IfOk result (λ content. (lines : List LineTree) (a : Assignment) (k : ℕ)
+    ensures given { IfOk result (λ content. (lines : List LineTree) (a : Assignment) (k : ℕ)
         → IsAssignedText lines a text.now → slice_get lines k ≡ Some (line_tree line.now)
-        → IsPlaceOf lines a k place.now
-        → IsGivenTo lines a k contents.old → content ≡ content_at lines a k) }
+        → IsPlaceOf lines a k place.now → IsGivenTo lines a k contents.old
+        → (content ≡ content_at lines a k) × IsGivenTo lines a (suc k) contents.new) }
     ensures faults { OnOk result (contents.new.faults ≡ [] → contents.old.faults ≡ []) }
 {
     let here = here_of(place.segment, place.offset);
-    let names = names_of(
-        text.text.names,
-        &text.end.values,
-        &contents.set,
-        text.numbering,
-        text.text.mod51,
-        place.bank,
+    let names_at = NamesAt {
+        text: text.text,
+        kept: &text.end.values,
+        set: &contents.set,
+        bank: place.bank,
         here,
-    );
+        label: None,
+    };
+    let names = ObjectNames {
+        names: names_at,
+        numbering: text.numbering,
+    };
     let body = &line.stmt.body;
-    let told = line_content(alloc, &names, place.form, body, contents.made)?;
+    let row = row_by(place.form, body);
+    let told = line_content(alloc, &names, row, body, contents.made)?;
     let unpublished = publish(text, &names, &mut contents.publics, publics_in(body))?;
     contents.made = told.made;
     push_fault(&mut contents.faults, line, or_next(told.fault, unpublished))?;

@@ -1,12 +1,12 @@
 //! What is counted down to a line, and the fault that follows from it.
-ghost use Rattle.std.specs.Prelude.{◌≡◌, ◌+◌, ◌&&◌, ◌||◌, not, ◌==◌, nat_lt, if◌then◌else◌};
+ghost use Rattle.std.specs.Prelude.{◌≡◌, ◌&&◌, not, ◌==◌, if◌then◌else◌};
 ghost use Rattle.m51_cells.specs.Kinds.{is_absolute};
 ghost use Rattle.m51_stmt.specs.Statement.{body_tree};
 ghost use Rattle.m51_asm.specs.Fitting.{given_to, externals_in};
 ghost use Rattle.m51_asm.specs.PlacedFaults.{kind_end, is_misplaced};
 ghost use Rattle.m51_asm.specs.OpenSegments.{text_segment};
-ghost use Rattle.m51_asm.specs.Filled.{size_in, saturated};
-ghost use Rattle.m51_asm.specs.Placing.{numbers_one, exceeds_end, are_too_many, fault_by};
+ghost use Rattle.m51_asm.specs.Filled.{size_in};
+ghost use Rattle.m51_asm.specs.Placing.{numbers_one, AreCounts, exceeds_end, are_too_many, fault_by};
 
 use crate::filled::Filled;
 use crate::segments::OpenSegment;
@@ -78,12 +78,8 @@ pub(crate) fn count(
     size: u64,
     body: &Body,
 ) -> Counts
-    ensures next { result.next
-        ≡ saturated (size_in filled.now next.id + given_to next.id (text_segment segment) size) }
-    ensures segments { result.segments ≡ segments
-        + (if numbers_one (text_segment segment) (size_in filled.now segment.id) size (body_tree body.now)
-        then 1 else 0) }
-    ensures externals { result.externals ≡ saturated (externals + externals_in (body_tree body.now)) }
+    ensures { AreCounts (size_in filled.now) segments externals (text_segment segment) (text_segment next) size
+        (body_tree body.now) result }
 {
     let one = one_if(numbers_one(segment, filled.of(segment.id), size, body));
     Counts {

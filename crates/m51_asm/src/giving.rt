@@ -1,6 +1,6 @@
 //! The values that a line gives to the names which it defines.
 ghost use Rattle.std.specs.Prelude.{◌≡◌, ◌+◌, ◌<◌, ℕ, List, OnOk};
-ghost use Rattle.m51_asm.specs.Above.{value_in};
+ghost use Rattle.m51_asm.specs.Values.{value_in};
 ghost use Rattle.m51_asm.specs.GivenValues.{segment_given, external_given, given_by, given_or, HasNumber, HaveNumbers};
 
 use crate::definitions::How;

@@ -2,10 +2,9 @@
 ghost use Rattle.m51_asm.specs.AssignmentLaws.{OneFits, AFits};
 ghost use Rattle.m51_asm.specs.Renumbering.{NumbersDoNotMatter};
 ghost use Rattle.m51_asm.specs.AnswerLaws.{OneAnswer};
-ghost use Rattle.m51_asm.specs.Above.{KeptMeans};
+ghost use Rattle.m51_asm.specs.NamesAt.{KeptMeans, FormIsTold};
 ghost use Rattle.m51_asm.specs.LineFaults.{OperandIsTold};
 ghost use Rattle.m51_asm.specs.OpenSegments.{OpenIsBehind, DeclaredIsTold};
-ghost use Rattle.m51_asm.specs.LabelledNames.{FormIsTold};
 ghost use Rattle.m51_asm.specs.FirstFault.{FaultIsAnswer, ContentIsAnswer};
 ghost use Rattle.m51_asm.specs.ValuesAbove.{ValuesGrow, ValuesAreSeen};
 

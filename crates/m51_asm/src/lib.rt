@@ -1,7 +1,6 @@
 //! The assembler: from a source to a module and the rows of its listing, or to the faults of its lines.
 #![tactic(auto)]
 
-mod above;
 mod answering;
 mod assembling;
 mod banks;
@@ -10,11 +9,12 @@ mod counting;
 mod counts;
 mod definitions;
 mod filled;
+mod forms;
 mod gathering;
 mod giving;
-mod labelled;
 mod laws;
 mod names;
+mod names_at;
 mod naming;
 mod naming_lines;
 mod numbering;
@@ -28,12 +28,12 @@ mod publics;
 mod publishing;
 mod repeats;
 mod segments;
+mod setting;
 mod sizes;
 mod stepping;
 mod told;
 mod valid_laws;
 mod valuation;
-mod values_at;
 
 pub use assembling::assemble;
 pub use definitions::How;

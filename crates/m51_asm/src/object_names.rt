@@ -5,13 +5,11 @@ ghost use Rattle.m51_expr.specs.Located.{origin_base, located_value};
 ghost use Rattle.m51_asm.specs.ObjectMeanings.{object_base, object_value, is_fixed, has_bits};
 ghost use Rattle.m51_asm.specs.Numbering.{number_at};
 
-use crate::above::is_bitaddressable;
-use crate::names::TextNames;
+use crate::names_at::{NamedText, NamesAt};
 use crate::numbering::{Numbering, number_at};
-use crate::placing::{NamedText, PassOneState};
+use crate::placing::PassOneState;
+use crate::segments::is_bitaddressable;
 use crate::stepping::LinePlace;
-use crate::valuation::Values;
-use crate::values_at::ValuesAt;
 use m51_cells::{Base, Name, is_absolute};
 use m51_expr::{Located, Lookup, Origin, Value};
 use m51_module::{Segment, segment_numbered};
@@ -82,9 +80,7 @@ pub(crate) struct PlacedText<'a> {
 /// What the names of a text and the place of a line mean over the segments of the module.
 #[derive(Clone, Copy)]
 pub(crate) struct ObjectNames<'a> {
-    pub(crate) values: ValuesAt<'a>,
-    /// The place of the line.
-    pub(crate) place: Located<u32>,
+    pub(crate) names: NamesAt<'a>,
     pub(crate) numbering: &'a Numbering,
 }
 
@@ -94,12 +90,12 @@ impl<'a> Lookup for ObjectNames<'a> {
     ghost meanings = { object_names };
 
     fn value(&self, name: &Name) -> Option<Value> {
-        let values = &self.values;
-        object_value_of(self.numbering.numbers.as_slice(), values.of(name))
+        let names = &self.names;
+        object_value_of(self.numbering.numbers.as_slice(), names.of(name))
     }
 
     fn here(&self) -> Value {
-        object_value(self.numbering.numbers.as_slice(), self.place)
+        object_value(self.numbering.numbers.as_slice(), self.names.here)
     }
 
     fn fixed(&self, segment: u8) -> bool {
@@ -108,37 +104,5 @@ impl<'a> Lookup for ObjectNames<'a> {
 
     fn bitaddressable(&self, segment: u8) -> bool {
         has_bits(segment_numbered(self.numbering.segments.as_slice(), segment))
-    }
-}
-
-/// What names and a place mean, by these parts of what is kept.
-pub(crate) fn names_of<'a>(
-    names: &'a TextNames,
-    kept: &'a Values,
-    set: &'a Values,
-    numbering: &'a Numbering,
-    mod51: bool,
-    bank: u8,
-    place: Located<u32>,
-) -> ObjectNames<'a>
-    ensures names { result.values.names.now ≡ names.now }
-    ensures kept { result.values.kept.now ≡ kept.now }
-    ensures set { result.values.set.now ≡ set.now }
-    ensures numbering { result.numbering.now ≡ numbering.now }
-    ensures mod51 { result.values.mod51 ≡ mod51 }
-    ensures bank { result.values.bank ≡ bank }
-    ensures place { result.place ≡ place }
-{
-    let values = ValuesAt {
-        names,
-        kept,
-        set,
-        mod51,
-        bank,
-    };
-    ObjectNames {
-        values,
-        place,
-        numbering,
     }
 }

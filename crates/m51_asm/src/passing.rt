@@ -7,7 +7,8 @@ ghost use Rattle.m51_asm.specs.Repeats.{IsFirstRepeat};
 ghost use Rattle.m51_asm.specs.Placing.{IsTableOf};
 ghost use Rattle.m51_asm.specs.Passing.{is_reached, IsPassed};
 
-use crate::placing::{NamedText, PassOneState};
+use crate::names_at::NamedText;
+use crate::placing::PassOneState;
 use crate::stepping::{LineOutcome, LinePlace, step};
 use m51_cells::{DEFINED_TWICE, ListOf, NoMemory};
 use std::alloc::Global;

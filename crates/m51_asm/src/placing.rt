@@ -7,15 +7,15 @@ ghost use Rattle.m51_asm.specs.Fitting.{externals_in, Fits, mod51};
 ghost use Rattle.m51_asm.specs.Repeats.{is_repeated};
 ghost use Rattle.m51_expr.specs.Located.{located_value};
 ghost use Rattle.m51_asm.specs.OpenSegments.{text_segment};
-ghost use Rattle.m51_asm.specs.Placing.{IsTableOf, IsAt, AreLineFacts, IsCounted, here_of};
+ghost use Rattle.m51_asm.specs.Placing.{IsTableOf, IsAt, AreLineFacts, AreSmall, IsCounted, here_of};
 ghost use Rattle.m51_asm.specs.PlacedFaults.{placed_fault};
 
-use crate::above::Above;
 use crate::counts::Counts;
 use crate::definitions::definitions_in;
 use crate::filled::Filled;
+use crate::forms::form_of;
 use crate::giving::{Giving, take_in};
-use crate::names::TextNames;
+use crate::names_at::{NamedText, NamesAt};
 use crate::segments::{LastAbsolute, OPENING, OpenSegment};
 use crate::told::{LineFacts, named_by, tell};
 use crate::valuation::Values;
@@ -23,14 +23,6 @@ use m51_cells::NoMemory;
 use m51_expr::{Located, Origin, Part};
 use m51_text::Line;
 use std::alloc::Global;
-
-/// The lines of a text, the names that they define, and whether those of the 8052 are predefined in it.
-#[derive(Clone, Copy)]
-pub(crate) struct NamedText<'a> {
-    pub(crate) lines: &'a [Line],
-    pub(crate) names: &'a TextNames,
-    pub(crate) mod51: bool,
-}
 
 /// What is kept of the lines above a line.
 #[derive(Drop)]
@@ -80,26 +72,23 @@ pub(crate) fn told_of(
         → AreLineFacts (map line_tree text.now.lines.now) a k result }
 {
     let here = here_of(placing.segment, placing.filled.of(placing.segment.id));
-    let names = Above {
-        lines: text.lines,
-        names: text.names,
-        values: &placing.values,
-        mod51: text.mod51,
+    let names = NamesAt {
+        text: *text,
+        kept: &placing.values,
+        set: &placing.values,
         bank: placing.bank,
         here,
+        label: None,
+    };
+    let labelled = NamesAt {
+        label: line.stmt.label,
+        ..names
     };
     let body = &line.stmt.body;
+    let form = form_of(&labelled, body);
     let named = named_by(text.lines, text.names, k, body);
     let segment = placing.segment;
-    tell(
-        k,
-        &names,
-        line.stmt.label,
-        &placing.last,
-        named,
-        segment,
-        body,
-    )
+    tell(k, &names, form, &placing.last, named, segment, body)
 }
 
 impl PassOneState {
@@ -132,9 +121,7 @@ impl PassOneState {
         counts: &Counts,
     ) -> Result<(), NoMemory>
         requires within { k < 65536 }
-        requires next { counts.now.next ≤ 65535 }
-        requires segments { counts.now.segments ≤ 255 }
-        requires externals { counts.now.externals ≤ 255 }
+        requires small { AreSmall counts.now }
         requires declared { self.old.externals + externals_in (body_tree line.now.stmt.body) ≤ 255 }
         ensures { OnOk result ((lines : List LineTree) (a : Assignment) → Fits lines a
             → slice_get lines k ≡ Some (line_tree line.now) → placed_fault lines a k ≡ None

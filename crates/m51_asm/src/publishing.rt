@@ -127,7 +127,7 @@ fn published_by(text: &PlacedText<'_>, names: &ObjectNames<'_>, name: &Name) -> 
     ensures { result ≡ published_by text.now names.now name.now }
 {
     let named = text.text;
-    let values = &names.values;
+    let values = &names.names;
     let numbering = names.numbering;
     let located = values.of(name);
     let segment = counted_by(text, located);

@@ -5,18 +5,58 @@ ghost use Rattle.m51_cells.specs.Kinds.{is_absolute, same_kind};
 ghost use Rattle.m51_expr.specs.Meanings.{Meanings};
 ghost use Rattle.m51_stmt.specs.Statement.{body_tree};
 ghost use Rattle.m51_text.specs.Answer.{line_tree};
-ghost use Rattle.m51_asm.specs.Assignment.{absolute};
+ghost use Rattle.m51_asm.specs.Assignment.{absolute, body_at, reloc_by, segment_reloc, is_bitaddressable};
 ghost use Rattle.m51_asm.specs.Fitting.{is_absolute_of, declared_in};
 ghost use Rattle.m51_asm.specs.OpenSegments.{text_segment, declared_how, declared_first, last_with, last_in};
 ghost use Rattle.m51_asm.specs.OpenSegments.{open_behind};
 ghost use Rattle.m51_asm.specs.Operands.{operand_number};
 
-use crate::above::reloc_at;
 use crate::definitions::How;
 use crate::names::FirstDefinition;
 use m51_cells::{Kind, Reloc, is_absolute};
 use m51_stmt::Body;
 use m51_text::Line;
+
+/// Whether a type is BITADDRESSABLE.
+pub(crate) fn is_bitaddressable(reloc: Reloc) -> bool
+    ensures { result ≡ is_bitaddressable reloc }
+{
+    match reloc {
+        Reloc::Bitaddressable => true,
+        _ => false,
+    }
+}
+
+// The type of the segment that a line declares, if it declares one.
+fn reloc_by(body: &Body) -> Reloc
+    ensures { result ≡ reloc_by (body_tree body.now) }
+{
+    match body {
+        Body::Segment(_, _, reloc, _) => *reloc,
+        _ => Reloc::Abs,
+    }
+}
+
+// The type of the segment that line k declares, if it declares one.
+fn reloc_at(lines: &[Line], k: usize) -> Reloc
+    ensures { result ≡ reloc_by (body_at (map line_tree lines.now) k) }
+{
+    match lines.get(k) {
+        Some(line) => reloc_by(&line.stmt.body),
+        None => Reloc::Abs,
+    }
+}
+
+/// The type of a segment.
+pub(crate) fn segment_reloc(lines: &[Line], id: u32) -> Reloc
+    ensures { result ≡ segment_reloc (map line_tree lines.now) id }
+{
+    if id < 2 {
+        Reloc::Abs
+    } else {
+        reloc_at(lines, id as usize - 2)
+    }
+}
 
 /// A segment of the text.
 #[derive(Clone, Copy, Debug, PartialEq, Eq)]

@@ -1,17 +1,19 @@
 //! How many bytes lines give.
-ghost use Rattle.std.specs.Prelude.{◌≡◌, ℕ, ◌*◌, length, map, unwrap_or};
+ghost use Rattle.std.specs.Prelude.{◌≡◌, ℕ, ◌*◌, length, map, option_map, unwrap_or};
 ghost use Rattle.m51_expr.specs.Meanings.{Meanings};
-ghost use Rattle.m51_expr.specs.Operand.{item_tree, operand_tree};
+ghost use Rattle.m51_expr.specs.Operand.{item_tree};
 ghost use Rattle.m51_stmt.specs.Statement.{body_tree};
-ghost use Rattle.m51_encode.specs.Coding.{length_of};
+ghost use Rattle.m51_isa.specs.declared.generics.Jump.{Jump};
+ghost use Rattle.m51_isa.specs.Table.{length_of};
+ghost use Rattle.m51_emit.specs.Lines.{row_by};
 ghost use Rattle.m51_emit.specs.Sizes.{item_size, items_size};
 ghost use Rattle.m51_asm.specs.Filled.{saturated};
 ghost use Rattle.m51_asm.specs.Fitting.{size_by};
 ghost use Rattle.m51_asm.specs.Operands.{operand_number};
 
-use m51_encode::length_of;
+use m51_encode::row_of;
 use m51_expr::Item;
-use m51_isa::Jump;
+use m51_isa::{Instr, Jump, length};
 use m51_stmt::Body;
 
 fn item_size(item: &Item) -> usize
@@ -33,25 +35,35 @@ fn items_size(items: &[Item]) -> u64
     }
 }
 
-// The length of an instruction, 0 where there is none.
-fn length_or_0(length: Option<u8>) -> u64
-    ensures { result ≡ saturated (unwrap_or length 0) }
+/// The row of the instruction of a line, if it has one, with its JMP or CALL in this form.
+pub(crate) fn row_by(form: Jump, body: &Body) -> Option<Instr>
+    ensures { result ≡ row_by form (body_tree body.now) }
 {
-    match length {
-        Some(length) => u64::from(length),
+    match body {
+        Body::Code(mnemonic, operands) => row_of(mnemonic, operands.as_slice(), form),
+        _ => None,
+    }
+}
+
+// The length of a row, 0 where there is none.
+fn row_len(row: &Option<Instr>) -> u64
+    ensures { result ≡ saturated (unwrap_or (option_map length_of row.now) 0) }
+{
+    match row {
+        Some(row) => u64::from(length(row)),
         None => 0,
     }
 }
 
-/// How many bytes a line gives, in BIT bits. The form is that of its JMP or CALL, the number that of its operand.
-pub(crate) fn size_by(form: Jump, number: u16, body: &Body) -> u64
-    ensures { (names : Meanings) → number ≡ operand_number names (body_tree body.now)
+/// How many bytes a line gives, in BIT bits. The row is that of its instruction, the number that of its operand.
+#[tactic(auto, unfolding(m51_encode::specs::Coding::length_of))]
+pub(crate) fn size_by(row: &Option<Instr>, number: u16, body: &Body) -> u64
+    ensures { (names : Meanings) (form : Jump) → row.now ≡ row_by form (body_tree body.now)
+        → number ≡ operand_number names (body_tree body.now)
         → result ≡ saturated (size_by names form (body_tree body.now)) }
 {
     match body {
-        Body::Code(mnemonic, operands) => {
-            length_or_0(length_of(mnemonic, operands.as_slice(), form))
-        }
+        Body::Code(_, _) => row_len(row),
         Body::Db(items) => items_size(items.as_slice()),
         Body::Dw(items) => (items.as_slice().len() as u64).saturating_mul(2),
         Body::Ds(_) | Body::Dbit(_) => u64::from(number),

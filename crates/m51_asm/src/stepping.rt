@@ -11,7 +11,8 @@ ghost use Rattle.m51_asm.specs.Operands.{evaluated_fault};
 ghost use Rattle.m51_asm.specs.Placing.{IsTableOf, IsAt, IsLineOutcome, exceeds_end, are_too_many, fault_by};
 
 use crate::counts::{Counts, are_too_many, count, exceeds_end, fault_by, is_misplaced};
-use crate::placing::{NamedText, PassOneState, told_of};
+use crate::names_at::NamedText;
+use crate::placing::{PassOneState, told_of};
 use crate::segments::OpenSegment;
 use crate::told::LineFacts;
 use m51_cells::NoMemory;

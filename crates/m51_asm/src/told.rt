@@ -1,24 +1,16 @@
 //! What follows for a line from those above it: its place, its form, its size, the segment that it leaves open, and its
 //! operand.
-ghost use Rattle.std.specs.Prelude.{◌≡◌, ◌<◌, map, is_some, option_map};
+ghost use Rattle.std.specs.Prelude.{◌≡◌, ◌<◌, map, option_map};
 ghost use Rattle.m51_stmt.specs.Statement.{body_tree};
 ghost use Rattle.m51_text.specs.Answer.{line_tree};
-ghost use Rattle.m51_asm.specs.Filled.{saturated};
-ghost use Rattle.m51_asm.specs.Fitting.{form_by, size_by, bank_by};
-ghost use Rattle.m51_asm.specs.GivenValues.{expression_given};
-ghost use Rattle.m51_asm.specs.LabelledNames.{with_label};
-ghost use Rattle.m51_asm.specs.LineFaults.{operand_fault_by};
-ghost use Rattle.m51_expr.specs.Located.{located_value};
-ghost use Rattle.m51_asm.specs.OpenSegments.{text_segment, declared_first, last_in, open_behind, named_by};
-ghost use Rattle.m51_asm.specs.Operands.{operand_number, IsOperand};
+ghost use Rattle.m51_asm.specs.OpenSegments.{text_segment, declared_first, last_in, named_by};
+ghost use Rattle.m51_asm.specs.Placing.{AreFactsFrom};
 ghost use Rattle.m51_asm.specs.Table.{first_in};
 
-use crate::labelled::{Labelled, form_of};
 use crate::names::TextNames;
 use crate::operands::{Evaluated, evaluate_operand};
 use crate::segments::{LastAbsolute, OpenSegment, declared_first, open_behind};
-use crate::sizes::size_by;
-use m51_cells::Name;
+use crate::sizes::{row_by, size_by};
 use m51_expr::{Located, Places};
 use m51_isa::Jump;
 use m51_stmt::Body;
@@ -56,33 +48,24 @@ pub(crate) fn named_by(
     }
 }
 
-/// Place, form, size, next segment and operand of line k, with names as defined above it.
+/// Place, size, next segment and operand of line k, with names as defined above it, beside its form.
 pub(crate) fn tell<P: Places<u32>>(
     k: usize,
     names: &P,
-    label: Option<Name>,
+    form: Jump,
     last: &LastAbsolute,
     named: Option<OpenSegment>,
     segment: OpenSegment,
     body: &Body,
 ) -> LineFacts
     requires { k < 65536 }
-    ensures form { result.form ≡ form_by (with_label (P.meanings names.now) label) (body_tree body.now) }
-    ensures here { located_value result.here ≡ (P.meanings names.now).here }
-    ensures size { result.size ≡ saturated (size_by (P.meanings names.now) result.form (body_tree body.now)) }
-    ensures next { text_segment result.next
-        ≡ open_behind k (P.meanings names.now) (last_in last.now) (option_map text_segment named)
-        (text_segment segment) (body_tree body.now) }
-    ensures operand { IsOperand
-        (operand_fault_by (P.meanings names.now) (is_some named) (body_tree body.now))
-        (operand_number (P.meanings names.now) (body_tree body.now))
-        (expression_given (P.meanings names.now) (body_tree body.now))
-        (λ bank. bank_by (P.meanings names.now) bank (body_tree body.now)) result.operand }
+    ensures { AreFactsFrom k (P.meanings names.now) form (last_in last.now) (option_map text_segment named)
+        (text_segment segment) (body_tree body.now) result }
 {
-    let form = form_of(&Labelled { names, label }, body);
     let operand = evaluate_operand(names, named.is_some(), body);
     let number = operand.number();
-    let size = size_by(form, number, body);
+    let row = row_by(form, body);
+    let size = size_by(&row, number, body);
     let next = open_behind(k, last, named, segment, number, body);
     LineFacts {
         here: names.here(),

@@ -1,6 +1,6 @@
 //! The values of names.
 ghost use Rattle.std.specs.Prelude.{◌≡◌, [], OnOk};
-ghost use Rattle.m51_asm.specs.Above.{value_in, known, Puts};
+ghost use Rattle.m51_asm.specs.Values.{value_in, known, Puts};
 
 use indexmap::IndexMap;
 use m51_cells::{Name, NoMemory};
@@ -15,7 +15,7 @@ pub(crate) struct Values {
 }
 
 impl Model for Values {
-    ghost use Rattle.m51_asm.specs.Above.{Valuation, valuation_of};
+    ghost use Rattle.m51_asm.specs.Values.{Valuation, valuation_of};
 
     ghost Value = { Valuation };
 

@@ -9,7 +9,7 @@ pub use Rattle.std.specs.Fmt.{decimal}
 pub use Rattle.std.specs.List.{All, AllByRecursion, flat_map, list_any, range_with_len}
 pub use Rattle.std.specs.Option.{option_map_or, option_or}
 pub use Rattle.std.specs.Prelude.{option_map, slice_get, unwrap_or}
-pub use Rattle.m51_asm.proofs.OneAnswer.{one_answer as one_text}
+pub use Rattle.m51_asm.proofs.AnsweredLines.{one_answer as one_text}
 pub use Rattle.m51_asm.specs.Answer.{AnswerTree, Gives, IsAnswer}
 pub use Rattle.m51_build_proof.specs.Builds.{AreOfBytes, IsAccepted, IsBuilt, IsRun, separate_run}
 pub use Rattle.m51_cells.proofs.Passing.{same_Ok}

@@ -7,9 +7,7 @@ use Rattle.std.specs.Prelude.{IfSome}
 use Rattle.std.proofs.lemmas.Bool.{ltb-true}
 use Rattle.m51_isa.specs.declared.generics.Jump.{Jump}
 use Rattle.m51_isa.specs.declared.look.Look.{Look}
-use Rattle.m51_isa.specs.declared.look.Look.TheVariants as look
 use Rattle.m51_isa.specs.declared.slot.Field.{Field}
-use Rattle.m51_isa.specs.declared.slot.Field.TheVariants as field
 use Rattle.m51_isa.specs.declared.slot.FieldSlot.{FieldSlot}
 use Rattle.m51_isa.specs.Filling.{with_numbers}
 use Rattle.m51_isa.specs.Spelling.{look_of, text_of}
@@ -30,8 +28,7 @@ use Rattle.m51_encode.specs.declared.reference.Reference.{Reference}
 use Rattle.m51_encode.specs.declared.item.Width.TheVariants.{Byte, Word}
 use Rattle.m51_encode.specs.Bases.{is_current, is_linked, stands_absolute}
 use Rattle.m51_encode.specs.Coding.{Line, coded, coded_by, coded_line, first_of, gathered, instruction_line, line_row}
-use Rattle.m51_encode.specs.Coding.{look_in}
-use Rattle.m51_encode.specs.Coding.{second_of, third_of}
+use Rattle.m51_encode.specs.Coding.{look_in, second_of, third_of}
 use Rattle.m51_encode.specs.FieldValues.{addr11_of, block_of, distance, field_of, is_near, is_taken, rel_of}
 use Rattle.m51_encode.specs.FieldValues.{relative_of, same_block, stored_of, taken_of}
 use Rattle.m51_encode.specs.Filling.{Answer, and_then, expression, fielded, filled, filled_by, held_at}
@@ -40,7 +37,6 @@ use Rattle.m51_encode.specs.Items.{item_field}
 use Rattle.m51_encode.specs.Reference.{reference_of}
 use Rattle.m51_encode.specs.Taking.{held_of}
 use Rattle.m51_emit.specs.Content.{coded_content, content_by, item_content, item_given, joined}
-use Rattle.m51_stmt.specs.Statement as body
 use Rattle.m51_stmt.specs.Laws.{IsByte}
 use Rattle.m51_stmt.proofs.ListWords.{Each}
 use Rattle.m51_stmt.proofs.PrintedLists.{IsItem}
@@ -49,6 +45,9 @@ use Rattle.m51_asm.proofs.ContentFields.{Held}
 use Rattle.m51_build_proof.proofs.ReadBodies.{IsSmallBody, IsTextItem}
 use Rattle.m51_build_proof.proofs.RowBytes.{LookFits, row_bytes}
 use Rattle.m51_build_proof.proofs.SmallValues.{AreSmall, IfSmall, IsSmall, counted_small, value_small}
+use Rattle.m51_isa.specs.declared.look.Look.TheVariants as look
+use Rattle.m51_isa.specs.declared.slot.Field.TheVariants as field
+use Rattle.m51_stmt.specs.Statement as body
 
 -- lists of bytes
 pub bytes_append : (xs ys : List ℕ) → IsBytes xs → IsBytes ys → IsBytes (xs ++ ys)

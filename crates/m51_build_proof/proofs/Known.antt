@@ -3,11 +3,11 @@ use Rattle.m51_build_proof.proofs.Common.{◌≡◌, ℕ, List, Ok, All, Gives, 
 use Rattle.m51_build_proof.proofs.Common.{SourceFile, IsValid, IsBytes, IsRead, AreResolved, resolved_of, InputsTree}
 use Rattle.m51_build_proof.proofs.Common.{AreAnswered, ProgramFiles, AreOfBytes}
 use Rattle.std.proofs.lemmas.List.Elements.{All-weaker}
-use Rattle.m51_asm.proofs.ValidAnswers.{answers_are_valid}
+use Rattle.m51_asm.proofs.ValidParts.{answers_are_valid}
 use Rattle.m51_build_proof.proofs.ChosenModules.{chosen_resolved}
-use Rattle.m51_build_proof.proofs.OfModules as of_modules
 use Rattle.m51_build_proof.proofs.PieceBytes.{HasBytes, object_pieces}
 use Rattle.m51_build_proof.proofs.SourceBytes.{source_pieces}
+use Rattle.m51_build_proof.proofs.OfModules as of_modules
 
 pub record AreGiven (modules : List ModuleParts) (controls : List (ℕ × Control)) : Type 0 where
   pub valid : All IsValid modules

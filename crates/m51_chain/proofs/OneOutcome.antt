@@ -5,7 +5,7 @@ use Rattle.m51_chain.proofs.Common.{SourceFile, Script, BoardState, IsStarted, J
 use Rattle.m51_chain.proofs.Common.{IsInputsOutcome, IsProgramOutcome, Unlinked, program_in, Outcome, status_if}
 use Rattle.m51_chain.proofs.Common.{IsPartyWork, party_files, Given, IsFilesOutcome, ProgramFiles, Refused, IsReport}
 use Rattle.std.proofs.lemmas.List.{ext_get_or}
-use Rattle.m51_asm.proofs.OneAnswer.{one_answer as one_text}
+use Rattle.m51_asm.proofs.AnsweredLines.{one_answer as one_text}
 use Rattle.m51_hex.specs.Memory.{memory_in}
 use Rattle.m51_inputs.proofs.OneEach.{one_answer as one_for_files}
 use Rattle.m51_linker.specs.Image.{IsFilled}
@@ -17,32 +17,31 @@ use Rattle.m51_party.proofs.SameBoards.{AllAlike, AreAlike, family_alike, text_a
 use Rattle.m51_stackbound.proofs.Unique.{answer_is_unique}
 use Rattle.m51_text.specs.Answer.{text_of}
 use Rattle.m51_jobs.specs.declared.job.FlatJob.{FlatJob}
-use Rattle.m51_jobs.specs.declared.job.Job.TheVariants as jobs
 use Rattle.m51_chain.specs.Assembles.{IsAssembledOutcome, IsOneOutcome, assembled_outcome}
 use Rattle.m51_verbs.specs.Analyses.{IsBounded, IsDisassembled, bound_outcome}
 use Rattle.m51_chain.specs.Builds.{build_files}
-use Rattle.m51_asm.specs.Answer as answers
 use Rattle.m51_generator.specs.Lines.{generated}
 use Rattle.m51_jobs.specs.declared.job.GenJob.{GenJob}
 use Rattle.m51_chain.specs.Generates.{IsGenOutcome, IsGenerated}
-use Rattle.m51_verbs.specs.FlatRuns as flats
 use Rattle.m51_verbs.specs.FlatRuns.{IsFlatOutcome, IsFlatWork, IsScripted, flat_report}
 use Rattle.m51_chain.specs.InputRefusals.{input_outcome}
 use Rattle.m51_verbs.specs.ScriptRefusals.{script_outcome}
 use Rattle.m51_chain.specs.Linking.{IsLinkedOutcome}
 use Rattle.m51_verbs.specs.LinkRefusals.{link_outcome}
 use Rattle.m51_verbs.specs.Optional.{content_if}
-use Rattle.m51_chain.specs.Parties as parties
 use Rattle.m51_chain.specs.Parties.{AreBoardsOf, IsBoardOf, IsPartyReport, party_report}
 use Rattle.m51_verbs.specs.Refusals.{hex_outcome}
-use Rattle.m51_chain.specs.ProgramFiles.{IsGivenOutcome, control_content}
-use Rattle.m51_chain.specs.ProgramFiles.{script_content, word_contents}
+use Rattle.m51_chain.specs.ProgramFiles.{IsGivenOutcome, control_content, script_content, word_contents}
 use Rattle.m51_chain.specs.Programs.{program_report}
 use Rattle.m51_chain.specs.Verbs.{IsOutcome}
 use Rattle.m51_chain.proofs.Accepted.{ok_same}
 use Rattle.m51_chain.proofs.Joined.{all_fresh}
 use Rattle.m51_chain.proofs.OneChains.{one_heaviest}
 use Rattle.m51_chain.proofs.OneRuns.{one_image, one_roots, one_runs}
+use Rattle.m51_jobs.specs.declared.job.Job.TheVariants as jobs
+use Rattle.m51_asm.specs.Answer as answers
+use Rattle.m51_verbs.specs.FlatRuns as flats
+use Rattle.m51_chain.specs.Parties as parties
 
 pub err_same : {A E : Type 0} (r : Result A E) (x y : E) → r ≡ Err x → r ≡ Err y → x ≡ y
 err_same r x y h k = cc (h, k)

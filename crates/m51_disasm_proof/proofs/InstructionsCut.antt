@@ -1,172 +1,220 @@
--- A disassembled instruction is cut into the words of the instruction that is meant, and has the length of its row.
-use Rattle.m51_disasm_proof.proofs.Common.{◌&&◌, ◌++◌, ◌||◌, ◌∙◌, ◌∷◌, ◌≡◌, AreSlots, Bool, Instr, IsSlot, IsSound}
-use Rattle.m51_disasm_proof.proofs.Common.{Jump, List, Meanings, None, Nop, Nothing, OperandTree, Slot, Some}
-use Rattle.m51_disasm_proof.proofs.Common.{SourceLine, Symbol, Target, Word, [], ap, append-nil, append_assoc, arith}
-use Rattle.m51_disasm_proof.proofs.Common.{codes, common_steps, false, line_size, map, meant, name_of, name_word, not}
-use Rattle.m51_disasm_proof.proofs.Common.{operand_of, option_map, order, refl, subst, sym, symbol, text, text_of, true}
-use Rattle.m51_disasm_proof.proofs.Common.{ℕ}
+-- A disassembled instruction is cut into the words of the instruction that is meant, and has the length of its row
+use Rattle.m51_disasm_proof.proofs.Common.{◌%◌, ◌&&◌, ◌++◌, ◌<◌, ◌||◌, ◌∷◌, ◌≡◌, AreSlots, AtR, Content, Field, Imm}
+use Rattle.m51_disasm_proof.proofs.Common.{Instr, IsSlot, IsSound, Jump, List, Meanings, None, Nop, NotBit, Nothing}
+use Rattle.m51_disasm_proof.proofs.Common.{Option, Plain, R, Slot, Some, SourceLine, Target, Word, [], ap, append-nil}
+use Rattle.m51_disasm_proof.proofs.Common.{append_assoc, arith, body_of, byte_text, codes, common_steps, cond}
+use Rattle.m51_disasm_proof.proofs.Common.{length_in, line_size, list_all, map, meant, name_of, not, operand_of}
+use Rattle.m51_disasm_proof.proofs.Common.{option_map, refl, subst, sym, symbol, text_of, true, word_text, ℕ}
+use Rattle.std.specs.Char.{is_ascii_alphanumeric}
 use Rattle.std.specs.List.{cons_option}
-use Rattle.std.specs.Prelude.{option_and_then, unwrap_or}
-use Rattle.m51_isa.proofs.RowsFilled.{rows_are_apart}
+use Rattle.std.specs.Prelude.{IfSome, is_some, unwrap_or}
+use Rattle.m51_lex.specs.Characters.{is_sign}
+use Rattle.m51_lex.specs.Number.{number_of}
+use Rattle.m51_lex.specs.declared.token.What.TheVariants as what
+use Rattle.m51_isa.proofs.RowsFilled.{texts_are_rows}
 use Rattle.m51_isa.specs.Arithmetic.{arithmetic}
 use Rattle.m51_isa.specs.Branches.{branches}
 use Rattle.m51_isa.specs.Jumps.{jumps}
 use Rattle.m51_isa.specs.Logic.{logic}
 use Rattle.m51_isa.specs.Moves.{moves}
-use Rattle.m51_isa.specs.Search.{has_row, row_for, row_or, search}
+use Rattle.m51_isa.specs.Search.{has_row, search}
+use Rattle.m51_isa.specs.Spelling as isa
 use Rattle.m51_isa.specs.Spelling.{look_of}
 use Rattle.m51_isa.specs.Table.{length_of as row_length}
+use Rattle.m51_isa.specs.declared.slot.Field.TheVariants as field
+use Rattle.m51_isa.specs.declared.slot.Slot.TheVariants.{ADptr, APc, AtDptr}
 use Rattle.m51_expr.specs.Looks.{has_form}
 use Rattle.m51_expr.specs.Symbol.{arithmetic_word, operator_of, prefix_word, relation_word, word_symbol}
+use Rattle.m51_expr.specs.Tree as tree
 use Rattle.m51_expr.specs.Words.{is_language_word}
 use Rattle.m51_expr.specs.declared.symbol.Symbol.TheVariants as symbols
-use Rattle.m51_stmt.proofs.ListWords.{Each, comma_word}
+use Rattle.m51_stmt.proofs.LineCuts.{IsCutInto, Stands, after_blank, after_word, no_words}
+use Rattle.m51_stmt.proofs.ListWords.{Each, comma_word, list_words}
 use Rattle.m51_stmt.proofs.PrintedBodies.{IsCode, body_words}
-use Rattle.m51_stmt.proofs.PrintedOperands.{IsOperand, operand_words}
-use Rattle.m51_stmt.specs.Statement.{Code}
-use Rattle.m51_encode.specs.Coding.{instruction_line, length_of, line, line_row}
+use Rattle.m51_stmt.proofs.PrintedOperands.{IsOperand, operand_words, register_written}
+use Rattle.m51_stmt.proofs.WordCuts.{Ends, name_stands, name_word, number_word, run_stands, sign_stands, sign_word}
+use Rattle.m51_stmt.proofs.WordCuts.{word_stands}
+use Rattle.m51_stmt.specs.Printing.{register_word}
+use Rattle.m51_stmt.specs.Statement as meant
+use Rattle.m51_stmt.specs.Statement.{Code, OperandTree}
+use Rattle.m51_encode.specs.Coding.{Line, instruction_line, length_of, line, line_row, look_in}
 use Rattle.m51_asm.specs.Fitting.{size_by}
-use Rattle.m51_disasm.specs.Texts.{operand_after, operand_text, spelled}
-use Rattle.m51_disasm_proof.specs.Meaning.{operands_of}
-use Rattle.m51_disasm_proof.proofs.CutLines.{IsCutInto, after_blank, after_word, comma_stands, name_stands, no_words}
-use Rattle.m51_disasm_proof.proofs.MeantLines.{by_line}
-use Rattle.m51_disasm_proof.proofs.OperandsCut.{IsReadOperand, is_there, slot_read}
+use Rattle.m51_disasm.specs.Texts.{data_text, digit_text, operand_after, operand_text, plain_text, spelled, target_text}
+use Rattle.m51_disasm.specs.declared.line.SourceLine.TheVariants as source
+use Rattle.m51_disasm.specs.declared.line.Target.TheVariants as target
+use Rattle.m51_disasm.specs.declared.statement.Content.TheVariants as content
+use Rattle.m51_disasm_proof.specs.Meaning.{address_operand, data_number, operands_of, target_operand}
+use Rattle.m51_disasm_proof.specs.Sound.{IsAddress, IsContent, IsTarget}
+use Rattle.m51_disasm_proof.proofs.MeantLines.{label_is_free}
 
--- no operand follows a missing one
-abbrev pub in_order : Slot → Slot → Slot → Bool
-in_order a b c = (is_there a || not (is_there b)) && (is_there b || not (is_there c))
+-- a line of words that continues no name and no number
+pub record IsRest (rest : List ℕ) (ws : List Word) : Type 0 where
+  pub ends : Ends rest
+  pub cut : IsCutInto rest (map symbol ws)
 
-pub rows_in_order : (i : Instr) → in_order (text_of i).first (text_of i).second (text_of i).third ≡ true
-rows_in_order Nop = refl
-rows_in_order i = refl
+pub no_rest : IsRest [] []
+no_rest = record { ends = refl; cut = no_words }
 
-nothing : (s : Slot) → is_there s ≡ false → s ≡ Nothing
-nothing s h = grind (arith, common_steps)
+-- a text that is cut into words before such a line
+pub record IsFirst (text : List ℕ) (words : List Word → List Word) : Type 0 where
+  pub before : (rest : List ℕ) (ws : List Word) → IsRest rest ws → IsCutInto (text ++ rest) (map symbol (words ws))
 
--- none, one, two or three operands
-by_count : (P : Slot → Slot → Slot → Type 0) → P Nothing Nothing Nothing
-    → ((a : Slot) → is_there a ≡ true → P a Nothing Nothing)
-    → ((a b : Slot) → is_there a ≡ true → is_there b ≡ true → P a b Nothing)
-    → ((a b c : Slot) → is_there a ≡ true → is_there b ≡ true → is_there c ≡ true → P a b c)
-    → (a b c : Slot) → (x y z : Bool) → is_there a ≡ x → is_there b ≡ y → is_there c ≡ z
-    → ((x || not y) && (y || not z)) ≡ true → P a b c
-by_count P none one two three a b c true true true p q r h = three a b c p q r
-by_count P none one two three a b c true true false p q r h = subst (P a b) (sym (nothing c r)) (two a b p q)
-by_count P none one two three a b c true false false p q r h =
-    subst (P a b) (sym (nothing c r)) (subst (λ b. P a b Nothing) (sym (nothing b q)) (one a p))
-by_count P none one two three a b c false false false p q r h =
-    subst (P a b) (sym (nothing c r))
-    (subst (λ b. P a b Nothing) (sym (nothing b q)) (subst (λ a. P a Nothing Nothing) (sym (nothing a p)) none))
-by_count P none one two three a b c true false true p q r h = absurd (cc h)
-by_count P none one two three a b c false true z p q r h = absurd (cc h)
-by_count P none one two three a b c false false true p q r h = absurd (cc h)
+name_first : {text : List ℕ} → name_of text ≡ Some text → IsFirst text (λ ws. name_word text ∷ ws)
+name_first is = record { before = λ rest ws r. after_word (name_stands is r.ends) r.cut }
 
--- an operand that is not missing is written after its sign
-after_there : (sign : List ℕ) (t : Target) (s : Slot) → is_there s ≡ true → operand_after sign t s
-    ≡ sign ++ operand_text t s
+pub sign_first : {c : ℕ} {text : List ℕ} {words : List Word → List Word} → is_sign c ≡ true → IsFirst text words
+    → IsFirst (c ∷ text) (λ ws. sign_word c ∷ words ws)
+sign_first is first = record { before = λ rest ws r. after_word (sign_stands is) (first.before rest ws r) }
+
+sum : {word : List ℕ} → name_of word ≡ Some word
+    → IsFirst (0x40 ∷ 0x41 ∷ 0x2B ∷ word)
+    (λ ws. sign_word 0x40 ∷ name_word (codes "A") ∷ sign_word 0x2B ∷ name_word word ∷ ws)
+sum is = sign_first refl (record {
+  before = λ rest ws r.
+      after_word (name_stands {text = codes "A"} refl refl) ((sign_first refl (name_first is)).before rest ws r);
+})
+
+word_first : {n : ℕ} → n < 65536 → IsFirst (word_text n) (λ ws. number_word n ∷ ws)
+word_first low = record { before = λ rest ws r. after_word (word_stands low r.ends) r.cut }
+
+-- a number of two digits
+abbrev pub byte_word : ℕ → Word
+byte_word n = record { what = what.Number n; text = byte_text n }
+
+byte_run : (n : ℕ) → n < 256 → list_all is_ascii_alphanumeric (byte_text n) ≡ true
+byte_run n low = grind (arith, common_steps)
+
+byte_number : (n : ℕ) → n < 256 → number_of (byte_text n) ≡ Some n
+unfolding number_of
+byte_number n low = grind (arith, common_steps)
+
+pub byte_stands : {n : ℕ} {rest : List ℕ} → n < 256 → Ends rest → Stands (byte_word n) rest
+byte_stands {n} low ends = run_stands (byte_run n low) (byte_number n low) ends
+
+byte_first : (n : ℕ) → IsFirst (byte_text (n % 256)) (λ ws. number_word (n % 256) ∷ ws)
+byte_first n = record { before = λ rest ws r. after_word (byte_stands {n = n % 256} (omega arith) r.ends) r.cut }
+
+register_text : (n : ℕ) → n < 8 → codes "R" ++ digit_text n ≡ register_word n
+register_text n low = grind (arith, common_steps)
+
+register_first : {n : ℕ} → n < 8 → IsFirst (codes "R" ++ digit_text n) (λ ws. name_word (register_word n) ∷ ws)
+register_first {n} low =
+    subst (λ t. IsFirst t (λ ws. name_word (register_word n) ∷ ws)) (sym (register_text n low))
+    (name_first (register_written n low))
+
+-- the words of an operand that may be missing, before others
+abbrev pub words_of : Option OperandTree → List Word → List Word
+words_of None ws = ws
+words_of (Some o) ws = operand_words o ws
+
+-- the operand that is meant, and its text, cut into its words
+record IsOne (text : List ℕ) (o : Option OperandTree) : Type 0 where
+  good : IfSome o IsOperand
+  first : IsFirst text (words_of o)
+
+target_one : (t : Target) → IsTarget t → IsOne (target_text t) (target_operand t)
+unfolding target_text
+target_one target.Nowhere is = absurd is
+target_one (target.Label address) is =
+    let leaf = (label_is_free address is).leaf in record { good = leaf; first = name_first leaf.written }
+target_one (target.Number address) is = record { good = is; first = word_first is }
+
+low_byte : (n : ℕ) → n % 256 < 65536
+low_byte n = omega arith
+
+plain_one : (t : Target) (f : Field) (n : ℕ) → IsAddress t f → IsOne (plain_text t f n) (address_operand t f n)
+unfolding plain_text
+plain_one t field.Direct n is = record { good = low_byte n; first = byte_first n }
+plain_one t field.Bit n is = record { good = low_byte n; first = byte_first n }
+plain_one t f n is = target_one t is
+
+data_one : (f : Field) (n : ℕ) → n < 65536
+    → IsOne (codes "#" ++ data_text f n) (Some (meant.Imm (tree.Number (data_number f n))))
+unfolding data_text
+data_one field.Data16 n low = record { good = low; first = sign_first refl (word_first low) }
+data_one f n low = record { good = low_byte n; first = sign_first refl (byte_first n) }
+
+slot_one : (t : Target) (s : Slot) → IsSlot t s → IsOne (operand_text t s) (operand_of t s)
+unfolding operand_text
+slot_one t Nothing is = record { good = tt; first = record { before = λ rest ws r. r.cut } }
+slot_one t APc is = record { good = tt; first = sum refl }
+slot_one t ADptr is = record { good = tt; first = sum refl }
+slot_one t AtDptr is = record { good = tt; first = sign_first refl (name_first refl) }
+slot_one t (R n) is = record { good = is; first = register_first is }
+slot_one t (AtR n) is = record { good = is; first = sign_first refl (register_first {n = n} (omega arith)) }
+slot_one t (Imm f) is = data_one f.field f.number is
+slot_one t (Plain f) is = plain_one t f.field f.number is
+slot_one t (NotBit f) is = record { good = low_byte f.number; first = sign_first refl (byte_first f.number) }
+slot_one t s is = record { good = tt; first = name_first refl }
+
+slot_look : (t : Target) (s : Slot) → IsSlot t s → look_in (operand_of t s) ≡ isa.look_of s
+slot_look t s is = grind (arith, common_steps)
+
+slot_after : (sign : List ℕ) (t : Target) (s : Slot) → IsSlot t s
+    → operand_after sign t s ≡ cond (is_some (operand_of t s)) (sign ++ operand_text t s) []
 unfolding operand_after
-after_there sign t s h = grind (arith, common_steps)
+slot_after sign t s is = grind (arith, common_steps)
 
--- an instruction that is read: its operands, and its text as a line of words
-pub record IsReadCode (t : Target) (mnemonic : List ℕ) (a b c : Slot) : Type 0 where
-  pub operands : List OperandTree
-  pub is : operands_of t (text mnemonic a b c) ≡ operands
-  pub form : has_form mnemonic operands ≡ has_row mnemonic (look_of a) (look_of b) (look_of c)
-  pub row : (form : Jump) → option_and_then line_row (instruction_line mnemonic operands form)
-      ≡ row_for mnemonic form (look_of a) (look_of b) (look_of c)
-  pub line : (form : Jump) → instruction_line mnemonic operands form
-      ≡ Some (line mnemonic form (operand_of t a) (operand_of t b) (operand_of t c))
-  pub each : Each IsOperand operands
-  pub cut : IsCutInto (spelled t (text mnemonic a b c)) (map symbol (body_words (Code mnemonic operands)))
+-- an operand of a row as one of a line
+pub record IsReadSlot (t : Target) (s : Slot) (o : Option OperandTree) : Type 0 where
+  pub good : IfSome o IsOperand
+  pub look : look_in o ≡ isa.look_of s
+  pub first : IsFirst (operand_text t s) (words_of o)
+  pub after : (sign : List ℕ) → operand_after sign t s ≡ cond (is_some o) (sign ++ operand_text t s) []
 
-module _ (t : Target) (m : List ℕ) (written : name_of m ≡ Some m) where
-  -- a text with these operands
-  cut_as : (a b c : Slot) (x y z : List ℕ) (symbols : List Symbol) → operand_after (codes " ") t a ≡ x
-      → operand_after (codes ",") t b ≡ y → operand_after (codes ",") t c ≡ z
-      → IsCutInto (m ++ (x ++ (y ++ z))) symbols → IsCutInto (spelled t (text m a b c)) symbols
-  unfolding spelled
-  cut_as a b c x y z symbols p q r cut =
-      subst (λ l. IsCutInto l symbols)
-      (sym ((λ i. ((m ++ p i) ++ q i) ++ r i) ∙ append_assoc (m ++ x) y z ∙ append_assoc m x (y ++ z))) cut
+pub slot_read : (t : Target) (s : Slot) → IsSlot t s → IsReadSlot t s (operand_of t s)
+slot_read t s is = record {
+  good = (slot_one t s is).good;
+  look = slot_look t s is;
+  first = (slot_one t s is).first;
+  after = λ sign. slot_after sign t s is;
+}
 
-  -- the mnemonic and a blank before the operands
-  begun : (rest : List ℕ) (symbols : List Symbol) → IsCutInto rest symbols
-      → IsCutInto (m ++ 32 ∷ rest) (symbol (name_word m) ∷ symbols)
-  begun rest symbols c =
-      after_word (name_word m) (32 ∷ rest) symbols (name_stands m (32 ∷ rest) written refl) (after_blank rest symbols c)
+-- the operands that there are
+abbrev given : Option OperandTree → Option OperandTree → Option OperandTree → List OperandTree
+given a b c = cons_option a (cons_option b (cons_option c []))
 
-  comma : (rest : List ℕ) (symbols : List Symbol) → IsCutInto rest symbols
-      → IsCutInto (44 ∷ rest) (symbol comma_word ∷ symbols)
-  comma rest symbols c = after_word comma_word rest symbols (comma_stands rest) c
+-- the words of an operand after a comma, if there is one
+abbrev comma_words : Option OperandTree → List Word → List Word
+comma_words None ws = ws
+comma_words (Some o) ws = comma_word ∷ operand_words o ws
 
-  alone : IsReadCode t m Nothing Nothing Nothing
-  unfolding operand_after
-  alone = record {
-    operands = [];
-    is = refl;
-    form = refl;
-    row = λ form. refl;
-    line = λ form. refl;
-    each = tt;
-    cut = cut_as Nothing Nothing Nothing [] [] [] _ refl refl refl
-        (after_word (name_word m) [] [] (name_stands m [] written refl) no_words);
-  }
+-- operands of which none follows a missing one
+record AreGiven (m : List ℕ) (a b c : Option OperandTree) : Type 0 where
+  form : has_form m (given a b c) ≡ has_row m (look_in a) (look_in b) (look_in c)
+  line : (form : Jump) → instruction_line m (given a b c) form ≡ Some (line m form a b c)
+  words : words_of a (comma_words b (comma_words c [])) ≡ list_words operand_words (given a b c)
 
-  with_one : (a : Slot) → is_there a ≡ true → IsReadOperand t a → IsReadCode t m a Nothing Nothing
-  unfolding operand_after
-  with_one a p x = record {
-    operands = x.operand ∷ [];
-    is = ap (λ o. cons_option o []) x.is;
-    form = ap (λ l. has_row m l (look_of Nothing) (look_of Nothing)) x.look;
-    row = λ form. ap (λ l. row_for m form l (look_of Nothing) (look_of Nothing)) x.look;
-    line = λ form. (λ i. Some (line m form ((sym x.is) i) None None));
-    each = (x.good, tt);
-    cut = cut_as a Nothing Nothing (32 ∷ operand_text t a) [] [] _ (after_there (codes " ") t a p) refl refl
-        (begun _ _ (x.cut [] [] refl no_words));
-  }
+in_order : (m : List ℕ) (a b c : Option OperandTree)
+    → ((is_some a || not (is_some b)) && (is_some b || not (is_some c))) ≡ true → AreGiven m a b c
+in_order m None (Some b) c h = absurd (cc h)
+in_order m None None (Some c) h = absurd (cc h)
+in_order m (Some a) None (Some c) h = absurd (cc h)
+in_order m (Some a) (Some b) None h = record { form = refl; line = λ form. refl; words = refl }
+in_order m a b c h = record { form = refl; line = λ form. refl; words = refl }
 
-  with_two : (a b : Slot) → is_there a ≡ true → is_there b ≡ true → IsReadOperand t a → IsReadOperand t b
-      → IsReadCode t m a b Nothing
-  unfolding operand_after
-  with_two a b p q x y = record {
-    operands = x.operand ∷ y.operand ∷ [];
-    is = (λ i. cons_option (x.is i) (cons_option (y.is i) []));
-    form = (λ i. has_row m (x.look i) (y.look i) (look_of Nothing));
-    row = λ form. (λ i. row_for m form (x.look i) (y.look i) (look_of Nothing));
-    line = λ form. (λ i. Some (line m form ((sym x.is) i) ((sym y.is) i) None));
-    each = (x.good, (y.good, tt));
-    cut = cut_as a b Nothing (32 ∷ operand_text t a) (44 ∷ operand_text t b) [] _ (after_there (codes " ") t a p)
-        (after_there (codes ",") t b q) refl
-        (begun _ _ (x.cut _ (comma_word ∷ operand_words y.operand []) refl (comma _ _ (y.cut [] [] refl no_words))));
-  }
+-- an operand and the blank before it, before a line of words
+after_blank_first : {t : Target} {s : Slot} {o : Option OperandTree} {rest : List ℕ} {ws : List Word}
+    → IsReadSlot t s o → IsRest rest ws → IsRest (operand_after (codes " ") t s ++ rest) (words_of o ws)
+after_blank_first {o = None} {rest} {ws} r more =
+    subst (λ l. IsRest (l ++ rest) ws) (sym (r.after (codes " "))) more
+after_blank_first {o = Some o} {rest} {ws} r more =
+    subst (λ l. IsRest (l ++ rest) (operand_words o ws)) (sym (r.after (codes " ")))
+    (record { ends = refl; cut = after_blank (r.first.before rest ws more) })
 
-  with_three : (a b c : Slot) → is_there a ≡ true → is_there b ≡ true → is_there c ≡ true → IsReadOperand t a
-      → IsReadOperand t b → IsReadOperand t c → IsReadCode t m a b c
-  with_three a b c p q r x y z =
-      let last : List Word = comma_word ∷ operand_words z.operand [] in
-      record {
-        operands = x.operand ∷ y.operand ∷ z.operand ∷ [];
-        is = (λ i. cons_option (x.is i) (cons_option (y.is i) (cons_option (z.is i) [])));
-        form = (λ i. has_row m (x.look i) (y.look i) (z.look i));
-        row = λ form. (λ i. row_for m form (x.look i) (y.look i) (z.look i));
-        line = λ form. (λ i. Some (line m form ((sym x.is) i) ((sym y.is) i) ((sym z.is) i)));
-        each = (x.good, (y.good, (z.good, tt)));
-        cut = cut_as a b c (32 ∷ operand_text t a) (44 ∷ operand_text t b) (44 ∷ (operand_text t c ++ [])) _
-            (after_there (codes " ") t a p) (after_there (codes ",") t b q)
-            (after_there (codes ",") t c r ∙ ap (λ l. 44 ∷ l) (sym (append-nil (operand_text t c))))
-            (begun _ _ (x.cut _ (comma_word ∷ operand_words y.operand last) refl
-            (comma _ _ (y.cut _ last refl (comma _ _ (z.cut [] [] refl no_words))))));
-      }
+-- the same with a comma
+after_comma : {t : Target} {s : Slot} {o : Option OperandTree} {rest : List ℕ} {ws : List Word}
+    → IsReadSlot t s o → IsRest rest ws → IsRest (operand_after (codes ",") t s ++ rest) (comma_words o ws)
+after_comma {o = None} {rest} {ws} r more =
+    subst (λ l. IsRest (l ++ rest) ws) (sym (r.after (codes ","))) more
+after_comma {o = Some o} {rest} {ws} r more =
+    subst (λ l. IsRest (l ++ rest) (comma_words (Some o) ws)) (sym (r.after (codes ",")))
+    (record { ends = refl; cut = (sign_first refl r.first).before rest ws more })
 
-  -- an instruction is read, whatever operands it has
-  read_code : (a b c : Slot) → in_order a b c ≡ true → IsSlot t a → IsSlot t b → IsSlot t c → IsReadCode t m a b c
-  read_code a b c order =
-      by_count (λ a b c. IsSlot t a → IsSlot t b → IsSlot t c → IsReadCode t m a b c)
-      (λ h k l. alone)
-      (λ a p h k l. with_one a p (slot_read t a p h))
-      (λ a b p q h k l. with_two a b p q (slot_read t a p h) (slot_read t b q k))
-      (λ a b c p q r h k l. with_three a b c p q r (slot_read t a p h) (slot_read t b q k) (slot_read t c r l))
-      a b c (is_there a) (is_there b) (is_there c) refl refl refl order
+each_given : {t : Target} {s : Slot} {o : Option OperandTree} → IsReadSlot t s o → (os : List OperandTree)
+    → Each IsOperand os → Each IsOperand (cons_option o os)
+each_given {o = None} r os each = each
+each_given {o = Some o} r os each = (r.good, each)
 
 -- the mnemonic of a row is a word of the language
 mnemonic_written : (i : Instr) → name_of (text_of i).mnemonic ≡ Some (text_of i).mnemonic
@@ -186,51 +234,99 @@ unfolding has_row arithmetic logic moves branches jumps
 row_is_found Nop = refl
 row_is_found i = refl
 
--- an instruction of a row is read, and it is one of the grammar
-pub instruction_read : (t : Target) (i : Instr) → AreSlots t (text_of i)
-    → IsReadCode t (text_of i).mnemonic (text_of i).first (text_of i).second (text_of i).third
-instruction_read t i h =
-    read_code t (text_of i).mnemonic (mnemonic_written i) (text_of i).first (text_of i).second (text_of i).third
-    (rows_in_order i) h.first h.second h.third
+-- the row that is found for the text of a row
+abbrev pub found_row : Instr → Option Instr
+found_row i = search (text_of i).mnemonic (look_of (text_of i).first) (look_of (text_of i).second)
+    (look_of (text_of i).third)
 
-pub instruction_is_code : (t : Target) (i : Instr)
-    → (r : IsReadCode t (text_of i).mnemonic (text_of i).first (text_of i).second (text_of i).third)
-    → IsCode (text_of i).mnemonic r.operands
-instruction_is_code t i r =
-    record { written = mnemonic_written i; word = mnemonic_word i; form = r.form ∙ row_is_found i; each = r.each }
-
--- a row that is found has the length of the row
-found_length : (i : Instr)
-    → option_map row_length
-    (search (text_of i).mnemonic (look_of (text_of i).first) (look_of (text_of i).second) (look_of (text_of i).third))
-    ≡ Some (row_length i)
+-- it has the length of the row
+found_length : (i : Instr) → option_map row_length (found_row i) ≡ Some (row_length i)
 unfolding arithmetic logic moves branches jumps
 found_length Nop = refl
 found_length i = refl
 
-row_length_is : (i : Instr) (form : Jump)
-    → option_map row_length
-    (row_for (text_of i).mnemonic form (look_of (text_of i).first) (look_of (text_of i).second)
-    (look_of (text_of i).third)) ≡ Some (row_length i)
-row_length_is i form =
-    let t = text_of i in
-    ap (λ verb. option_map row_length
-    (row_or form verb (search t.mnemonic (look_of t.first) (look_of t.second) (look_of t.third))))
-    (rows_are_apart i)
-    ∙ found_length i
+-- the line of an instruction of a row
+abbrev pub own_line : Target → Instr → Jump → Line
+own_line t i form = line (text_of i).mnemonic form (operand_of t (text_of i).first) (operand_of t (text_of i).second)
+    (operand_of t (text_of i).third)
 
--- the length of a disassembled instruction, in whatever form
-pub code_length : (t : Target) (i : Instr) → AreSlots t (text_of i) → (form : Jump)
-    → length_of (text_of i).mnemonic (operands_of t (text_of i)) form ≡ Some (row_length i)
-unfolding length_of
-code_length t i h form =
-    let r = instruction_read t i h in
-    ap (λ os. length_of (text_of i).mnemonic os form) r.is
-    ∙ ap (option_map row_length) (r.row form) ∙ row_length_is i form
+given_in_order : (t : Target) (i : Instr) → AreSlots t (text_of i)
+    → ((is_some (operand_of t (text_of i).first) || not (is_some (operand_of t (text_of i).second)))
+    && (is_some (operand_of t (text_of i).second) || not (is_some (operand_of t (text_of i).third)))) ≡ true
+given_in_order t i h = grind (arith, common_steps)
+
+module _ (t : Target) (i : Instr) (h : AreSlots t (text_of i)) where
+  abbrev all_given : AreGiven (text_of i).mnemonic (operand_of t (text_of i).first) (operand_of t (text_of i).second)
+      (operand_of t (text_of i).third)
+  all_given = in_order _ _ _ _ (given_in_order t i h)
+
+  abbrev first_read : IsReadSlot t (text_of i).first (operand_of t (text_of i).first)
+  first_read = slot_read t (text_of i).first h.first
+
+  abbrev second_read : IsReadSlot t (text_of i).second (operand_of t (text_of i).second)
+  second_read = slot_read t (text_of i).second h.second
+
+  abbrev third_read : IsReadSlot t (text_of i).third (operand_of t (text_of i).third)
+  third_read = slot_read t (text_of i).third h.third
+
+  pub line_is : (form : Jump) → instruction_line (text_of i).mnemonic (operands_of t (text_of i)) form
+      ≡ Some (own_line t i form)
+  line_is form = all_given.line form
+
+  pub row_is : (form : Jump) → line_row (own_line t i form) ≡ found_row i
+  row_is form =
+      grind (arith, common_steps, first_read.look, second_read.look, third_read.look, texts_are_rows.apart i)
+
+  -- an instruction of a row is one of the grammar
+  pub is_code : IsCode (text_of i).mnemonic (operands_of t (text_of i))
+  is_code =
+      let last = cons_option (operand_of t (text_of i).third) [] in
+      record {
+        written = mnemonic_written i;
+        word = mnemonic_word i;
+        form = grind (
+          arith,
+          common_steps,
+          all_given.form,
+          first_read.look,
+          second_read.look,
+          third_read.look,
+          row_is_found i,
+        );
+        each = each_given first_read (cons_option (operand_of t (text_of i).second) last)
+            (each_given second_read last (each_given third_read [] tt));
+      }
+
+  -- and its text is cut into its words
+  pub code_cut : IsCutInto (spelled t (text_of i))
+      (map symbol (body_words (Code (text_of i).mnemonic (operands_of t (text_of i)))))
+  unfolding spelled
+  code_cut =
+      let m = (text_of i).mnemonic in
+      let a = operand_after (codes " ") t (text_of i).first in
+      let b = operand_after (codes ",") t (text_of i).second in
+      let c = operand_after (codes ",") t (text_of i).third in
+      let rest = after_blank_first first_read (after_comma second_read (after_comma third_read no_rest)) in
+      let said = map symbol (body_words (Code m (operands_of t (text_of i)))) in
+      let joined : m ++ (a ++ (b ++ (c ++ []))) ≡ ((m ++ a) ++ b) ++ c = sym (simp (append_assoc, append-nil)) in
+      subst (λ l. IsCutInto l said) joined
+      (subst (λ ws. IsCutInto (m ++ (a ++ (b ++ (c ++ [])))) (symbol (name_word m) ∷ map symbol ws)) all_given.words
+      (after_word (name_stands (mnemonic_written i) rest.ends) rest.cut))
+
+  -- the length of a disassembled instruction, in whatever form
+  code_length : (form : Jump)
+      → length_of (text_of i).mnemonic (operands_of t (text_of i)) form ≡ Some (row_length i)
+  unfolding length_of
+  code_length form =
+      grind (arith, common_steps, line_is form, row_is form, found_length i)
+
+content_size : (names : Meanings) (form : Jump) (t : Target) (c : Content) → IsContent t c
+    → size_by names form (body_of t c) ≡ length_in c
+content_size names form t (content.Byte byte) h = refl
+content_size names form t (content.Code i) h = ap (λ n. unwrap_or n 0) (code_length t i h form)
 
 -- the size of a line of a disassembly
 pub size_is : (names : Meanings) (form : Jump) (l : SourceLine) → IsSound l
     → size_by names form (meant l).body ≡ line_size l
-size_is names form =
-    by_line (λ l. IsSound l → size_by names form (meant l).body ≡ line_size l) (λ h. refl) (λ base h. refl)
-    (λ o t byte h. refl) (λ o t i h. ap (λ n. unwrap_or n 0) (code_length t i h.content form)) (λ h. refl)
+size_is names form (source.Statement s) h = content_size names form s.target s.content h.content
+size_is names form l h = refl

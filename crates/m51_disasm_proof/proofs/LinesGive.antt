@@ -1,81 +1,54 @@
 -- A label of a disassembly has the value of its address, so each line gives the bytes of the image at its address.
-use Rattle.m51_disasm_proof.proofs.Common.{◌+◌, ◌-◌, ◌<◌, ◌==◌, ◌||◌, ◌∙◌, ◌∷◌, ◌≡◌, ◌≤◌, AllByRecursion, AreBytes}
-use Rattle.m51_disasm_proof.proofs.Common.{Assignment, Bool, CodeRange, Content, IsNamed, IsSpot, LineGives, LineTree}
-use Rattle.m51_disasm_proof.proofs.Common.{List, None, Option, Some, SourceLine, Stands, StandsAt, Statement, Target}
-use Rattle.m51_disasm_proof.proofs.Common.{TextSegment, [], ap, arith, beginnings, body_of, bytes_at, code_value}
-use Rattle.m51_disasm_proof.proofs.Common.{common_steps, cond, eq-eqb, false, is_among, label_text, length, length_in}
-use Rattle.m51_disasm_proof.proofs.Common.{lines, map, opening, option_map, order, refl, segment_number, slice_get}
-use Rattle.m51_disasm_proof.proofs.Common.{statements_of, subst, suc, sym, targets, true, written_target, zero, ℕ}
-use Rattle.std.proofs.Math.Bool.{or-true}
-use Rattle.std.proofs.lemmas.Bool.{eqb-true}
+use Rattle.m51_disasm_proof.proofs.Common.{◌+◌, ◌<◌, ◌∙◌, ◌∷◌, ◌≡◌, ◌≤◌, AllByRecursion, AreBytes, Assignment, Bool}
+use Rattle.m51_disasm_proof.proofs.Common.{CodeRange, Content, IsNamed, IsSpot, LineGives, LineTree, List, None, Option}
+use Rattle.m51_disasm_proof.proofs.Common.{Some, Stands, StandsAt, Statement, Target, TextSegment, [], ap, arith}
+use Rattle.m51_disasm_proof.proofs.Common.{beginnings, body_of, bytes_at, code_value, common_steps, cond, false}
+use Rattle.m51_disasm_proof.proofs.Common.{is_among, label_text, length, length_in, map, opening, refl, segment_number}
+use Rattle.m51_disasm_proof.proofs.Common.{slice_get, statements_of, subst, suc, sym, targets, true, written_target}
+use Rattle.m51_disasm_proof.proofs.Common.{zero, ℕ}
 use Rattle.std.specs.List.{cons_option}
 use Rattle.m51_module.specs.Validity.{numbered}
-use Rattle.m51_emit.specs.Content.{content_by, outcomes_by}
+use Rattle.m51_emit.specs.Content.{outcomes_by}
 use Rattle.m51_asm.specs.Assignment.{here_at}
 use Rattle.m51_asm.specs.ContentFaults.{line_outcomes, line_outcomes_by}
-use Rattle.m51_asm.specs.ObjectMeanings.{final, is_fixed, object_value}
+use Rattle.m51_asm.specs.ObjectMeanings.{final, is_fixed}
 use Rattle.m51_asm.specs.ObjectSegments.{object_segments}
 use Rattle.m51_asm.specs.Pieces.{content_at}
 use Rattle.m51_disasm.specs.Statements.{statement_target}
 use Rattle.m51_disasm.specs.declared.line.Target.TheVariants as target
 use Rattle.m51_disasm_proof.specs.Standing.{GivesBytes}
-use Rattle.m51_disasm_proof.proofs.DisassemblyRead.{given}
-use Rattle.m51_disasm_proof.proofs.KeptParts.{bare_gives, kept_are, kept_parts}
 use Rattle.m51_disasm_proof.proofs.LinesStand.{IsCode, LinesFrom, State, body_is, next, spot_here, state}
-use Rattle.m51_disasm_proof.proofs.MeantLines.{label_of}
+use Rattle.m51_disasm_proof.proofs.PartPieces.{bare_gives, kept_are, kept_parts}
 use Rattle.m51_disasm_proof.proofs.PartsInOrder.{AreInOrder}
-use Rattle.m51_disasm_proof.proofs.PartsPassed.{GiveFrom, StatementsFrom, in_part, next_statement, part_passed}
+use Rattle.m51_disasm_proof.proofs.PartsPassed.{GiveFrom, StatementsFrom, from_end, in_part, next_statement}
+use Rattle.m51_disasm_proof.proofs.PartsPassed.{part_passed}
 use Rattle.m51_disasm_proof.proofs.SoundLines.{lines_in, rest_of, whole}
 use Rattle.m51_disasm_proof.proofs.StatementsBack.{statement_gives}
-use Rattle.m51_disasm_proof.proofs.StatementsFollow.{follows_to}
 
 -- an address, as a value
 pub place_value : (a : Assignment) (k address : ℕ) (segment : TextSegment) → address < 65536 → IsCode segment
     → IsSpot a k (record { segment = segment; address = address }) → here_at a k ≡ code_value segment.id address
 place_value a k address segment small code spot = grind (arith, common_steps)
 
--- the value of the label of a line
-label_here : {lines : List LineTree} {a : Assignment} {k : ℕ} {s : State} {l : SourceLine} {ls : List SourceLine}
-    → LinesFrom lines a k s (l ∷ ls) → (address : ℕ) → label_of l ≡ Some address → (j : ℕ)
-    → a.value j (label_text address) ≡ Some (here_at a k)
-label_here h address is j = grind (arith, common_steps)
-
 -- statements that others lead to are labels, with the values of their addresses
 pub label_known : {lines : List LineTree} {a : Assignment} {image : List ℕ} {part : CodeRange} {parts : List CodeRange}
-    (statements : List Statement) {at k : ℕ} {s : State} → StatementsFrom lines a image part parts at k s statements
+    (statements : List Statement) {n at k : ℕ} {s : State}
+    → StatementsFrom lines a image part parts n at k s statements
     → part.base + part.size ≤ 65536 → (address : ℕ) → is_among (beginnings statements) address ≡ true
     → is_among (targets (statements_of image part)) address ≡ true
     → (j : ℕ) → a.value j (label_text address) ≡ Some (code_value s.segment.id address)
 label_known [] h inside address there target j = absurd (cc there)
-label_known {lines} {a} {image} {part} (x ∷ statements) {at} {k} {s} h inside address there target j =
-    by_test (x.at == address) refl there
-    (λ more. label_known statements (next_statement h) inside address more target j)
-  where
-    by_test : (b : Bool) → (x.at == address) ≡ b → (b || is_among (beginnings statements) address) ≡ true
-        → (is_among (beginnings statements) address ≡ true
-        → a.value j (label_text address) ≡ Some (code_value s.segment.id address))
-        → a.value j (label_text address) ≡ Some (code_value s.segment.id address)
-    by_test false test there more = more there
-    by_test true test there more =
-        let same : x.at ≡ address = eqb-true x.at address test in
-        let place : s.segment.base + s.given ≡ address = omega arith in
-        label_here h.from address
-        (ap (λ b. cond b (Some x.at) None) (ap (is_among (targets (statements_of image part))) same ∙ target)
-        ∙ ap (λ n. Some n) same) j
-        ∙ ap (λ v. Some v)
-        (place_value a k address s.segment (omega arith) h.from.code
-        (subst (λ p. IsSpot a k (record { segment = s.segment; address = p })) place (spot_here h.from)))
+label_known {a = a} (x ∷ statements) {k = k} {s = s} h inside address there target j =
+    let more = label_known statements (next_statement h) inside address in
+    let spot = spot_here h.from in
+    grind (arith, common_steps, place_value a k address s.segment)
 
 -- a statement begins at its address
 pub begins_there : (statements : List Statement) (j : ℕ) (s : Statement) → slice_get statements j ≡ Some s
     → is_among (beginnings statements) s.at ≡ true
 begins_there [] j s e = absurd (cc e)
-begins_there (x ∷ statements) zero s e =
-    let same : x ≡ s = cc e in
-    ap (λ b. b || is_among (beginnings statements) s.at)
-    (ap (λ (y : Statement). y.at == s.at) same ∙ eq-eqb s.at s.at refl)
-begins_there (x ∷ statements) (suc j) s e =
-    ap (λ b. (x.at == s.at) || b) (begins_there statements j s e) ∙ or-true (x.at == s.at)
+begins_there (x ∷ statements) zero s e = grind (arith, common_steps)
+begins_there (x ∷ statements) (suc j) s e = grind (arith, common_steps, begins_there statements j s e)
 
 -- all segments are absolute
 parts_fixed : (image : List ℕ) (parts : List CodeRange) (k n : ℕ)
@@ -129,7 +102,7 @@ module _ (lines : List LineTree) (a : Assignment) (image : List ℕ) (bytes : Ar
       → IsNamed (final lines a k) (segment_number lines a id) (cond b (target.Label address) (target.Number address))
   unfolding final
   named_by k address true test target =
-      ap (option_map (object_value (segment_number lines a))) (known address test target k)
+      grind (arith, common_steps, known address test target k)
   named_by k address false test target = tt
 
   named : (k : ℕ) (o : Option ℕ) → ((address : ℕ) → o ≡ Some address → IsLedTo image part address)
@@ -138,17 +111,13 @@ module _ (lines : List LineTree) (a : Assignment) (image : List ℕ) (bytes : Ar
   named k (Some address) lead =
       named_by k address (is_among (begin_of image part) address) refl (lead address refl)
 
-  module _ {parts : List CodeRange} {at k : ℕ} {s : State} {x : Statement} {statements : List Statement}
-      (h : StatementsFrom lines a image part parts at k s (x ∷ statements)) (same : s.segment.id ≡ id) where
+  module _ {parts : List CodeRange} {n at k : ℕ} {s : State} {x : Statement} {statements : List Statement}
+      (h : StatementsFrom lines a image part parts n at k s (x ∷ statements)) (same : s.segment.id ≡ id) where
     stands_at : StandsAt (final lines a k) (segment_number lines a id) at
     unfolding final
     stands_at =
-        let spot = spot_here h.from in
         record {
-          here = ap (object_value (segment_number lines a))
-              (place_value a k at s.segment (omega arith) h.from.code
-              (record { segment = spot.segment; address = spot.address ∙ sym h.place })
-              ∙ ap (λ n. code_value n at) same);
+          here = grind (arith, common_steps, place_value a k at s.segment);
           absolute = fixed (segment_number lines a id);
         }
 
@@ -168,30 +137,24 @@ module _ (lines : List LineTree) (a : Assignment) (image : List ℕ) (bytes : Ar
         (statement_gives image bytes begin (part.base + part.size) at names number stands_at (a.form k))
         (named k (statement_target x) lead) in
         subst (λ p. LineGives lines a image k p (length_in x.content)) h.place (record {
-          content = ap (content_by names (a.form k)) (body_is h.from) ∙ gives.content;
+          content = grind (arith, common_steps, body_is h.from);
           stand = subst (AllByRecursion (λ outcome. outcome ≡ Stands))
               (sym (ap (line_outcomes_by lines a k) (body_is h.from) ∙ outcomes_of lines a k t x.content)) gives.stand;
         })
 
   -- statements give their bytes, if what follows them does
-  statements_give : (statements : List Statement) {parts : List CodeRange} {at k : ℕ} {s : State} (n given : ℕ)
-      → StatementsFrom lines a image part parts at k s statements → Lead image part statements → s.segment.id ≡ id
-      → n ≡ k + length statements → given ≡ s.given + (part.base + part.size - at)
-      → GiveFrom lines a image n s.segment given (rest_of image parts)
+  statements_give : (statements : List Statement) {parts : List CodeRange} {n at k : ℕ} {s : State}
+      → StatementsFrom lines a image part parts n at k s statements → Lead image part statements → s.segment.id ≡ id
+      → GiveFrom lines a image n s.segment part.size (rest_of image parts)
       → GiveFrom lines a image k s.segment s.given (lines_in image part parts statements)
-  statements_give [] {parts} {at} {k} {s} n given h lead same last all more =
-      let here : n ≡ k = omega arith in
-      let none : given ≡ s.given = omega arith in
-      subst (λ m. GiveFrom lines a image m s.segment s.given (rest_of image parts)) here
-      (subst (λ g. GiveFrom lines a image n s.segment g (rest_of image parts)) none more)
-  statements_give (x ∷ statements) {parts} {at} n given h lead same last all more =
-      let below = follows_to image (part.base + part.size) (at + length_in x.content) statements h.follow.1 in (
-        statement_line_gives h same
-            (λ address e. lead address (among_first (statement_target x) address (targets statements) e)),
-        statements_give statements n given (next_statement h)
-            (λ address e. lead address (among_more (statement_target x) address (targets statements) e)) same
-            (omega arith) (omega arith) more,
-      )
+  statements_give [] {parts} {s = s} h lead same more =
+      from_end (λ m given. GiveFrom lines a image m s.segment given (rest_of image parts)) h more
+  statements_give (x ∷ statements) h lead same more = (
+    statement_line_gives h same
+        (λ address e. lead address (among_first (statement_target x) address (targets statements) e)),
+    statements_give statements (next_statement h)
+        (λ address e. lead address (among_more (statement_target x) address (targets statements) e)) same more,
+  )
 
 parts_give : {lines : List LineTree} {a : Assignment} (image : List ℕ) → AreBytes image → AreFixed lines a
     → (parts : List CodeRange) {k : ℕ} {s : State} (low : ℕ) → AreInOrder low parts
@@ -201,8 +164,7 @@ parts_give {lines} {a} image bytes fixed (part ∷ parts) {k} low order h =
     let statements : List Statement = statements_of image part in (
       bare_gives image h tt,
       statements_give lines a image bytes fixed part order.1.ends (k + 2)
-          (label_known statements (in_part h) order.1.ends) statements (suc k + length statements) part.size
-          (in_part h) (λ address e. e) refl refl (omega arith)
+          (label_known statements (in_part h) order.1.ends) statements (in_part h) (λ address e. e) refl
           (parts_give image bytes fixed parts _ order.2 (part_passed h).from),
     )
 

@@ -1,30 +1,63 @@
--- The cases of a line of a disassembly, the lines as they are read, and their labels.
-use Rattle.m51_disasm_proof.proofs.Common.{◌++◌, ◌+◌, ◌<◌, ◌∷◌, ◌≡◌, ◌≤◌, AllByRecursion, Content, Instr, IsSound}
-use Rattle.m51_disasm_proof.proofs.Common.{LineTree, List, None, Option, Some, SourceLine, Target, [], ap, arith}
-use Rattle.m51_disasm_proof.proofs.Common.{body_at, common_steps, cond, label_text, length, meant, option_map}
-use Rattle.m51_disasm_proof.proofs.Common.{read_from, refl, suc, zero, ℕ}
+-- The labels of a disassembly, the cases of its lines, and the lines as they are read
+use Rattle.m51_disasm_proof.proofs.Common.{◌%◌, ◌+◌, ◌<◌, ◌∷◌, ◌≡◌, ◌≤◌, AllByRecursion, IsSound, LineTree, List, None}
+use Rattle.m51_disasm_proof.proofs.Common.{Option, Some, SourceLine, [], ap, arith, body_at, common_steps, false}
+use Rattle.m51_disasm_proof.proofs.Common.{label_text, length, meant, name_of, option_map, read_from, refl, suc, true}
+use Rattle.m51_disasm_proof.proofs.Common.{zero, ℕ}
+use Rattle.std.proofs.Common.{◌/◌, nat_eq}
+use Rattle.std.specs.Char.{to_ascii_uppercase}
+use Rattle.std.specs.Fmt.{digit_glyph}
+use Rattle.m51_cells.specs.Name as cells
+use Rattle.m51_expr.specs.Symbol.{arithmetic_word, operator_of, prefix_word, relation_word, word_symbol}
+use Rattle.m51_expr.specs.Words.{is_language_word, is_reserved}
+use Rattle.m51_expr.specs.declared.symbol.Symbol.TheVariants as symbols
+use Rattle.m51_stmt.proofs.PrintedExterns.{IsFree}
 use Rattle.m51_stmt.specs.Statement.{BodyTree, Empty}
-use Rattle.m51_asm.specs.Definitions.{Defined, Definition, Label, definitions_in, found_in, label_defined}
+use Rattle.m51_asm.specs.Definitions.{Definition, definitions_in, found_in, label_defined}
 use Rattle.m51_disasm.specs.declared.line.SourceLine.TheVariants as line
-use Rattle.m51_disasm.specs.declared.statement.Content.TheVariants as content
-use Rattle.m51_disasm_proof.proofs.Labels.{other_label}
 
-abbrev statement : Option ℕ → Target → Content → SourceLine
-statement label t c = line.Statement (record { label = label; content = c; target = t })
+-- a hexadecimal digit in upper case
+record IsGlyph (c : ℕ) : Type 0 where
+  name : cells.is_name_byte c ≡ true
+  upper : to_ascii_uppercase c ≡ c
+  letter : nat_eq 0x4C c ≡ false
 
--- what holds of each sort of line
-pub by_line : (P : SourceLine → Type 0) → P line.Nomod51 → ((base : ℕ) → P (line.Segment base))
-    → ((label : Option ℕ) (t : Target) (byte : ℕ) → P (statement label t (content.Byte byte)))
-    → ((label : Option ℕ) (t : Target) (i : Instr) → P (statement label t (content.Code i))) → P line.End
-    → (l : SourceLine) → P l
-by_line P first segment byte code last line.Nomod51 = first
-by_line P first segment byte code last (line.Segment base) = segment base
-by_line P first segment byte code last line.End = last
-by_line P first segment byte code last (line.Statement s) = of_content s.content
-  where
-    of_content : (c : Content) → P (statement s.label s.target c)
-    of_content (content.Byte n) = byte s.label s.target n
-    of_content (content.Code i) = code s.label s.target i
+glyph : (d : ℕ) → d < 16 → IsGlyph (digit_glyph true d)
+glyph d h = record {
+  name = grind (arith, common_steps, h);
+  upper = grind (arith, common_steps, h);
+  letter = grind (arith, common_steps, h);
+}
+
+module _ (p q r s : ℕ) (a : IsGlyph p) (b : IsGlyph q) (c : IsGlyph r) (d : IsGlyph s) where
+  abbrev label : List ℕ
+  label = 0x4C ∷ p ∷ q ∷ r ∷ s ∷ []
+
+  written : name_of label ≡ Some label
+  written = grind (arith, common_steps)
+
+  no_word : is_language_word label ≡ false
+  unfolding is_language_word
+  no_word = grind (arith, common_steps)
+
+  no_operator : operator_of label ≡ None
+  unfolding operator_of prefix_word relation_word arithmetic_word
+  no_operator = grind (arith, common_steps)
+
+  free : is_reserved label ≡ false
+  unfolding is_reserved
+  free = grind (arith, common_steps, no_word)
+
+  leaf : word_symbol label ≡ symbols.Name label
+  leaf = grind (arith, common_steps, no_operator, no_word)
+
+  free_name : IsFree label
+  free_name = record { leaf = record { written = written; leaf = leaf }; free = free }
+
+-- a statement may define the name of a label, and an expression may have it
+pub label_is_free : (address : ℕ) → address < 65536 → IsFree (label_text address)
+label_is_free address h =
+    free_name _ _ _ _ (glyph (address / 256 / 16) (omega arith)) (glyph (address / 256 % 16) (omega arith))
+    (glyph (address % 256 / 16) (omega arith)) (glyph (address % 256 % 16) (omega arith))
 
 -- line k of a source as it is read
 abbrev pub read_line : ℕ → SourceLine → LineTree
@@ -73,20 +106,9 @@ pub are_sound : (low : ℕ) (ls : List SourceLine) → AreGood low ls → AllByR
 are_sound low [] h = tt
 are_sound low (l ∷ ls) h = (h.0, are_sound (after_label low (label_of l)) ls h.2)
 
--- what comes after a label comes after what is before it
-pub still_from : (low address : ℕ) (o : Option ℕ) → LiesFrom low o → after_label low o ≤ address → low ≤ address
-still_from low address o lies from = grind (arith, common_steps)
-
-with_none : (o : Option ℕ) (ds : List Defined) → ds ≡ []
-    → label_defined (option_map label_text o) ++ ds ≡ label_defined (option_map label_text o)
-with_none None ds e = e
-with_none (Some address) ds e = ap (λ d. (label_text address, Label) ∷ d) e
-
 -- a line defines only its label
 pub defines_label : (l : SourceLine) → definitions_in (meant l) ≡ label_defined (option_map label_text (label_of l))
-defines_label =
-    by_line (λ l. definitions_in (meant l) ≡ label_defined (option_map label_text (label_of l))) refl (λ base. refl)
-    (λ label t byte. with_none label [] refl) (λ label t i. with_none label [] refl) refl
+defines_label = grind (arith, common_steps)
 
 abbrev pub found_with : ℕ → Option ℕ → Option Definition
 found_with address o = found_in (label_defined (option_map label_text o)) (label_text address)
@@ -94,5 +116,4 @@ found_with address o = found_in (label_defined (option_map label_text o)) (label
 pub found_below : (address : ℕ) (o : Option ℕ) (low : ℕ) → after_label low o ≤ address → address < 65536
     → LiesFrom low o → found_with address o ≡ None
 found_below address None low h small lies = refl
-found_below address (Some other) low h small lies =
-    ap (λ b. cond b (Some Label) None) (other_label address other small lies.1 (λ e. omega arith))
+found_below address (Some other) low h small lies = grind (arith, common_steps)

@@ -1,10 +1,11 @@
 -- The parts of a sound layout are in order, and none of them reaches into the next.
 use Rattle.m51_disasm_proof.proofs.Common.{◌+◌, ◌-◌, ◌<◌, ◌==◌, ◌∙◌, ◌∷◌, ◌≡◌, ◌≢◌, ◌≤◌, Bool, CodeRange, LayoutParts}
-use Rattle.m51_disasm_proof.proofs.Common.{List, Some, [], ap, arith, common_steps, cond, false, map, order, refl}
-use Rattle.m51_disasm_proof.proofs.Common.{slice_get, subst, suc, sym, true, zero, ℕ}
-use Rattle.std.proofs.Common.{◌⊎◌, inl, inr, ⊎_elim}
+use Rattle.m51_disasm_proof.proofs.Common.{List, Some, [], ap, arith, common_steps, cond, false, map, refl, slice_get}
+use Rattle.m51_disasm_proof.proofs.Common.{subst, suc, sym, true, zero, ℕ}
+use Rattle.std.proofs.Common.{◌⊎◌, inl, inr}
 use Rattle.std.proofs.lemmas.Bool.{eqb-true}
-use Rattle.std.proofs.lemmas.List.Elements.{All-contains}
+use Rattle.std.proofs.lemmas.List.Elements.{All-contains, All-filter, filter_passes}
+use Rattle.std.proofs.str.Laws.{order}
 use Rattle.std.specs.List.{filter}
 use Rattle.m51_cells.specs.Extent.{Meet, extent_of}
 use Rattle.m51_cells.specs.declared.kind.Kind.TheVariants as kind
@@ -13,8 +14,8 @@ use Rattle.m51_module.specs.Conflict.{FirstPlain}
 use Rattle.m51_module.specs.Plan.{IsCodeSegment, IsOverlaid, IsPlaced}
 use Rattle.m51_module.specs.Sound.{IsSound}
 use Rattle.m51_module.specs.declared.placed.Placed.{Placed}
-use Rattle.m51_asm.proofs.Members.{Every, In, Pairs, at_in, contains_in, in_append, in_cons, in_first, in_later, in_map}
-use Rattle.m51_asm.proofs.Members.{no_element, pairs_append, pairs_map, pairs_weaker}
+use Rattle.m51_asm.proofs.Members.{Every, In, Pairs, at_in, contains_in, every_all, in_append, in_cons, in_first}
+use Rattle.m51_asm.proofs.Members.{in_later, in_map, no_element, pairs_append, pairs_map, pairs_weaker}
 use Rattle.m51_disasm.proofs.Placing.{all_inside}
 use Rattle.m51_disasm.specs.Parts.{IsInside, code_ranges, has_bytes, parts_below, placed_range, unit_ranges}
 use Rattle.m51_disasm_proof.specs.Sound.{HaveSizes}
@@ -28,33 +29,27 @@ AreInOrder low (p ∷ ps) = (low ≤ p.base) × IsInside p × AreInOrder (p.base
 
 pairs_by : {A : Type 0} (R : A → A → Type 0) (xs : List A)
     → ((i j : ℕ) (x y : A) → i < j → slice_get xs i ≡ Some x → slice_get xs j ≡ Some y → R x y) → Pairs R xs
-unfolding Pairs Every
 pairs_by R [] h = tt
 pairs_by R (x ∷ xs) h = (
   λ y i. let at = at_in xs y i in h 0 (suc at.index) x y (omega arith) refl at.got,
   pairs_by R xs (λ i j u v less one two. h (suc i) (suc j) u v (omega arith) one two),
 )
 
-kept_by : {A : Type 0} (b : Bool) (x y : A) (xs : List A) → In y (cond b (x ∷ xs) xs) → ((b ≡ true) × (x ≡ y)) ⊎ In y xs
-kept_by true x y xs h = elim (in_cons y x xs h) [ inl e ↦ inl (refl, e) | inr i ↦ inr i ]
-kept_by false x y xs h = inr h
-
 -- an element that a test leaves passes it
 in_filter : {A : Type 0} (p : A → Bool) (xs : List A) (y : A) → In y (filter p xs) → (p y ≡ true) × In y xs
-in_filter p [] y h = absurd (no_element y h)
-in_filter p (x ∷ xs) y h = elim (kept_by (p x) x y (filter p xs) h) [
-  | inl e ↦ (ap p (sym e.1) ∙ e.0, subst (λ z. In z (x ∷ xs)) e.1 (in_first x xs))
-  | inr i ↦ let r = in_filter p xs y i in (r.0, in_later y x xs r.1)
-]
+in_filter p xs y i =
+    let there = contains_in (filter p xs) y i in
+    let all = every_all (λ x. In x xs) xs (λ x here. here) in (
+      All-contains (λ x. p x ≡ true) (filter p xs) y (filter_passes p xs) there,
+      All-contains (λ x. In x xs) (filter p xs) y (All-filter p (λ x. In x xs) xs all) there,
+    )
 
 pairs_kept : {A : Type 0} (R : A → A → Type 0) (b : Bool) (x : A) (xs : List A) → Every (R x) xs → Pairs R xs
     → Pairs R (cond b (x ∷ xs) xs)
-unfolding Pairs
 pairs_kept R true x xs first more = (first, more)
 pairs_kept R false x xs first more = more
 
 pairs_filter : {A : Type 0} (R : A → A → Type 0) (p : A → Bool) (xs : List A) → Pairs R xs → Pairs R (filter p xs)
-unfolding Pairs Every
 pairs_filter R p [] h = tt
 pairs_filter R p (x ∷ xs) h =
     pairs_kept R (p x) x (filter p xs) (λ y i. h.0 y (in_filter p xs y i).1) (pairs_filter R p xs h.1)
@@ -62,7 +57,6 @@ pairs_filter R p (x ∷ xs) h =
 -- of two different elements
 pairs_both : {A : Type 0} (R : A → A → Type 0) (xs : List A) → ((x y : A) → R x y → R y x) → Pairs R xs → (x y : A)
     → x ≢ y → In x xs → In y xs → R x y
-unfolding Pairs Every
 pairs_both R [] back h x y ne i j = absurd (no_element x i)
 pairs_both R (z ∷ xs) back h x y ne i j = elim (in_cons x z xs i) [
   | inl e ↦ elim (in_cons y z xs j) [
@@ -87,19 +81,17 @@ apart_back p q h some more = elim (h more some) [ inl e ↦ inr e | inr e ↦ in
 -- two extents without a common cell
 no_meeting : (a b m n : ℕ) → (Meet (extent_of kind.Code a m) (extent_of kind.Code b n) → ⊥) → 0 < m → 0 < n
     → (a + m ≤ b) ⊎ (b + n ≤ a)
-no_meeting a b m n none some more =
-    ⊎_elim
-    (λ (below : b < a + m).
-    ⊎_elim
-    (λ (under : a < b + n). absurd (none (
+no_meeting a b m n none some more = elim (order b (a + m)) [
+  | inl below ↦ elim (order a (b + n)) [
+    | inl under ↦ absurd (none (
       code_cell (a + (b - a)),
       record { space = refl; from = omega arith; below = omega arith },
       record { space = refl; from = omega arith; below = omega arith },
-    )))
-    (λ over. inr over)
-    (order a (b + n)))
-    (λ over. inl over)
-    (order b (a + m))
+    ))
+    | inr over ↦ inr over
+  ]
+  | inr over ↦ inl over
+]
 
 module _ (l : LayoutParts) (sound : IsSound l) where
   abbrev unit_part : ℕ → CodeRange
@@ -162,7 +154,7 @@ module _ (l : LayoutParts) (sound : IsSound l) where
       ]
 
   below_ordered : (n : ℕ) → Pairs Before (parts_below all n)
-  unfolding parts_below Pairs
+  unfolding parts_below
   below_ordered zero = tt
   below_ordered (suc n) =
       let here : List CodeRange = filter (λ unit. unit.base == n) all in
@@ -179,7 +171,6 @@ module _ (l : LayoutParts) (sound : IsSound l) where
 
   in_order : (low : ℕ) (ps : List CodeRange) → ((p : CodeRange) → In p ps → low ≤ p.base)
       → ((p : CodeRange) → In p ps → IsInside p) → Pairs Before ps → AreInOrder low ps
-  unfolding Pairs Every
   in_order low [] first ins h = tt
   in_order low (p ∷ ps) first ins h = (
     first p (in_first p ps),

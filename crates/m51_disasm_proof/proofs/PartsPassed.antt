@@ -1,19 +1,17 @@
 -- The lines of a disassembly, part by part.
 use Rattle.m51_disasm_proof.proofs.Common.{◌++◌, ◌+◌, ◌-◌, ◌∙◌, ◌∷◌, ◌≡◌, Assignment, CodeRange, IsSpot, LineGives}
-use Rattle.m51_disasm_proof.proofs.Common.{LineTree, List, Some, SourceLine, Statement, TextSegment, [], ap, append-nil}
-use Rattle.m51_disasm_proof.proofs.Common.{arith, before, common_steps, cond, flat_map, length, length-append}
-use Rattle.m51_disasm_proof.proofs.Common.{length_in, line_size, lines, meant, ne_eqb, refl, segment_after, slice_get}
-use Rattle.m51_disasm_proof.proofs.Common.{statement_lines, statements_of, subst, suc, sym, zero, ℕ}
+use Rattle.m51_disasm_proof.proofs.Common.{LineTree, List, Some, SourceLine, Statement, TextSegment, [], append-nil}
+use Rattle.m51_disasm_proof.proofs.Common.{arith, common_steps, flat_map, length, length-append, length_in, line_size}
+use Rattle.m51_disasm_proof.proofs.Common.{meant, refl, segment_after, slice_get, statement_lines, statements_of, subst}
+use Rattle.m51_disasm_proof.proofs.Common.{suc, sym, zero, ℕ}
 use Rattle.std.proofs.lemmas.List.{length-map}
 use Rattle.m51_cells.specs.declared.kind.Kind.TheVariants as kind
 use Rattle.m51_asm.specs.Assignment.{absolute}
-use Rattle.m51_asm.specs.ObjectSegments.{begun_by, if_filled, kept_before, kept_by, size_of}
+use Rattle.m51_asm.specs.ObjectSegments.{begun_by, kept_before, kept_by}
 use Rattle.m51_disasm.specs.Lines.{part_lines}
-use Rattle.m51_disasm_proof.proofs.DisassemblyRead.{given}
 use Rattle.m51_disasm_proof.proofs.LinesStand.{LinesFrom, State, after, body_is, given_after, next, spot_here, state}
 use Rattle.m51_disasm_proof.proofs.PartsInOrder.{AreInOrder}
-use Rattle.m51_disasm_proof.proofs.SoundLines.{line_in, lines_in, rest_of}
-use Rattle.m51_disasm_proof.proofs.StatementsFollow.{Follow, follows_to, part_follows}
+use Rattle.m51_disasm_proof.proofs.SoundLines.{Follow, line_in, lines_in, part_follows, rest_of}
 
 -- these lines, from line k on, give their bytes
 abbrev pub GiveFrom : List LineTree → Assignment → List ℕ → ℕ → TextSegment → ℕ → List SourceLine → Type 0
@@ -33,27 +31,23 @@ module _ {lines : List LineTree} {a : Assignment} {k : ℕ} {s : State} {l : Sou
       ≡ kept_before lines a k ++ begun_by lines a k (segment_after k s.segment l)
   unfolding kept_before
   kept_next =
-      ap (λ xs. kept_before lines a k ++ xs)
-      (ap (kept_by lines a k) (body_is h) ∙ begun_of lines a k l ∙ ap (begun_by lines a k) (next h).segment)
+      let body = body_is h in let n = next h in grind (arith, common_steps, begun_of lines a k l)
 
   -- a line that keeps the segment adds none
   pub kept_same : segment_after k s.segment l ≡ s.segment → kept_before lines a (suc k) ≡ kept_before lines a k
-  kept_same same =
-      kept_next
-      ∙ ap (λ x. kept_before lines a k ++ begun_by lines a k x) same
-      ∙ ap (λ b. kept_before lines a k ++ cond b (if_filled s.segment (size_of lines a s.segment.id)) [])
-      (ne_eqb s.segment.id (k + 2) (λ e. omega arith))
-      ∙ append-nil (kept_before lines a k)
+  kept_same same = grind (arith, common_steps, kept_next, append-nil)
 
 -- the segment of a part that begins at line k
 abbrev pub part_segment : ℕ → CodeRange → TextSegment
 part_segment k part = absolute (k + 2) kind.Code part.base
 
--- the lines of statements of a part, from line k and an address on, and those of the parts after it
+-- the lines of statements of a part, from line k and an address on, and from line n on those of the parts after it
 pub record StatementsFrom (lines : List LineTree) (a : Assignment) (image : List ℕ) (part : CodeRange)
-    (parts : List CodeRange) (at k : ℕ) (s : State) (statements : List Statement) : Type 0 where
+    (parts : List CodeRange) (n at k : ℕ) (s : State) (statements : List Statement) : Type 0 where
   pub follow : Follow image (part.base + part.size) at statements
   pub place : at ≡ s.segment.base + s.given
+  pub last : n ≡ k + length statements
+  pub all : part.size ≡ s.given + (part.base + part.size - at)
   pub from : LinesFrom lines a k s (lines_in image part parts statements)
 
 -- the lines of parts from line n on, after lines from line k on that add no segment and keep the one that is open
@@ -67,38 +61,57 @@ pub record Passed (lines : List LineTree) (a : Assignment) (image : List ℕ) (p
 
 module _ {lines : List LineTree} {a : Assignment} {image : List ℕ} {part : CodeRange} {parts : List CodeRange} where
   pub in_part : {k : ℕ} {s : State} → LinesFrom lines a k s (rest_of image (part ∷ parts))
-      → StatementsFrom lines a image part parts part.base (suc k) (state (part_segment k part) 0 s.low)
-      (statements_of image part)
-  in_part h = record { follow = part_follows image part; place = omega arith; from = next h }
+      → StatementsFrom lines a image part parts (suc k + length (statements_of image part)) part.base (suc k)
+      (state (part_segment k part) 0 s.low) (statements_of image part)
+  in_part h = record {
+    follow = part_follows image part;
+    place = omega arith;
+    last = refl;
+    all = omega arith;
+    from = next h;
+  }
 
-  pub next_statement : {at k : ℕ} {s : State} {x : Statement} {statements : List Statement}
-      → StatementsFrom lines a image part parts at k s (x ∷ statements)
-      → StatementsFrom lines a image part parts (at + length_in x.content) (suc k) (after k s (line_in image part x))
+  pub next_statement : {n at k : ℕ} {s : State} {x : Statement} {statements : List Statement}
+      → StatementsFrom lines a image part parts n at k s (x ∷ statements)
+      → StatementsFrom lines a image part parts n (at + length_in x.content) (suc k) (after k s (line_in image part x))
       statements
   next_statement h =
-      let place = h.place in record { follow = h.follow.1; place = omega arith; from = next h.from }
+      let here = h.follow.0 in
+      record {
+        follow = h.follow.1;
+        place = omega arith;
+        last = omega arith;
+        all = omega arith;
+        from = next h.from;
+      }
 
-  statements_passed : (statements : List Statement) {at k : ℕ} {s : State} (n given : ℕ)
-      → StatementsFrom lines a image part parts at k s statements → n ≡ k + length statements
-      → given ≡ s.given + (part.base + part.size - at)
-      → Passed lines a image parts k s (lines_in image part parts statements) n given
-  statements_passed [] {at} {k} {s} n given h last all =
+  -- what holds where statements have ended, holds at the end of the part, and the other way round
+  pub at_end : {n at k : ℕ} {s : State} (P : ℕ → ℕ → Type 0) → StatementsFrom lines a image part parts n at k s []
+      → P k s.given → P n part.size
+  at_end {n} {k = k} {s} P h holds =
       let here : k ≡ n = omega arith in
-      let none : s.given ≡ given = omega arith in
-      subst (λ m. Passed lines a image parts k s (rest_of image parts) m given) here
-      (subst (λ g. Passed lines a image parts k s (rest_of image parts) k g) none
-      (record { low = s.low; from = h.from; kept = refl; give = λ gives. gives }))
-  statements_passed (x ∷ statements) {at} n given h last all =
-      let below = follows_to image (part.base + part.size) (at + length_in x.content) statements h.follow.1 in
-      let p = statements_passed statements n given (next_statement h) (omega arith)
-      (omega arith) in
+      let none : s.given ≡ part.size = omega arith in
+      subst (λ m. P m part.size) here (subst (P k) none holds)
+
+  pub from_end : {n at k : ℕ} {s : State} (P : ℕ → ℕ → Type 0) → StatementsFrom lines a image part parts n at k s []
+      → P n part.size → P k s.given
+  from_end {n} {k = k} {s} P h holds = at_end (λ m given. P m given → P k s.given) h (λ here. here) holds
+
+  statements_passed : (statements : List Statement) {n at k : ℕ} {s : State}
+      → StatementsFrom lines a image part parts n at k s statements
+      → Passed lines a image parts k s (lines_in image part parts statements) n part.size
+  statements_passed [] {k = k} {s} h =
+      at_end (Passed lines a image parts k s (rest_of image parts)) h
+      (record { low = s.low; from = h.from; kept = refl; give = λ gives. gives })
+  statements_passed (x ∷ statements) h =
+      let p = statements_passed statements (next_statement h) in
       record { low = p.low; from = p.from; kept = p.kept ∙ kept_same h.from refl; give = λ gives. p.give gives.1 }
 
   -- the lines after those of a part
   pub part_passed : {k : ℕ} {s : State} (h : LinesFrom lines a k s (rest_of image (part ∷ parts)))
       → Passed lines a image parts (suc k) (state (part_segment k part) 0 s.low)
       (lines_in image part parts (statements_of image part)) (suc k + length (statements_of image part)) part.size
-  part_passed h = statements_passed (statements_of image part) _ part.size (in_part h) refl (omega arith)
+  part_passed h = statements_passed (statements_of image part) (in_part h)
 
 -- a part after others
 pub record PartThere (lines : List LineTree) (a : Assignment) (image : List ℕ) (k : ℕ) (parts : List CodeRange)
@@ -133,18 +146,18 @@ pub record StatementThere (lines : List LineTree) (a : Assignment) (image : List
   pub gives : LineGives lines a image k s.at (length_in s.content)
 
 pub statement_there : {lines : List LineTree} {a : Assignment} {image : List ℕ} {part : CodeRange}
-    {parts : List CodeRange} (statements : List Statement) {at k : ℕ} {s : State} (n : ℕ)
-    → StatementsFrom lines a image part parts at k s statements
+    {parts : List CodeRange} (statements : List Statement) {end at k : ℕ} {s : State} (n : ℕ)
+    → StatementsFrom lines a image part parts end at k s statements
     → GiveFrom lines a image k s.segment s.given (lines_in image part parts statements) → (j : ℕ) (x : Statement)
     → slice_get statements j ≡ Some x → n ≡ k + j → StatementThere lines a image n s.segment x
 statement_there [] n h gives j x e is = absurd (cc e)
-statement_there {lines} {a} {image} (y ∷ statements) {at} {k} {s} n h gives zero x e is =
+statement_there {lines} {a} {image} (y ∷ statements) {k = k} {s} n h gives zero x e is =
     let same : y ≡ x = cc e in
     let here : k ≡ n = omega arith in
     let place : s.segment.base + s.given ≡ y.at = sym h.place ∙ h.follow.0.at_is in
     subst (StatementThere lines a image n s.segment) same
     (subst (λ m. StatementThere lines a image m s.segment y) here (record {
-      spot = subst (λ p. IsSpot a k (record { segment = s.segment; address = p })) place (spot_here h.from);
+      spot = record { segment = h.from.segment; address = grind (arith, common_steps, spot_here h.from) };
       gives = subst (λ p. LineGives lines a image k p (length_in y.content)) place gives.0;
     }))
 statement_there (y ∷ statements) n h gives (suc j) x e is =

@@ -1,31 +1,27 @@
 -- What a disassembly gives, under each assignment that fits: where its statements and labels are, its bytes, that no
 -- line has a fault, and the module of its parts, with nothing else in it.
-use Rattle.m51_disasm_proof.proofs.Common.{◌++◌, ◌+◌, ◌==◌, ◌||◌, ◌∙◌, ◌∷◌, ◌≡◌, ◌≤◌, AllByRecursion, AreBytes}
-use Rattle.m51_disasm_proof.proofs.Common.{Assignment, CodeRange, IsSpot, Kept, LayoutParts, LineGives, LineTree, Lines}
-use Rattle.m51_disasm_proof.proofs.Common.{List, None, Ok, Some, SourceFile, SourceLine, Stands, Statement, TextSegment}
-use Rattle.m51_disasm_proof.proofs.Common.{[], above, ap, arith, before, code_value, cond, false, fits, flat_map}
-use Rattle.m51_disasm_proof.proofs.Common.{is_among, label_text, length, length_in, map, meant, offset_at, opening}
-use Rattle.m51_disasm_proof.proofs.Common.{read_from, refl, segment_after, segment_number, slice_get, statements_of}
-use Rattle.m51_disasm_proof.proofs.Common.{subst, suc, sym, targets, text, true, zero, ℕ}
+use Rattle.m51_disasm_proof.proofs.Common.{◌++◌, ◌+◌, ◌||◌, ◌∙◌, ◌∷◌, ◌≡◌, ◌≤◌, AllByRecursion, AreBytes, Assignment}
+use Rattle.m51_disasm_proof.proofs.Common.{CodeRange, IsSpot, Kept, LayoutParts, LineGives, LineTree, Lines, List, None}
+use Rattle.m51_disasm_proof.proofs.Common.{Ok, Some, SourceFile, SourceLine, Stands, Statement, TextSegment, [], above}
+use Rattle.m51_disasm_proof.proofs.Common.{ap, arith, code_value, common_steps, cond, false, flat_map, is_among}
+use Rattle.m51_disasm_proof.proofs.Common.{label_text, length, length_in, map, opening, read_from, refl, segment_after}
+use Rattle.m51_disasm_proof.proofs.Common.{slice_get, statements_of, subst, suc, sym, targets, true, zero, ℕ}
 use Rattle.std.specs.List.{list_any}
 use Rattle.m51_module.specs.Sound.{IsSound as IsSoundLayout}
-use Rattle.m51_module.specs.declared.content.Fixup.{Fixup}
 use Rattle.m51_module.specs.declared.segment.Segment.{Segment}
 use Rattle.m51_encode.specs.Coding.{outcomes}
 use Rattle.m51_encode.specs.declared.outcome.OperandOutcome.{OperandOutcome}
-use Rattle.m51_emit.specs.Outcomes.{leftmost_fault, made_with, or_next, part_fault}
-use Rattle.m51_emit.specs.Pieces.{fixup_of}
-use Rattle.m51_emit.specs.declared.content.EmittedContent.{EmittedContent}
-use Rattle.m51_asm.proofs.AnAssignment.{fitting}
-use Rattle.m51_asm.proofs.FirstFaults.{content_answer}
-use Rattle.m51_asm.specs.Answer.{AnswerTree, Gives, IsAnswer, IsAnswerOf, answer_of_lines, content_or_faults}
+use Rattle.m51_emit.specs.Outcomes.{leftmost_fault}
+use Rattle.m51_asm.proofs.AnAssignment.{fits, fitting}
+use Rattle.m51_asm.proofs.AnsweredLines.{content_answer}
+use Rattle.m51_asm.specs.Answer.{AnswerTree, Gives, IsAnswer, IsAnswerOf, answer_of_lines}
 use Rattle.m51_asm.specs.AnswerRows.{rows}
-use Rattle.m51_asm.specs.ContentFaults.{content_fault, faults_from, if_fault, line_outcomes, made_before}
+use Rattle.m51_asm.specs.ContentFaults.{content_fault, faults_from, line_outcomes, made_before}
 use Rattle.m51_asm.specs.Fitting.{Fits}
 use Rattle.m51_asm.specs.Naming.{module_name}
 use Rattle.m51_asm.specs.ObjectSegments.{kept, object_segments}
-use Rattle.m51_asm.specs.Parts.{banks, externals, externals_by, is_selected, name_by, name_in, parts as module_parts}
-use Rattle.m51_asm.specs.Parts.{publics_before, publics_by, selects_by, version_of}
+use Rattle.m51_asm.specs.Parts.{banks, externals, is_selected, name_in, parts as module_parts, publics_before}
+use Rattle.m51_asm.specs.Parts.{publics_by, selects_by, version_of}
 use Rattle.m51_asm.specs.Pieces.{fixups_from}
 use Rattle.m51_disasm.specs.Answer.{disassembled}
 use Rattle.m51_disasm.specs.Lines.{lines_of}
@@ -34,110 +30,104 @@ use Rattle.m51_disasm_proof.specs.Module.{GivesModule, module_of, range_segment}
 use Rattle.m51_disasm_proof.specs.Places.{Spot, lines_before, spots_from}
 use Rattle.m51_disasm_proof.specs.Sound.{HaveSizes}
 use Rattle.m51_disasm_proof.specs.Standing.{AreFaultless}
-use Rattle.m51_disasm_proof.proofs.DisassemblyRead.{disassembly_read, given}
-use Rattle.m51_disasm_proof.proofs.KeptParts.{kept_are, kept_parts, same_either}
 use Rattle.m51_disasm_proof.proofs.LinesGive.{begins_there, label_known, whole_gives}
 use Rattle.m51_disasm_proof.proofs.LinesPlaced.{AreSmall, whole_free}
 use Rattle.m51_disasm_proof.proofs.LinesStand.{LinesFrom, after, at_start, given_after, next, spots_are, state}
-use Rattle.m51_disasm_proof.proofs.MeantLines.{body_read, by_line, read_at, read_is, read_line}
-use Rattle.m51_disasm_proof.proofs.PartPieces.{pieces_are}
+use Rattle.m51_disasm_proof.proofs.MeantLines.{body_read, read_at, read_is}
+use Rattle.m51_disasm_proof.proofs.PartPieces.{kept_are, kept_parts, pieces_are}
 use Rattle.m51_disasm_proof.proofs.PartsInOrder.{AreInOrder, parts_in_order, parts_small}
 use Rattle.m51_disasm_proof.proofs.PartsPassed.{GiveFrom, PartThere, StatementThere, in_part, part_segment}
 use Rattle.m51_disasm_proof.proofs.PartsPassed.{parts_passed, statement_there}
 use Rattle.m51_disasm_proof.proofs.SoundLines.{of_whole, whole, whole_good}
+use Rattle.m51_disasm_proof.proofs.TextRead.{disassembly_read, given}
 
 -- ---- no faults of content
 
 stand_well : (outcomes : List OperandOutcome) (made : ℕ) → AllByRecursion (λ outcome. outcome ≡ Stands) outcomes
     → leftmost_fault made outcomes ≡ None
 stand_well [] made h = refl
-stand_well (x ∷ outcomes) made h =
-    ap (λ o. or_next (part_fault made o) (leftmost_fault (made_with made o) outcomes)) h.0
-    ∙ stand_well outcomes made h.1
+stand_well (x ∷ outcomes) made h = grind (arith, common_steps, stand_well outcomes made h.1)
 
-pub no_content_faults : (lines : List LineTree) (a : Assignment) (image : List ℕ) (k : ℕ) (s : TextSegment) (given : ℕ)
-    (ls : List SourceLine)
-    → GiveFrom lines a image k s given ls → faults_from (content_fault lines a) k (read_at k ls) ≡ []
-unfolding content_fault
-no_content_faults lines a image k s given [] gives = refl
-no_content_faults lines a image k s given (l ∷ ls) gives =
-    ap (λ o. if_fault (read_line k l) o (faults_from (content_fault lines a) (suc k) (read_at (suc k) ls)))
-    (stand_well (line_outcomes lines a k) (made_before lines a k) gives.0.stand)
-    ∙ no_content_faults lines a image (suc k) (segment_after k s l) (given_after given l) ls gives.1
+module _ (lines : List LineTree) (a : Assignment) (image : List ℕ) where
+  no_content_faults : (k : ℕ) (s : TextSegment) (given : ℕ) (ls : List SourceLine)
+      → GiveFrom lines a image k s given ls → faults_from (content_fault lines a) k (read_at k ls) ≡ []
+  unfolding content_fault
+  no_content_faults k s given [] gives = refl
+  no_content_faults k s given (l ∷ ls) gives =
+      let here = stand_well (line_outcomes lines a k) (made_before lines a k) gives.0.stand in
+      let more = no_content_faults (suc k) (segment_after k s l) (given_after given l) ls gives.1 in
+      grind (arith, common_steps)
 
--- ---- no fixups
+  -- ---- no fixups
 
-segment_fixups : (lines : List LineTree) (a : Assignment) (image : List ℕ) (kept : Kept) (k : ℕ) (s : TextSegment)
-    (given : ℕ) (ls : List SourceLine) → GiveFrom lines a image k s given ls
-    → fixups_from lines a kept k (read_at k ls) ≡ []
-segment_fixups lines a image kept k s given [] gives = refl
-segment_fixups lines a image kept k s given (l ∷ ls) gives =
-    let more : List Fixup = fixups_from lines a kept (suc k) (read_at (suc k) ls) in
-    ap (λ (c : EmittedContent). cond ((a.segment k).id == kept.id)
-    (map (fixup_of (object_segments lines a) (segment_number lines a kept.id) (offset_at lines a k)) c.references
-    ++ more) more) gives.0.content
-    ∙ same_either ((a.segment k).id == kept.id) more
-    ∙ segment_fixups lines a image kept (suc k) (segment_after k s l) (given_after given l) ls gives.1
+  segment_fixups : (kept : Kept) (k : ℕ) (s : TextSegment) (given : ℕ) (ls : List SourceLine)
+      → GiveFrom lines a image k s given ls → fixups_from lines a kept k (read_at k ls) ≡ []
+  segment_fixups kept k s given [] gives = refl
+  segment_fixups kept k s given (l ∷ ls) gives =
+      let more = segment_fixups kept (suc k) (segment_after k s l) (given_after given l) ls gives.1 in
+      grind (arith, common_steps)
 
-pub no_fixups : (a : Assignment) (image : List ℕ) (xs : List Kept) (ls : List SourceLine)
+no_fixups : (a : Assignment) (image : List ℕ) (xs : List Kept) (ls : List SourceLine)
     → GiveFrom (read_at 0 ls) a image 0 opening 0 ls
     → flat_map (λ kept. fixups_from (read_at 0 ls) a kept 0 (read_at 0 ls)) xs ≡ []
 no_fixups a image [] ls gives = refl
 no_fixups a image (x ∷ xs) ls gives =
-    (λ i. segment_fixups (read_at 0 ls) a image x 0 opening 0 ls gives i ++ no_fixups a image xs ls gives i)
+    grind (
+      arith,
+      common_steps,
+      segment_fixups (read_at 0 ls) a image x 0 opening 0 ls gives,
+      no_fixups a image xs ls gives,
+    )
 
 -- ---- no publics, externals, banks and names
 
-pub no_publics : (a : Assignment) (ls : List SourceLine) (k : ℕ) → publics_before (read_at 0 ls) a k ≡ []
+no_publics : (a : Assignment) (ls : List SourceLine) (k : ℕ) → publics_before (read_at 0 ls) a k ≡ []
 unfolding publics_before
 no_publics a ls zero = refl
 no_publics a ls (suc k) =
-    let lines = read_at 0 ls in
-    (λ i. no_publics a ls k i ++ body_read (λ b. publics_by lines a k b ≡ []) refl
-    (by_line (λ l. publics_by lines a k (meant l).body ≡ []) refl (λ b. refl) (λ o t n. refl) (λ o t n. refl) refl)
-    0 ls k i)
+    grind (
+      arith,
+      common_steps,
+      no_publics a ls k,
+      body_read (λ b. publics_by (read_at 0 ls) a k b ≡ []) refl (λ l. grind (arith, common_steps)) 0 ls k,
+    )
 
-pub no_externals : (k : ℕ) (ls : List SourceLine) → externals (read_at k ls) ≡ []
+no_externals : (k : ℕ) (ls : List SourceLine) → externals (read_at k ls) ≡ []
 no_externals k [] = refl
 no_externals k (l ∷ ls) =
-    (λ i. by_line (λ l. externals_by (meant l).body ≡ []) refl (λ b. refl) (λ o t n. refl) (λ o t n. refl) refl l i
-    ++ no_externals (suc k) ls i)
+    grind (arith, common_steps, no_externals (suc k) ls)
 
 no_bank : (a : Assignment) (ls : List SourceLine) (bank k : ℕ) → is_selected (read_at 0 ls) a bank k ≡ false
 unfolding is_selected
 no_bank a ls bank zero = refl
 no_bank a ls bank (suc k) =
     let names = above (read_at 0 ls) a k in
-    (λ i. no_bank a ls bank k i || body_read (λ b. selects_by names bank b ≡ false) refl
-    (by_line (λ l. selects_by names bank (meant l).body ≡ false) refl (λ b. refl) (λ o t n. refl) (λ o t n. refl) refl)
-    0 ls k i)
+    (λ i. no_bank a ls bank k i
+    || body_read (λ b. selects_by names bank b ≡ false) refl (λ l. grind (arith, common_steps)) 0 ls k i)
 
-pub no_banks : (a : Assignment) (ls : List SourceLine) → banks (read_at 0 ls) a ≡ 1
+no_banks : (a : Assignment) (ls : List SourceLine) → banks (read_at 0 ls) a ≡ 1
 no_banks a ls =
-    let count = length (read_at 0 ls) in
-    (λ i. 1 + cond (no_bank a ls 1 count i) 2 0 + cond (no_bank a ls 2 count i) 4 0
-    + cond (no_bank a ls 3 count i) 8 0)
+    let none = λ (bank : ℕ). no_bank a ls bank (length (read_at 0 ls)) in
+    (λ i. 1 + cond (none 1 i) 2 0 + cond (none 2 i) 4 0 + cond (none 3 i) 8 0)
 
-pub no_name : (other : List ℕ) (k : ℕ) (ls : List SourceLine) → name_in other (read_at k ls) ≡ other
+no_name : (other : List ℕ) (k : ℕ) (ls : List SourceLine) → name_in other (read_at k ls) ≡ other
 no_name other k [] = refl
 no_name other k (l ∷ ls) =
-    let more = name_in other (read_at (suc k) ls) in
-    by_line (λ l. name_by more (meant l).body ≡ more) refl (λ b. refl) (λ o t n. refl) (λ o t n. refl) refl l
-    ∙ no_name other (suc k) ls
+    grind (arith, common_steps, no_name other (suc k) ls)
 
 -- ---- the segments
 
-pub segments_are : (image : List ℕ) (k : ℕ) (parts : List CodeRange)
+segments_are : (image : List ℕ) (k : ℕ) (parts : List CodeRange)
     → map (λ s. s.segment) (kept_parts image k parts) ≡ map range_segment parts
 segments_are image k [] = refl
 segments_are image k (part ∷ parts) =
-    ap (λ l. range_segment part ∷ l) (segments_are image (suc k + length (statements_of image part)) parts)
+    grind (arith, common_steps, segments_are image (suc k + length (statements_of image part)) parts)
 
 no_arguments : (parts : List CodeRange) → list_any (λ (s : Segment). s.argument) (map range_segment parts) ≡ false
 no_arguments [] = refl
 no_arguments (part ∷ parts) = no_arguments parts
 
-pub first_version : (parts : List CodeRange) → version_of (map range_segment parts) ≡ 1
+first_version : (parts : List CodeRange) → version_of (map range_segment parts) ≡ 1
 first_version parts = ap (λ b. cond b 2 1) (no_arguments parts)
 
 -- the text of all lines is that of a disassembly
@@ -212,7 +202,7 @@ module _ (image : List ℕ) (bytes : AreBytes image) (parts : List CodeRange) (o
   faultless sizes few = subst (λ ls. AreFaultless ls a) (text_is image parts) (own_faultless sizes few)
 
   segments : object_segments lines a ≡ map range_segment parts
-  segments = ap (map (λ (s : Kept). s.segment)) (kept_are image parts order all) ∙ segments_are image 1 parts
+  segments = grind (arith, common_steps, kept_are image parts order all, segments_are image 1 parts)
 
   module_is : (file : List ℕ) → module_parts file lines a ≡ module_of file image parts
   unfolding module_parts
@@ -234,8 +224,7 @@ module _ (image : List ℕ) (bytes : AreBytes image) (parts : List CodeRange) (o
   answer_is file sizes few =
       let none = own_faultless sizes few in
       subst (λ ls. answer_of_lines file ls a ≡ Gives (module_of file image parts) (rows ls a)) (text_is image parts)
-      (content_answer file lines a none.placed ∙ ap (content_or_faults file lines a) none.content
-      ∙ ap (λ p. Gives p (rows lines a)) (module_is file))
+      (grind (arith, common_steps, content_answer file lines a none.placed, module_is file))
 
 -- the answer is the module of the parts
 pub image_back : (l : LayoutParts) (image text : List ℕ) (source : SourceFile) (answer : AnswerTree) → IsSoundLayout l

@@ -1,10 +1,10 @@
 -- What bytes are decoded as has these bytes, numbers that its fields have room for, and usual operands. At most one
 -- of them leads anywhere: to the target.
-use Rattle.m51_disasm_proof.proofs.Common.{◌%◌, ◌&&◌, ◌+◌, ◌<◌, ◌==◌, ◌||◌, ◌∙◌, ◌∷◌, ◌≡◌, AtR, Bool, Field, HasRoom}
-use Rattle.m51_disasm_proof.proofs.Common.{Imm, Instr, List, None, Nop, NotBit, Option, Plain, R, Slot, Some, Target}
-use Rattle.m51_disasm_proof.proofs.Common.{[], and_parts, ap, arith, common_steps, cond, encoded, false, field_in}
-use Rattle.m51_disasm_proof.proofs.Common.{get_or, is_among, map, nat_lt, not, number_of_slot, option_map, refl}
-use Rattle.m51_disasm_proof.proofs.Common.{slot_address, subst, sym, take, text_of, true, written_target, ℕ}
+use Rattle.m51_disasm_proof.proofs.Common.{◌%◌, ◌&&◌, ◌+◌, ◌<◌, ◌==◌, ◌||◌, ◌∷◌, ◌≡◌, AtR, Bool, Field, HasRoom, Imm}
+use Rattle.m51_disasm_proof.proofs.Common.{Instr, List, None, Nop, NotBit, Option, Plain, R, Slot, Some, Target, []}
+use Rattle.m51_disasm_proof.proofs.Common.{and_parts, ap, arith, common_steps, cond, encoded, false, field_in, is_among}
+use Rattle.m51_disasm_proof.proofs.Common.{map, nat_lt, not, number_of_slot, option_map, refl, slot_address, subst, sym}
+use Rattle.m51_disasm_proof.proofs.Common.{take, text_of, true, written_target, ℕ}
 use Rattle.std.proofs.Common.{◌*◌, ◌/◌}
 use Rattle.std.proofs.lemmas.Bool.{ltb-true}
 use Rattle.std.proofs.lemmas.List.FromFn.{get_or-map-range_with_len}
@@ -13,7 +13,6 @@ use Rattle.std.specs.Option.{option_or}
 use Rattle.std.specs.Prelude.{IfSome}
 use Rattle.m51_isa.specs.Spelling.{Text}
 use Rattle.m51_isa.specs.Table.{decoded_at, length_of}
-use Rattle.m51_isa.specs.TextLaws.{kept}
 use Rattle.m51_isa.specs.declared.slot.Field.TheVariants as field
 use Rattle.m51_disasm.specs.Statements.{address_by, address_of}
 use Rattle.m51_disasm.specs.declared.line.Target.TheVariants as target
@@ -35,15 +34,9 @@ FitsSlot (Plain f) = FitsIn f.field f.number
 FitsSlot (NotBit f) = FitsIn f.field f.number
 FitsSlot s = Unit {0}
 
-kept_is : (at : Field) (n : ℕ) → FitsIn at n → kept at n ≡ n
-kept_is at n h = grind (arith, common_steps)
-
 -- so a field holds it
 pub slot_kept : (s : Slot) → FitsSlot s → HasRoom s
-slot_kept (Imm f) h = ap (λ n. Imm (record f { number = n })) (kept_is f.field f.number h)
-slot_kept (Plain f) h = ap (λ n. Plain (record f { number = n })) (kept_is f.field f.number h)
-slot_kept (NotBit f) h = ap (λ n. NotBit (record f { number = n })) (kept_is f.field f.number h)
-slot_kept s h = refl
+slot_kept s h = grind (arith, common_steps)
 
 -- an instruction that these bytes are decoded as
 pub record IsDecoded (bytes : List ℕ) (i : Instr) : Type 0 where
@@ -110,9 +103,13 @@ module _ (second third : ℕ) where
 
   one_is : (first : ℕ) → first < 256 → decoded_as of_row first ≡ decoded_as of_bytes first
   one_is first f =
-      sym (get_or-map-range_with_len (decoded_as of_row) 0 256 first first None f (omega arith))
-      ∙ ap (λ l. get_or l first None) all_are
-      ∙ get_or-map-range_with_len (decoded_as of_bytes) 0 256 first first None f (omega arith)
+      grind (
+        arith,
+        common_steps,
+        all_are,
+        get_or-map-range_with_len (decoded_as of_row) 0 256 first first None f,
+        get_or-map-range_with_len (decoded_as of_bytes) 0 256 first first None f,
+      )
 
 module _ (first second third : ℕ) (f : first < 256) (s : second < 256) (t : third < 256) where
   written_is : (b c : Bool) → written_by second third first b c ≡ first ∷ second ∷ third ∷ []
@@ -146,9 +143,7 @@ module _ (first second third : ℕ) (f : first < 256) (s : second < 256) (t : th
       (ap (λ (x : Seen second third). x.2) same) in
       let numbers = ap (λ (x : Seen second third). x.1) same in
       record {
-        row = ap (λ (x : Seen second third). x.0) same
-            ∙ ap (take (length_of i)) (written_is (first % 16 == 1)
-            (first == 0x02 || (first == 0x12 || first == 0x90)));
+        row = grind (arith, common_steps, written_is);
         first = slot_fits (text_of i).first fit.0 (cc numbers);
         second = slot_fits (text_of i).second fit.1 (cc numbers);
         third = slot_fits (text_of i).third fit.2 (cc numbers);
@@ -221,9 +216,7 @@ by_option : (begin : List ℕ) (a b c : Option ℕ) → at_most_one a b c ≡ tr
 by_option begin None None c one = (nowhere _, nowhere _, leads_to begin c)
 by_option begin None (Some b) None one = (nowhere _, leads_to begin (Some b), nowhere _)
 by_option begin (Some a) None None one = (leads_to begin (Some a), nowhere _, nowhere _)
-by_option begin None (Some b) (Some c) one = absurd (cc one)
-by_option begin (Some a) None (Some c) one = absurd (cc one)
-by_option begin (Some a) (Some b) c one = absurd (cc one)
+by_option begin a b c one = absurd (cc one)
 
 -- the operands of a row lead to the target that is written
 pub rows_led : (begin : List ℕ) (next : ℕ) (i : Instr)

@@ -5,18 +5,14 @@ use Rattle.std.specs.Prelude.{IfSome, nat_lt}
 use Rattle.m51_cells.specs.declared.fault.TheConstants.{OUT_OF_RANGE, TOO_MANY}
 use Rattle.m51_cells.specs.declared.limits.TheConstants.{MOST_FIXUPS}
 use Rattle.m51_isa.specs.declared.instr.Instr.{Instr}
-use Rattle.m51_isa.specs.declared.slot.Field.{Field}
 use Rattle.m51_isa.specs.declared.slot.FieldSlot.{FieldSlot}
 use Rattle.m51_isa.specs.Spelling.{field_in, text_of}
 use Rattle.m51_isa.specs.Table.{length_of as row_length}
-use Rattle.m51_expr.specs.declared.value.Value.{Value}
-use Rattle.m51_expr.specs.Value.{Valued}
-use Rattle.m51_expr.specs.Tree.{Tree}
 use Rattle.m51_expr.specs.Meanings.{Meanings}
 use Rattle.m51_expr.specs.Evaluation.{value_of}
 use Rattle.m51_expr.specs.Operand as item
 use Rattle.m51_expr.specs.Operand.{ItemTree, OperandTree}
-use Rattle.m51_expr.specs.FaultLaws.{IsFaultOfValue, FailsAsValue}
+use Rattle.m51_expr.specs.FaultLaws.{IsFaultOfValue}
 use Rattle.m51_expr.proofs.ValueFaults.{values_fail_by_four}
 use Rattle.m51_encode.specs.declared.item.Width.{Width}
 use Rattle.m51_encode.specs.declared.item.Width.TheVariants.{Byte, Word}
@@ -25,8 +21,7 @@ use Rattle.m51_encode.specs.declared.outcome.OperandOutcome.TheVariants.{Faulty,
 use Rattle.m51_encode.specs.declared.reference.FieldValue.{FieldValue}
 use Rattle.m51_encode.specs.declared.reference.FieldValue.TheVariants.{Number, Linked}
 use Rattle.m51_encode.specs.declared.reference.Reference.{Reference}
-use Rattle.m51_encode.specs.FieldValues.{field_of}
-use Rattle.m51_encode.specs.Filling.{Answer, and_then, or_out_of_range, fielded, expression, filled_by, filled}
+use Rattle.m51_encode.specs.Filling.{Answer, and_then, fielded, filled}
 use Rattle.m51_encode.specs.Items.{field_of_width, item_field}
 use Rattle.m51_encode.specs.JumpForm.{address_after}
 use Rattle.m51_encode.specs.Outcomes.{linked, operand_outcome}

@@ -10,4 +10,3 @@ pub mod LyingContent
 pub mod FaultlessLines
 pub mod ContentFaultNumbers
 pub mod ItemSteps
-pub mod OtherBodies

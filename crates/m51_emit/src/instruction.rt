@@ -1,16 +1,13 @@
 //! What an instruction gives.
-ghost use Rattle.std.specs.Prelude.{◌≡◌, [], ◌∷◌, ◌++◌, map, take, IfOk, OnOk};
-ghost use Rattle.m51_expr.specs.Operand.{operand_tree};
-ghost use Rattle.m51_encode.specs.Coding.{coded, outcomes};
+ghost use Rattle.std.specs.Prelude.{◌≡◌, [], ◌∷◌, ◌++◌, take, IfOk, OnOk};
 ghost use Rattle.m51_emit.specs.Content.{placed_from, coded_content};
 ghost use Rattle.m51_emit.specs.Lines.{given};
 
 use crate::content::{EmittedContent, LineContent, ReferenceAt, References};
 use crate::counting::{counted_operands, none_of};
-use m51_cells::{Bytes, Name, NoMemory};
-use m51_encode::{Coded, CodingError, Reference, code};
-use m51_expr::{Lookup, Operand};
-use m51_isa::{Code, Jump};
+use m51_cells::{Bytes, NoMemory};
+use m51_encode::{Coded, Coding, CodingError, Reference};
+use m51_isa::Code;
 use std::alloc::Global;
 
 // The bytes of an instruction.
@@ -72,19 +69,13 @@ fn coded_content(
 }
 
 /// What an instruction gives, with `made` fixups before it.
-pub(crate) fn instruction_content<L: Lookup>(
+pub(crate) fn instruction_content(
     alloc: Global,
-    names: &L,
-    jump: Jump,
-    mnemonic: &Name,
-    operands: &[Operand],
+    coding: Coding,
     made: usize,
 ) -> Result<LineContent, NoMemory>
-    ensures { let names = L.meanings names.now in let operands = map operand_tree operands.now in
-        IfOk result (λ line. line ≡ given (coded_content (coded names mnemonic.now operands jump)) made
-        (outcomes names mnemonic.now operands jump)) }
+    ensures { IfOk result (λ line. line ≡ given (coded_content coding.coded) made coding.outcomes) }
 {
-    let coding = code(names, mnemonic, operands, jump);
     let count = counted_operands(none_of(made), coding.outcomes);
     let content = coded_content(alloc, coding.coded)?;
     Ok(LineContent {

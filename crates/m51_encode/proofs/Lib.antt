@@ -5,6 +5,6 @@ pub mod BitNumbers
 pub mod ReferencesLie
 pub mod Standing
 pub mod FormRows
-pub mod OverThree
+pub mod CodedRows
 pub mod ToldOutcomes
 pub mod OperandFaults

@@ -56,6 +56,10 @@ instruction_line mnemonic more jump = None
 abbrev pub line_row : Line → Option Instr
 line_row l = row_for l.mnemonic l.jump (look_in l.first) (look_in l.second) (look_in l.third)
 
+-- the row of an instruction of a source, with 0 in each field, if the table has one
+abbrev pub row_of : List ℕ → List OperandTree → Jump → Option Instr
+row_of mnemonic operands jump = option_and_then line_row (instruction_line mnemonic operands jump)
+
 -- the bytes of a row with the numbers that the operands gave, and the references in its fields
 abbrev pub coded_as : Instr → Held → Held → Held → Coded
 coded_as row a b c =
@@ -123,5 +127,4 @@ outcomes names mnemonic operands jump = outcomes_line names (instruction_line mn
 
 -- the length of an instruction of a source, whatever the values of its operands
 unfoldable pub length_of : List ℕ → List OperandTree → Jump → Option ℕ
-length_of mnemonic operands jump =
-    option_map row_length (option_and_then line_row (instruction_line mnemonic operands jump))
+length_of mnemonic operands jump = option_map row_length (row_of mnemonic operands jump)

@@ -1,9 +1,8 @@
 //! Codes the instructions of a source.
-ghost use Rattle.std.specs.Prelude.{◌≡◌, map, option_map, Some};
-ghost use Rattle.m51_isa.specs.Table.{length_of as row_length};
+ghost use Rattle.std.specs.Prelude.{◌≡◌, ℕ, List, Some, map, slice_get};
 ghost use Rattle.m51_expr.specs.Operand.{operand_tree};
-ghost use Rattle.m51_encode.specs.Coding.{seen, look_in, line, line_row, coded_as, gathered, coded_in, coded_line};
-ghost use Rattle.m51_encode.specs.Coding.{coded, outcomes_in, outcomes_line, outcomes, length_of};
+ghost use Rattle.m51_encode.specs.Coding.{seen, look_in, line, line_row, row_of, coded_as, gathered, coded_in, coded};
+ghost use Rattle.m51_encode.specs.Coding.{outcomes_in, outcomes, length_of};
 
 use crate::choosing::address_after;
 use crate::filling::{CodingError, Held, filled, references_of};
@@ -95,24 +94,52 @@ fn gathered(
     Ok(coded_as(row, a, b, c))
 }
 
-// What the operands give in the fields of the row, from left to right.
-fn coding_in<L: Lookup>(
-    names: &L,
-    row: &Instr,
-    a: Option<&Operand>,
-    b: Option<&Operand>,
-    c: Option<&Operand>,
-) -> Coding
-    ensures coded { let names = L.meanings names.now in
-        result.coded ≡ coded_in names (seen a.entry) (seen b.entry) (seen c.entry) row.now }
-    ensures outcomes { let names = L.meanings names.now in
-        result.outcomes ≡ outcomes_in names (seen a.entry) (seen b.entry) (seen c.entry) row.now }
+// The operand with this index, if there is one.
+fn operand_at(operands: &[Operand], index: usize) -> Option<&Operand>
+    ensures { seen result ≡ slice_get (map operand_tree operands.now) index }
+{
+    operands.get(index)
+}
+
+/// The row of an instruction of a source, with 0 in each field; none where the instruction table has no row of this
+/// mnemonic with such operands. `jump` is looked at for `JMP` and `CALL` with only a code address, which mean the jump
+/// and the call of that form; a short `CALL` means `ACALL`.
+///
+/// Source: family manual.
+pub fn row_of(mnemonic: &Name, operands: &[Operand], jump: Jump) -> Option<Instr>
+    ensures { result ≡ row_of mnemonic.now (map operand_tree operands.now) jump }
+{
+    let word = mnemonic.bytes();
+    match operands {
+        [] => line_row(word, jump, None, None, None),
+        [a] => line_row(word, jump, Some(a), None, None),
+        [a, b] => line_row(word, jump, Some(a), Some(b), None),
+        [a, b, c] => line_row(word, jump, Some(a), Some(b), Some(c)),
+        _ => None,
+    }
+}
+
+/// The bytes and references of an instruction at the place of the statement, and the outcome of each of its operands.
+/// `row` is its row, which [`row_of`] gives. It allocates nothing.
+///
+/// Errors, in `coded`: the fault of the leftmost operand that has one: E7 to E10 where it has no value, E14 where its
+/// value is out of range or class.
+///
+/// Source: family manual.
+#[tactic(auto, using(crate::proofs::CodedRows::by_row))]
+pub fn code_row<L: Lookup>(names: &L, row: &Instr, operands: &[Operand]) -> Coding
+    ensures coded { let operands = map operand_tree operands.now in (mnemonic : List ℕ) (jump : Jump)
+        → row_of mnemonic operands jump ≡ Some row.now
+        → result.coded ≡ coded (L.meanings names.now) mnemonic operands jump }
+    ensures outcomes { let operands = map operand_tree operands.now in (mnemonic : List ℕ) (jump : Jump)
+        → row_of mnemonic operands jump ≡ Some row.now
+        → result.outcomes ≡ outcomes (L.meanings names.now) mnemonic operands jump }
 {
     let next = address_after(names, u16::from(length(row)));
     let text = spelling_of(row);
-    let first = filled(names, next, text.first.field(), a);
-    let second = filled(names, next, text.second.field(), b);
-    let third = filled(names, next, text.third.field(), c);
+    let first = filled(names, next, text.first.field(), operand_at(operands, 0));
+    let second = filled(names, next, text.second.field(), operand_at(operands, 1));
+    let third = filled(names, next, text.third.field(), operand_at(operands, 2));
     Coding {
         outcomes: [
             operand_outcome(&first),
@@ -123,75 +150,35 @@ fn coding_in<L: Lookup>(
     }
 }
 
-// An instruction of at most three operands.
-fn coding_line<L: Lookup>(
-    names: &L,
-    word: &[u8],
-    jump: Jump,
-    a: Option<&Operand>,
-    b: Option<&Operand>,
-    c: Option<&Operand>,
-) -> Coding
-    ensures coded { let l = line word.now jump (seen a.entry) (seen b.entry) (seen c.entry) in
-        result.coded ≡ coded_line (L.meanings names.now) (Some l) }
-    ensures outcomes { let l = line word.now jump (seen a.entry) (seen b.entry) (seen c.entry) in
-        result.outcomes ≡ outcomes_line (L.meanings names.now) (Some l) }
-{
-    match line_row(word, jump, a, b, c) {
-        Some(row) => coding_in(names, &row, a, b, c),
-        None => NO_SUCH_ROW,
-    }
-}
-
-/// The bytes and references of an instruction at the place of the statement, and the outcome of each of its operands.
-/// `jump` is looked at for `JMP` and `CALL` with only a code address, which mean the jump and the call of that form; a
-/// short `CALL` means `ACALL`. It allocates nothing.
+/// What [`code_row`] gives by the row of the instruction; `jump` as for [`row_of`].
 ///
 /// Errors, in `coded`: E11 where the instruction table has no row of this mnemonic with such operands; else the fault
 /// of the leftmost operand that has one: E7 to E10 where it has no value, E14 where its value is out of range or class.
 ///
 /// Source: family manual.
-#[tactic(auto, unfolding(crate::specs::Coding::coded, crate::specs::Coding::outcomes))]
+#[tactic(auto, using(crate::proofs::CodedRows::by_row))]
 pub fn code<L: Lookup>(names: &L, mnemonic: &Name, operands: &[Operand], jump: Jump) -> Coding
     ensures coded { let operands = map operand_tree operands.now in
         result.coded ≡ coded (L.meanings names.now) mnemonic.now operands jump }
     ensures outcomes { let operands = map operand_tree operands.now in
         result.outcomes ≡ outcomes (L.meanings names.now) mnemonic.now operands jump }
 {
-    let word = mnemonic.bytes();
-    match operands {
-        [] => coding_line(names, word, jump, None, None, None),
-        [a] => coding_line(names, word, jump, Some(a), None, None),
-        [a, b] => coding_line(names, word, jump, Some(a), Some(b), None),
-        [a, b, c] => coding_line(names, word, jump, Some(a), Some(b), Some(c)),
-        _ => NO_SUCH_ROW,
+    match row_of(mnemonic, operands, jump) {
+        Some(row) => code_row(names, &row, operands),
+        None => NO_SUCH_ROW,
     }
 }
 
-// The length of a row.
-fn length_in(row: Option<Instr>) -> Option<u8>
-    ensures { result ≡ option_map row_length row }
-{
-    match row {
-        Some(row) => Some(length(&row)),
-        None => None,
-    }
-}
-
-/// How many bytes an instruction of a source has, 1 to 3, whatever the values of its operands; none where the
-/// instruction table has no row of this mnemonic with such operands. `jump` as for [`code`].
+/// How many bytes an instruction of a source has, 1 to 3, whatever the values of its operands; none where it has no
+/// row. `jump` as for [`row_of`].
 ///
 /// Source: family manual.
 #[tactic(auto, unfolding(crate::specs::Coding::length_of))]
 pub fn length_of(mnemonic: &Name, operands: &[Operand], jump: Jump) -> Option<u8>
     ensures { result ≡ length_of mnemonic.now (map operand_tree operands.now) jump }
 {
-    let word = mnemonic.bytes();
-    match operands {
-        [] => length_in(line_row(word, jump, None, None, None)),
-        [a] => length_in(line_row(word, jump, Some(a), None, None)),
-        [a, b] => length_in(line_row(word, jump, Some(a), Some(b), None)),
-        [a, b, c] => length_in(line_row(word, jump, Some(a), Some(b), Some(c))),
-        _ => None,
+    match row_of(mnemonic, operands, jump) {
+        Some(row) => Some(length(&row)),
+        None => None,
     }
 }

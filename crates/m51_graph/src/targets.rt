@@ -19,7 +19,7 @@ pub(crate) fn unit_with(joined: &Joined, units: &UnitTable, module: u8, segment:
     ensures { result ≡ unit_with joined.now «module» segment }
 {
     let (number, _) = joined.part(module, segment);
-    units.with_number(number)
+    units.with_number(number.get())
 }
 
 // The unit in which a public with this base lies.

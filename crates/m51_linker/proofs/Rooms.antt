@@ -1,7 +1,6 @@
 -- Content and fields lie in program memory.
-use Rattle.std.proofs.Common.{◌≡◌, ℕ, ◌+◌, ◌<◌, ◌≤◌, List, length, get_or, Option, Some, sym, ap, subst, ◌∙◌, arith}
+use Rattle.std.proofs.Common.{◌≡◌, ℕ, ◌+◌, ◌<◌, ◌≤◌, List, length, get_or, Some, sym, ap, subst, ◌∙◌, arith}
 use Rattle.std.specs.Prelude.{slice_get}
-use Rattle.std.specs.Option.{option_map_or}
 use Rattle.std.specs.List.{All}
 use Rattle.std.proofs.lemmas.List.Elements.{All-contains, All-get_or, Contains-get_or}
 use Rattle.std.proofs.lemmas.Option.{get_or_from_slice_get, slice_get_within}
@@ -11,14 +10,13 @@ use Rattle.m51_module.specs.declared.content.Form.{Form}
 use Rattle.m51_module.specs.declared.content.Form.TheVariants.{Low, Byte, Relative, High, Word, Inblock, Bit, Conv}
 use Rattle.m51_module.specs.declared.content.Piece.{Piece}
 use Rattle.m51_module.specs.declared.parts.ModuleParts.{ModuleParts}
-use Rattle.m51_module.specs.declared.placed.Placed.{Placed}
 use Rattle.m51_module.specs.declared.segment.Segment.{Segment}
 use Rattle.m51_module.specs.Validity.{field_len, IsBitNumber, IsFixupValid, IsHeld, IsPieceValid, IsValid, numbered}
 use Rattle.m51_resolve.specs.Joining.{part_of}
 use Rattle.m51_graph.proofs.Drawn.{field_there, fixup_target_there}
 use Rattle.m51_place.specs.declared.placing.Placing.{Placing}
 use Rattle.m51_linker.specs.Ready.{ArePlaced, IsFixupPlaced}
-use Rattle.m51_linker.specs.Targets.{address_of, joined_base, segment_address}
+use Rattle.m51_linker.specs.Targets.{address_of, segment_address}
 use Rattle.m51_linker.proofs.PartsInside.{IsPartOf, part_inside}
 
 -- the number of the last byte of a field
@@ -65,11 +63,9 @@ module _ (modules : List ModuleParts) (placing : Placing) (placed : ArePlaced mo
       → segment_address modules placing m s + segment.size ≤ 65536
   segment_room s segment is code =
       let part : IsPartOf modules m s segment = part_inside modules placed.resolved m parts here s segment is in
-      let at = placed.indices.each (part_of modules m s).0 part.j part.at in
-      let base : joined_base placing (part_of modules m s).0 ≡ at.placed.base =
-      ap (λ (o : Option Placed). option_map_or (λ (p : Placed). p.base) o 0) at.there in
+      let at = placed.bases.each (part_of modules m s).0 part.j part.at in
       let room : at.placed.base + at.placed.size ≤ 65536 = at.is.room (at.is.kind ∙ part.kind ∙ code) in
-      omega (arith, base, room, at.is.size, part.inside)
+      omega (arith, at.begins, room, at.is.size, part.inside)
 
   -- the piece of that index
   module _ (pieces : List Piece) (are : pieces ≡ parts.pieces) (i : ℕ) (p : Piece) (below : i < length pieces)

@@ -16,7 +16,7 @@ use Rattle.m51_linker.specs.Targets.{address_of}
 pub record ArePlaced (modules : List ModuleParts) (placing : Placing) : Type 0 where
   pub valid : All IsValid modules
   pub resolved : AreResolved modules
-  pub indices : ArePlaces (segments_of modules) placing
+  pub bases : ArePlaces (segments_of modules) placing
 
 -- a fixup of the module has its field in program memory, and its target exists
 pub record IsFixupPlaced (modules : List ModuleParts) (placing : Placing) (m : ℕ) (f : Fixup) : Type 0 where

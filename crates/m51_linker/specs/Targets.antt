@@ -6,24 +6,15 @@ use Rattle.m51_cells.specs.declared.kind.Base.{Base}
 use Rattle.m51_cells.specs.declared.kind.Base.TheVariants.{None as NoBase, Segment as InSegment, External as OfExternal}
 use Rattle.m51_module.specs.declared.content.Fixup.{Fixup}
 use Rattle.m51_module.specs.declared.parts.ModuleParts.{ModuleParts}
-use Rattle.m51_module.specs.declared.placed.Placed.{Placed}
 use Rattle.m51_module.specs.declared.symbol.Public.{Public}
 use Rattle.m51_resolve.specs.Joining.{part_of}
 use Rattle.m51_resolve.specs.Publics.{public_of}
 use Rattle.m51_place.specs.declared.placing.Placing.{Placing}
 
--- the base of the placed extent of that index
-abbrev pub placed_base : List Placed → ℕ → ℕ
-placed_base placed index = option_map_or (λ (p : Placed). p.base) (slice_get placed index) 0
-
--- the base of the joined segment of that number
-abbrev pub joined_base : Placing → ℕ → ℕ
-joined_base placing number = placed_base placing.layout.placed (slice_index placing.indices number)
-
 -- Where a segment of a module begins: the base of its joined segment, and the offset of its part there. The part of an
 -- absolute segment is the whole, so that it begins at its own base.
 abbrev pub segment_address : List ModuleParts → Placing → ℕ → ℕ → ℕ
-segment_address modules placing m s = joined_base placing (part_of modules m s).0 + (part_of modules m s).1
+segment_address modules placing m s = slice_index placing.bases (part_of modules m s).0 + (part_of modules m s).1
 
 -- the address of that offset in a segment of a module
 abbrev pub address_of : List ModuleParts → Placing → ℕ → ℕ → ℕ → ℕ

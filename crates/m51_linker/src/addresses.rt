@@ -3,43 +3,22 @@ ghost use Rattle.std.specs.Prelude.{◌≡◌, ◌<◌, ◌≤◌, IsSome, Some,
 ghost use Rattle.m51_resolve.specs.Joining.{segment_at};
 ghost use Rattle.m51_resolve.specs.Publics.{external_at};
 ghost use Rattle.m51_graph.specs.Conditions.{IsBaseThere, IsTargetThere};
-ghost use Rattle.m51_linker.specs.Targets.{address_of, placed_base, joined_base, external_value, origin_of};
-ghost use Rattle.m51_linker.specs.Targets.{segment_address};
+ghost use Rattle.m51_linker.specs.Targets.{address_of, external_value, origin_of, segment_address};
 ghost use Rattle.m51_linker.specs.Targets.{fixup_target, target_value, value_among, public_value_at, public_value};
 
 use m51_cells::Base;
-use m51_module::{Fixup, Module, Placed, Public};
+use m51_module::{Fixup, Module, Public};
 use m51_place::Placing;
-use m51_resolve::Joined;
-
-// The index of the joined segment of that number among the placed extents.
-fn index_of(indices: &[u16], number: u16) -> u16
-    ensures { result ≡ slice_index indices.now number }
-{
-    match indices.get(usize::from(number)) {
-        Some(index) => *index,
-        None => 0,
-    }
-}
-
-// The base of the placed extent of that index.
-fn placed_base(placed: &[Placed], index: u16) -> u16
-    ensures { result ≡ placed_base placed.now index }
-{
-    match placed.get(usize::from(index)) {
-        Some(extent) => extent.base,
-        None => 0,
-    }
-}
+use m51_resolve::{Joined, JoinedNumber};
 
 // The base of the joined segment of that number.
-fn joined_base(placing: &Placing, number: u16) -> u16
-    ensures { result ≡ joined_base placing.now number }
+fn joined_base(placing: &Placing, number: JoinedNumber) -> u16
+    ensures { result ≡ slice_index placing.now.bases number }
 {
-    placed_base(
-        placing.layout.placed(),
-        index_of(placing.indices.as_slice(), number),
-    )
+    match placing.bases.as_slice().get(usize::from(number.get())) {
+        Some(base) => *base,
+        None => 0,
+    }
 }
 
 // Where the segment of the module begins.

@@ -27,7 +27,7 @@ pub(crate) fn spot_of(joined: &Joined, module: u8, fixup: &Fixup) -> Spot
 {
     let (number, offset) = joined.part(module, fixup.segment);
     Spot {
-        number,
+        number: number.get(),
         offset: offset + fixup.offset,
     }
 }

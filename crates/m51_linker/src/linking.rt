@@ -48,7 +48,7 @@ fn linked(
 {
     let written = runs_of(alloc, content)?;
     let roots = roots_of(alloc, graph)?;
-    let Placing { layout, indices: _ } = placing;
+    let Placing { layout, bases: _ } = placing;
     Ok(Linked {
         layout,
         image,
@@ -68,8 +68,10 @@ fn link_graph(
     ensures answer { IsLinkResult (placed_of joined.now controls.now graph.now) result }
     ensures ready { IfOk result IsReady }
 {
-    // For the proof only: reading the modules exposes their invariant.
+    // For the proof only: reading modules, lines and graph exposes their invariants.
     cite(joined.modules());
+    cite(controls.lines());
+    cite(graph.parts());
     let placing = place_all(alloc, joined, graph, controls)?;
     let content = content_of(alloc, joined, &placing)?;
     let image = patched(alloc, joined, &placing, &content)?;

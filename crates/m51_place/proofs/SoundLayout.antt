@@ -34,7 +34,7 @@ use Rattle.m51_place.proofs.UnitPlaces.{unit_there, units_rise, UnitAt}
 use Rattle.m51_place.proofs.Whole.{found, IsWhole, only, order_of_two}
 
 -- a list and its images
-image_in : {A B : Type 0} (f : A → B) (xs : List A) (k : ℕ) (x : A) → slice_get xs k ≡ Some x
+pub image_in : {A B : Type 0} (f : A → B) (xs : List A) (k : ℕ) (x : A) → slice_get xs k ≡ Some x
     → Contains (map f xs) (f x)
 image_in f xs k x h =
     let at : slice_get (map f xs) k ≡ Some (f x) = slice_get-map f xs k ∙ ap (option_map f) h in

@@ -9,6 +9,8 @@ use Rattle.m51_place.proofs.Common.{ModuleParts, Plain, JoinedSegment, IsValid, 
 use Rattle.m51_place.proofs.Common.{graph_of, unless, is_absolute, Numbered, Ranked, fixed_of, shared_extents, order_of}
 use Rattle.m51_place.proofs.Common.{ranked_of, ranked_from, located_of, place_after, IsNumbered}
 use Rattle.std.proofs.Common.{length-append}
+use Rattle.std.specs.Prelude.{find}
+use Rattle.std.proofs.lemmas.List.Folds.{find_at}
 use Rattle.std.proofs.lemmas.List.Quantifiers.{position-Some}
 use Rattle.std.proofs.lemmas.List.Sorted.{length_permutation}
 use Rattle.m51_place.specs.Placement.{is_number, joined_index}
@@ -171,6 +173,7 @@ two_counted m (x ∷ es) (suc i) (suc j) e f less h k p q =
 pub record IsFound (located : List Numbered) (m : ℕ) : Type 0 where
   pub e : Numbered
   pub at : slice_get located (joined_index located m) ≡ Some e
+  pub first : find (is_number m) located ≡ Some e
   pub number : e.number ≡ Some m
 
 find_place : (located : List Numbered) (m : ℕ) (found : Option ℕ) → position (is_number m) located ≡ found
@@ -194,13 +197,14 @@ find_place located m (Some index) is h =
     } in
     let at = position-Some (is_number m) located index d is in
     let e : Numbered = get_or located index d in
-    let place_is_it : unwrap_or (position (is_number m) located) 0 ≡ index =
-    ap (λ (found : Option ℕ). unwrap_or found 0) is in
+    let at_index : slice_get located index ≡ Some e = slice_get-get_or located index d at.0 in
     record {
       e = e;
-      at = ap (slice_get located) place_is_it ∙ slice_get-get_or located index d at.0;
-      number =
-          number_is m e.number at.1;
+      at = ap (λ (found : Option ℕ). slice_get located (unwrap_or found 0)) is ∙ at_index;
+      first = find_at (is_number m) located
+          ∙ ap (slice_get located) (sym (place_is (is_number m) located)
+          ∙ ap (λ (found : Option ℕ). unwrap_or found (length located)) is) ∙ at_index;
+      number = number_is m e.number at.1;
     }
 
 pub found : (g : GraphParts) (segments : List JoinedSegment) (located : List Numbered) → IsWhole g segments located

@@ -1,6 +1,6 @@
 -- Placing: the fixed extents, and then each relocatable segment in turn, at the least base that is free.
 use Rattle.std.specs.Prelude.{ℕ, ◌+◌, Bool, true, false, nat_eq, List, [], ◌∷◌, ◌++◌, length, map, filter, position}
-use Rattle.std.specs.Prelude.{unwrap_or, Option, Some, None, Result, Ok, Err}
+use Rattle.std.specs.Prelude.{find, unwrap_or, Option, Some, None, Result, Ok, Err}
 use Rattle.std.specs.List.{range_with_len}
 use Rattle.std.specs.Option.{option_map_or}
 use Rattle.m51_control.specs.declared.control.Control.{Control}
@@ -70,6 +70,10 @@ is_number number e = option_map_or (nat_eq number) e.number false
 unfoldable pub joined_index : List Numbered → ℕ → ℕ
 joined_index located number = unwrap_or (position (is_number number) located) 0
 
+-- and its base
+abbrev pub joined_base : List Numbered → ℕ → ℕ
+joined_base located number = option_map_or (λ (e : Numbered). e.placed.base) (find (is_number number) located) 0
+
 -- the owners of the extent, if it is overlaid
 abbrev pub owners_of_extent : GraphParts → Numbered → List ℕ
 owners_of_extent g e = option_map_or (owners_at g) e.number []
@@ -98,10 +102,10 @@ located_of modules controls g =
     let fixed : List Numbered = fixed_of modules controls (segments_of modules) in
     unless (shared_extents fixed) (place_after g fixed (order_of g controls (segments_of modules)))
 
--- the layout of these extents, and the index among them of each of `count` joined segments
+-- the layout of these extents, and the base in it of each of `count` joined segments
 abbrev pub placing_with : GraphParts → ℕ → List Numbered → Placing
 placing_with g count located =
-    record { layout = parts_of_layout g located; indices = map (joined_index located) (range_with_len 0 count) }
+    record { layout = parts_of_layout g located; bases = map (joined_base located) (range_with_len 0 count) }
 
 abbrev pub placing_from : GraphParts → ℕ → Result (List Numbered) Refusal → Result Placing Refusal
 placing_from g count (Ok located) = Ok (placing_with g count located)

@@ -1,11 +1,11 @@
--- Where the joined segments are among the placed extents.
-use Rattle.std.specs.Prelude.{◌≡◌, ℕ, ◌+◌, ◌<◌, ◌≤◌, true, List, length, slice_get, slice_index, Some}
+-- Where the joined segments are placed.
+use Rattle.std.specs.Prelude.{◌≡◌, ℕ, ◌+◌, ◌≤◌, true, List, length, slice_get, slice_index, Some}
+use Rattle.std.specs.List.{Contains}
 use Rattle.m51_cells.specs.declared.kind.Kind.TheVariants.{Code}
 use Rattle.m51_cells.specs.Kinds.{is_absolute}
 use Rattle.m51_module.specs.declared.parts.LayoutParts.{LayoutParts}
 use Rattle.m51_module.specs.declared.placed.Mark.TheVariants.{Absolute}
 use Rattle.m51_module.specs.declared.placed.Placed.{Placed}
-use Rattle.m51_module.specs.Plan.{IsPlaced}
 use Rattle.m51_resolve.specs.declared.segment.JoinedSegment.{JoinedSegment}
 use Rattle.m51_place.specs.declared.placing.Placing.{Placing}
 
@@ -18,15 +18,15 @@ pub record IsSegmentAt (j : JoinedSegment) (p : Placed) : Type 0 where
   pub absolute : is_absolute j.reloc ≡ true → (p.mark ≡ Absolute) × (p.base ≡ j.base)
   pub room : p.kind ≡ Code → p.base + p.size ≤ 65536
 
--- the extent of that index is the segment
-pub record IsPlacedAs (l : LayoutParts) (index : ℕ) (j : JoinedSegment) : Type 0 where
+-- one of the placed extents, which begins there, is the segment
+pub record IsPlacedAs (l : LayoutParts) (base : ℕ) (j : JoinedSegment) : Type 0 where
   pub placed : Placed
-  pub there : IsPlaced l index placed
+  pub there : Contains l.placed placed
+  pub begins : placed.base ≡ base
   pub is : IsSegmentAt j placed
 
--- Each joined segment has an index: that of an extent of the layout, which is the segment.
+-- Each joined segment has a base: that of an extent of the layout, which is the segment.
 pub record ArePlaces (segments : List JoinedSegment) (p : Placing) : Type 0 where
-  pub len : length p.indices ≡ length segments
-  pub below : (k : ℕ) → k < length p.indices → slice_index p.indices k < length p.layout.placed
+  pub len : length p.bases ≡ length segments
   pub each : (number : ℕ) (j : JoinedSegment) → slice_get segments number ≡ Some j
-      → IsPlacedAs p.layout (slice_index p.indices number) j
+      → IsPlacedAs p.layout (slice_index p.bases number) j

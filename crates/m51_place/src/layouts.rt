@@ -1,12 +1,12 @@
 //! The parts of a layout: what is placed where, and whose it is.
 ghost use Rattle.std.specs.Prelude.{◌≡◌, ◌<◌, ◌≤◌, ◌++◌, if◌then◌else◌, [], ◌∷◌, map, position, IfOk, IfSome, OnOk};
-ghost use Rattle.std.specs.Prelude.{Some, length, slice_get};
+ghost use Rattle.std.specs.Prelude.{Some, find, length, option_copied, slice_get};
 ghost use Rattle.std.specs.List.{All, range_with_len};
 ghost use Rattle.m51_cells.specs.declared.limits.TheConstants.{MOST_SEGMENTS};
 ghost use Rattle.m51_graph.specs.Drawing.{edge_test};
 ghost use Rattle.m51_place.specs.Conflicts.{callers_of, is_argument_at, owners_at, owners_with};
 ghost use Rattle.m51_place.specs.Placement.{is_number, owner_pairs, owners_of_extent, pairs_with, parts_of_layout};
-ghost use Rattle.m51_place.specs.Placement.{joined_index};
+ghost use Rattle.m51_place.specs.Placement.{joined_base, joined_index};
 ghost use Rattle.m51_place.specs.Ready.{IsNumbered};
 
 use crate::Numbered;
@@ -57,21 +57,37 @@ fn places_of(alloc: Global, located: &[Numbered], numbers: &[u16]) -> Result<Vec
     Ok(indices)
 }
 
-// The indices of the extents of the first `count` joined segments.
-pub(crate) fn indices(
+// The first of these extents that is the joined segment of that number.
+fn joined_extent(located: &[Numbered], number: u16) -> Option<&Numbered>
+    ensures { option_copied result ≡ find (is_number number) located.now }
+{
+    located.iter().find(|extent| is_number(number, extent))
+}
+
+// The base of the joined segment of that number; 0 if none of these extents has that number.
+fn joined_base(located: &[Numbered], number: u16) -> u16
+    ensures { result ≡ joined_base located.now number }
+{
+    match joined_extent(located, number) {
+        Some(extent) => extent.placed.base,
+        None => 0,
+    }
+}
+
+// The bases of the first `count` joined segments.
+pub(crate) fn joined_bases(
     alloc: Global,
     located: &[Numbered],
     count: usize,
 ) -> Result<Vec<u16>, NoMemory>
-    requires few { length located.now < 65536 }
-    requires count { count ≤ MOST_SEGMENTS }
-    ensures { IfOk result (λ indices. indices.items ≡ map (joined_index located.now) (range_with_len 0 count)) }
+    requires { count ≤ MOST_SEGMENTS }
+    ensures { IfOk result (λ bases. bases.items ≡ map (joined_base located.now) (range_with_len 0 count)) }
 {
-    let mut indices = Vec::new(alloc);
+    let mut bases = Vec::new(alloc);
     for number in 0..count {
-        indices.push(joined_index(located, number as u16))?;
+        bases.push(joined_base(located, number as u16))?;
     }
-    Ok(indices)
+    Ok(bases)
 }
 
 // The extents only.

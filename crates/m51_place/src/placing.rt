@@ -13,25 +13,25 @@ ghost use Rattle.m51_place.specs.Ready.{IsNumbered, IsPlaceable};
 
 use crate::bases::base_for;
 use crate::fixed::{add, fixed};
-use crate::layouts::{indices, parts_of_layout};
+use crate::layouts::{joined_bases, parts_of_layout};
 use crate::ordering::order;
 use crate::sharing::check_shared;
 use crate::{Numbered, Ranked};
 use m51_cells::{ListOf, cite};
 use m51_control::Controls;
 use m51_graph::Graph;
-use m51_module::{Layout, Mark, Placed, Refusal, Units};
+use m51_module::{Layout, Mark, Placed, Refusal};
 use m51_resolve::Joined;
 use std::alloc::Global;
 
-/// A layout, and where the joined segments are in it.
+/// A layout, and where the joined segments begin in it.
 ///
 /// Source: own choice ("Placing").
 #[derive(Drop)]
 pub struct Placing {
     pub layout: Layout,
-    /// For each joined segment its index among the placed extents.
-    pub indices: Units,
+    /// For each joined segment, by its number, its base.
+    pub bases: ListOf<u16>,
 }
 
 // The mark of a relocatable segment with this own unit.
@@ -107,7 +107,7 @@ fn locate(
     place_after(alloc, graph, fixed, &order)
 }
 
-/// The layout of chosen modules over the graph that they and these control lines have, and the index in it of each
+/// The layout of chosen modules over the graph that they and these control lines have, and the base in it of each
 /// joined segment: the fixed extents (register banks in use, reserves, absolute segments), and then each relocatable
 /// segment in the order of placing, at the least base at which it fits and no earlier extent in conflict covers one of
 /// its cells. The refusals, in their order: L9, the first fixed extent that meets an earlier one, and the first that it
@@ -122,19 +122,19 @@ pub fn place_all(
 ) -> Result<Placing, Refusal>
     requires { graph_of joined.now controls.now ≡ Ok graph.now }
     ensures value { Gives (λ p. p) but_memory result (placing_of joined.now controls.now graph.now) }
-    ensures indices { IfOk result (λ p. ArePlaces (segments_of joined.now) p) }
+    ensures bases { IfOk result (λ p. ArePlaces (segments_of joined.now) p) }
 {
     // For the proof only: reading modules, lines and graph exposes their invariants.
     cite(joined.modules());
     cite(controls.lines());
     cite(graph.parts());
     let located = locate(alloc, joined, graph, controls)?;
-    let indices = indices(alloc, &located, joined.segments().len())?;
+    let bases = joined_bases(alloc, &located, joined.segments().len())?;
     let parts = parts_of_layout(alloc, graph, &located)?;
     let layout = Layout::make(alloc, parts)?;
     Ok(Placing {
         layout,
-        indices: ListOf::of(indices),
+        bases: ListOf::of(bases),
     })
 }
 
@@ -151,6 +151,6 @@ pub fn place(
     requires { graph_of joined.now controls.now ≡ Ok graph.now }
     ensures { Gives (λ l. l) but_memory result (layout_of joined.now controls.now graph.now) }
 {
-    let Placing { layout, indices: _ } = place_all(alloc, joined, graph, controls)?;
+    let Placing { layout, bases: _ } = place_all(alloc, joined, graph, controls)?;
     Ok(layout)
 }

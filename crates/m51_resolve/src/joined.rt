@@ -5,9 +5,9 @@ ghost use Rattle.m51_resolve.specs.Joining.{segments_of, segment_at, part_of};
 ghost use Rattle.m51_resolve.specs.Publics.{external_at, public_of};
 ghost use Rattle.m51_resolve.specs.Rules.{AreResolved};
 
-use crate::JoinedSegment;
 use crate::joining::SegmentPart;
 use crate::publics::Definition;
+use crate::{JoinedNumber, JoinedSegment};
 use m51_module::Module;
 use std::marker::Model;
 
@@ -65,13 +65,13 @@ impl Joined {
     /// part in it, in bytes, for BIT in bits. The module is counted from 0, the segment from 1, and both exist.
     ///
     /// Source: RL51 guide.
-    pub fn part(&self, module: u8, segment: u8) -> (u16, u16)
+    pub fn part(&self, module: u8, segment: u8) -> (JoinedNumber, u16)
         requires { IsSome (segment_at self.now «module» segment) }
         ensures { result ≡ part_of self.now «module» segment }
     {
         let start = self.segment_starts[usize::from(module)];
         let part = &self.parts[start + usize::from(segment) - 1];
-        (part.number as u16, part.offset as u16)
+        (JoinedNumber::new(part.number as u16), part.offset as u16)
     }
 
     /// The public that resolves an external: its module, from 0, and its index among the publics there, from 0. The

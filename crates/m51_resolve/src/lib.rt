@@ -8,6 +8,7 @@ mod flat;
 mod joined;
 mod joining;
 mod laws;
+mod number;
 mod publics;
 mod resolving;
 mod rules;
@@ -15,5 +16,6 @@ mod segment;
 
 pub use joined::Joined;
 pub use laws::choices_are_one;
+pub use number::JoinedNumber;
 pub use resolving::resolve;
 pub use segment::JoinedSegment;

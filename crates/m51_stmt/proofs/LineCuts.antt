@@ -1,6 +1,6 @@
--- The cut of a line of words with a blank after each.
-use Rattle.std.proofs.Common.{◌≡◌, ℕ, length-append, ◌+◌, ◌-◌, ◌<◌, List, [], ◌∷◌, ◌++◌, length, drop, take, map, Ok}
-use Rattle.std.proofs.Common.{refl, ap, ◌∙◌, append_assoc, arith, subst}
+-- The cut of a line into words, with blanks between them or none.
+use Rattle.std.proofs.Common.{◌≡◌, ℕ, length-append, ◌+◌, ◌-◌, ◌<◌, List, [], ◌∷◌, ◌++◌, length, drop, take, map}
+use Rattle.std.proofs.Common.{Ok, Some, refl, sym, ap, ◌∙◌, append_assoc, arith}
 use Rattle.std.specs.List.{slice_range}
 use Rattle.std.proofs.Math.Seq.{drop-append_seam, take-append_seam}
 use Rattle.m51_lex.specs.Characters.{space}
@@ -11,108 +11,109 @@ use Rattle.m51_lex.specs.Tokens.{Cut, put_front, after_lexeme, tokens_at}
 use Rattle.m51_lex.proofs.Cuts.{from_front}
 use Rattle.m51_expr.specs.declared.symbol.Symbol.{Symbol}
 use Rattle.m51_expr.specs.Symbol.{symbol_by, symbol_of}
+use Rattle.m51_stmt.specs.Answer.{and_then, or_fault}
+use Rattle.m51_stmt.specs.Lines.{read, statement, statement_fault, token_line}
+use Rattle.m51_stmt.specs.Statement.{StmtTree}
 
 -- a word of a line: what it is as a token, and its bytes
 pub record Word : Type 0 where
   pub what : What
   pub text : List ℕ
 
--- words, with a blank after each
-abbrev pub laid : List Word → List ℕ
-laid [] = []
-laid (w ∷ ws) = w.text ++ space ∷ laid ws
-
 -- the token of a word at an index
 abbrev pub token_at : ℕ → Word → Token
 token_at at w = record { what = w.what; from = at; to = at + length w.text }
 
--- the tokens that the words are, from an index on
-abbrev pub placed : ℕ → List Word → List Token
-placed at [] = []
-placed at (w ∷ ws) = token_at at w ∷ placed (at + length w.text + 1) ws
+-- what a word is in a line
+abbrev pub symbol : Word → Symbol
+symbol w = symbol_by w.what w.text
 
--- the word is cut as a token of its own before a blank
-pub record IsCut (w : Word) : Type 0 where
+-- the word is cut as a token of its own before these bytes
+pub record Stands (w : Word) (rest : List ℕ) : Type 0 where
   pub some : 0 < length w.text
-  pub front : (at : ℕ) (rest : List ℕ) (go : ℕ → Cut) → after_lexeme at (lexeme_of (w.text ++ space ∷ rest)) go
-      ≡ put_front (token_at at w ∷ []) (go (length w.text - 1))
+  pub front : (at : ℕ) (go : ℕ → Cut)
+      → after_lexeme at (lexeme_of (w.text ++ rest)) go ≡ put_front (token_at at w ∷ []) (go (length w.text - 1))
 
-abbrev pub AreCut : List Word → Type 0
-AreCut [] = Unit {0}
-AreCut (w ∷ ws) = IsCut w × AreCut ws
+-- the line is cut into words of these symbols
+pub record IsCutInto (line : List ℕ) (symbols : List Symbol) : Type 0 where
+  pub tokens : ℕ → List Token
+  pub cut : (at : ℕ) → tokens_at 0 at line ≡ Ok (tokens at)
+  pub words : (before : List ℕ) → map (symbol_of (before ++ line)) (tokens (length before)) ≡ symbols
 
--- a blank is no token
-pub one_blank : (at : ℕ) (rest : List ℕ) → tokens_at 0 at (space ∷ rest) ≡ tokens_at 0 (at + 1) rest
+-- an empty line
+pub no_words : IsCutInto [] []
+no_words = record { tokens = λ at. []; cut = λ at. refl; words = λ before. refl }
+
+later : (before text : List ℕ) {rest : List ℕ} {symbols : List Symbol} (c : IsCutInto rest symbols)
+    → map (symbol_of (before ++ (text ++ rest))) (c.tokens (length before + length text)) ≡ symbols
+later before text {rest} c =
+    let line = sym (append_assoc before text rest) in
+    let at = sym (length-append before text) in
+    (λ i. map (symbol_of (line i)) (c.tokens (at i))) ∙ c.words (before ++ text)
+
+-- a blank before a line
+pub after_blank : {rest : List ℕ} {symbols : List Symbol} → IsCutInto rest symbols → IsCutInto (space ∷ rest) symbols
 unfolding lexeme_of
-one_blank at rest = refl
+after_blank c = record {
+  tokens = λ at. c.tokens (at + 1);
+  cut = λ at. c.cut (at + 1);
+  words = λ before. later before (space ∷ []) c;
+}
 
-one_word : (w : Word) (rest : List ℕ) (at : ℕ) → IsCut w
-    → tokens_at 0 at (w.text ++ space ∷ rest)
-    ≡ put_front (token_at at w ∷ []) (tokens_at 0 (at + length w.text + 1) rest)
-one_word w rest at is =
-    let l = w.text ++ space ∷ rest in
+one_token : (w : Word) (rest : List ℕ) (at : ℕ) → Stands w rest
+    → tokens_at 0 at (w.text ++ rest) ≡ put_front (token_at at w ∷ []) (tokens_at 0 (at + length w.text) rest)
+one_token w rest at is =
+    let l = w.text ++ rest in
     let n = length w.text in
     let same : 1 + (n - 1) ≡ n = omega (arith, is.some) in
+    let after : at + 1 + (n - 1) ≡ at + n = omega (arith, is.some) in
     from_front at l (simp length-append (omega (arith, is.some)))
-    ∙ is.front at rest (λ n. tokens_at 0 (at + 1 + n) (drop (1 + n) l))
-    ∙ ap (put_front (token_at at w ∷ []))
-    (ap (λ a. tokens_at 0 a (drop (1 + (n - 1)) l)) (omega (arith, is.some))
-    ∙ ap (λ k. tokens_at 0 (at + n) (drop k l)) same
-    ∙ ap (λ r. tokens_at 0 (at + n) r) (drop-append_seam w.text (space ∷ rest)) ∙ one_blank (at + n) rest)
-
--- words with a blank after each are cut into these words
-pub cut : (ws : List Word) (at : ℕ) → AreCut ws → tokens_at 0 at (laid ws) ≡ Ok (placed at ws)
-cut [] at h = refl
-cut (w ∷ ws) at h = one_word w (laid ws) at h.0
-    ∙ ap (put_front (token_at at w ∷ [])) (cut ws (at + length w.text + 1) h.1)
-
--- tokens of a line that are these words
-abbrev pub AreWords : List ℕ → List Token → List Word → Type 0
-AreWords line [] [] = Unit {0}
-AreWords line [] (w ∷ ws) = ⊥
-AreWords line (t ∷ ts) [] = ⊥
-AreWords line (t ∷ ts) (w ∷ ws) = (t.what ≡ w.what) × (slice_range line t.from t.to ≡ w.text) × AreWords line ts ws
+    ∙ is.front at (λ k. tokens_at 0 (at + 1 + k) (drop (1 + k) l))
+    ∙ (λ i. put_front (token_at at w ∷ []) (tokens_at 0 (after i) (drop (same i) l)))
+    ∙ ap (λ r. put_front (token_at at w ∷ []) (tokens_at 0 (at + n) r)) (drop-append_seam w.text rest)
 
 -- the bytes at the index of a word are the word
-pub word_within : (before text rest : List ℕ)
+word_within : (before text rest : List ℕ)
     → slice_range (before ++ (text ++ rest)) (length before) (length before + length text) ≡ text
 word_within before text rest =
     ap (λ l. take (length before + length text - length before) l) (drop-append_seam before (text ++ rest))
     ∙ ap (λ n. take n (text ++ rest)) (omega arith)
     ∙ take-append_seam text rest
 
--- the indices of words are those where the line has them
-pub placed_are : (before : List ℕ) (ws : List Word) (at : ℕ) → at ≡ length before
-    → AreWords (before ++ laid ws) (placed at ws) ws
-placed_are before [] at is = tt
-placed_are before (w ∷ ws) at is =
-    let next : at + length w.text + 1 ≡ length (before ++ (w.text ++ space ∷ [])) =
-    simp (length-append) (omega (arith, is)) in
-    let line : (before ++ (w.text ++ space ∷ [])) ++ laid ws ≡ before ++ (w.text ++ space ∷ laid ws) =
-    simp append_assoc in (
-      refl,
-      ap (λ n. slice_range (before ++ (w.text ++ space ∷ laid ws)) n (n + length w.text)) is
-          ∙ word_within before w.text (space ∷ laid ws),
-      subst (λ l. AreWords l (placed (at + length w.text + 1) ws) ws) line
-          (placed_are (before ++ (w.text ++ space ∷ [])) ws (at + length w.text + 1) next),
-    )
-
--- what a word is in a line
-abbrev pub symbol : Word → Symbol
-symbol w = symbol_by w.what w.text
-
--- tokens that are these words are these symbols
-pub are_symbols : (line : List ℕ) (ts : List Token) (ws : List Word) → AreWords line ts ws
-    → map (symbol_of line) ts ≡ map symbol ws
+-- a word before a line
+pub after_word : {w : Word} {rest : List ℕ} {symbols : List Symbol} → Stands w rest → IsCutInto rest symbols
+    → IsCutInto (w.text ++ rest) (symbol w ∷ symbols)
 unfolding symbol_of
-are_symbols line [] [] h = refl
-are_symbols line [] (w ∷ ws) h = absurd h
-are_symbols line (t ∷ ts) [] h = absurd h
-are_symbols line (t ∷ ts) (w ∷ ws) h =
-    ap (λ (x : What). symbol_by x (slice_range line t.from t.to) ∷ map (symbol_of line) ts) h.0
-    ∙ ap (λ x. symbol_by w.what x ∷ map (symbol_of line) ts) h.1
-    ∙ ap (λ l. symbol w ∷ l) (are_symbols line ts ws h.2)
+after_word {w} {rest} is c = record {
+  tokens = λ at. token_at at w ∷ c.tokens (at + length w.text);
+  cut = λ at. one_token w rest at is ∙ ap (put_front (token_at at w ∷ [])) (c.cut (at + length w.text));
+  words = λ before.
+      let first = word_within before w.text rest in
+      let more = later before w.text c in
+      (λ i. symbol_by w.what (first i) ∷ more i);
+}
 
--- the symbols of words with a blank after each
-pub line_symbols : (ws : List Word) → map (symbol_of (laid ws)) (placed 0 ws) ≡ map symbol ws
-line_symbols ws = are_symbols (laid ws) (placed 0 ws) ws (placed_are [] ws 0 refl)
+-- a line of these words says what their symbols do
+pub words_read : {line : List ℕ} {symbols : List Symbol} (s : StmtTree) → IsCutInto line symbols
+    → statement symbols ≡ Some s → token_line line ≡ Ok s
+words_read {line} {symbols} s c reads =
+    ap (λ r. and_then r (λ tokens. read (map (symbol_of line) tokens))) (c.cut 0)
+    ∙ ap read (c.words []) ∙ ap (or_fault (statement_fault symbols)) reads
+
+-- words, with a blank after each
+abbrev pub laid : List Word → List ℕ
+laid [] = []
+laid (w ∷ ws) = w.text ++ space ∷ laid ws
+
+-- the word is cut as a token of its own before a blank
+abbrev pub IsCut : Word → Type 0
+IsCut w = (rest : List ℕ) → Stands w (space ∷ rest)
+
+abbrev pub AreCut : List Word → Type 0
+AreCut [] = Unit {0}
+AreCut (w ∷ ws) = IsCut w × AreCut ws
+
+-- words with a blank after each are cut into these words
+pub laid_cut : (ws : List Word) → AreCut ws → IsCutInto (laid ws) (map symbol ws)
+laid_cut [] h = no_words
+laid_cut (w ∷ ws) h = after_word (h.0 (laid ws)) (after_blank (laid_cut ws h.1))

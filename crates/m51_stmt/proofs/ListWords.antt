@@ -5,7 +5,7 @@ use Rattle.m51_expr.specs.declared.symbol.Symbol.{Symbol}
 use Rattle.m51_stmt.specs.Grammar.{IsList, Last, Comma}
 use Rattle.m51_stmt.specs.Printing.{word_text, separated}
 use Rattle.m51_stmt.proofs.LineCuts.{Word, laid, AreCut, symbol}
-use Rattle.m51_stmt.proofs.WordCuts.{sign_word, comma_cut}
+use Rattle.m51_stmt.proofs.WordCuts.{sign_word, sign_cut}
 use Rattle.m51_stmt.proofs.PrintedTrees.{one_laid}
 
 abbrev pub comma_word : Word
@@ -39,7 +39,7 @@ pub list_cut : {A : Type 0} (P : A → Type 0) (words : A → List Word → List
 list_cut P words is [] h = tt
 list_cut P words is (a ∷ []) h = is a [] h.0 tt
 list_cut P words is (a ∷ b ∷ more) h =
-    is a (comma_word ∷ list_words words (b ∷ more)) h.0 (comma_cut, list_cut P words is (b ∷ more) h.1)
+    is a (comma_word ∷ list_words words (b ∷ more)) h.0 (sign_cut refl, list_cut P words is (b ∷ more) h.1)
 
 -- a list that has a part, each of which is so
 abbrev pub OneOrMore : {A : Type 0} → (A → Type 0) → List A → Type 0
@@ -64,6 +64,9 @@ two_parts g h p q = record {
       ∙ sym (append_assoc (map symbol (g [])) (map symbol (h [])) (map symbol rest))
       ∙ ap (λ l. l ++ map symbol rest) (sym (p.before (h [])));
 }
+
+pub after_word : {words : List Word → List Word} (w : Word) → IsPart words → IsPart (λ rest. w ∷ words rest)
+after_word {words} w p = two_parts (λ rest. w ∷ rest) words (one_part w) p
 
 -- a printed list is one of the grammar, where each part is
 pub list_said : {A : Type 0} (P : List Symbol → A → Type 0) (Q : A → Type 0) (words : A → List Word → List Word)

@@ -1,6 +1,6 @@
 -- What a line says after its label reads back.
-use Rattle.std.proofs.Common.{◌≡◌, ℕ, Bool, true, false, map, List, [], ◌∷◌, ◌++◌, Option, Some, None, refl, sym, ap}
-use Rattle.std.proofs.Common.{◌∙◌, subst, append-nil}
+use Rattle.std.proofs.Common.{◌≡◌, ℕ, Bool, true, false, map, List, [], ◌∷◌, Option, Some, None, refl, sym, ap}
+use Rattle.std.proofs.Common.{◌∙◌, subst, append-nil, append_assoc}
 use Rattle.std.specs.Prelude.{codes}
 use Rattle.m51_cells.specs.Name.{name_of}
 use Rattle.m51_cells.specs.declared.kind.Kind.{Kind}
@@ -19,20 +19,19 @@ use Rattle.m51_stmt.specs.declared.definitions.DefinitionWord.TheVariants as def
 use Rattle.m51_stmt.specs.declared.directives.Directive.{Directive}
 use Rattle.m51_stmt.specs.declared.directives.Directive.TheVariants as directive
 use Rattle.m51_stmt.specs.Statement as body
-use Rattle.m51_stmt.specs.Statement.{BodyTree, OperandTree, ItemTree}
+use Rattle.m51_stmt.specs.Statement.{BodyTree, OperandTree}
 use Rattle.m51_stmt.specs.Kinds.{kind_of, reloc_of}
 use Rattle.m51_expr.specs.Looks.{has_form}
 use Rattle.m51_stmt.specs.Definitions.{is_allowed, definition_word}
 use Rattle.m51_stmt.specs.Directives.{directive_of}
 use Rattle.m51_stmt.specs.Grammar as grammar
 use Rattle.m51_stmt.specs.Grammar.{IsSaid}
-use Rattle.m51_stmt.specs.Printing.{word_text, kind_word, reloc_word, select_word, separated, expr_text}
-use Rattle.m51_stmt.specs.Printing.{overlayable_text, segment_text, at_text, operand_text, item_text, extern_text}
+use Rattle.m51_stmt.specs.Printing.{word_text, kind_word, reloc_word, select_word}
+use Rattle.m51_stmt.specs.Printing.{overlayable_text, at_text, operand_text, item_text, extern_text}
 use Rattle.m51_stmt.specs.Printing.{body_text}
 use Rattle.m51_stmt.proofs.LineCuts.{Word, laid, AreCut, symbol}
-use Rattle.m51_stmt.proofs.WordCuts.{name_word, name_cut}
+use Rattle.m51_stmt.proofs.WordCuts.{name_word, name_cut, cuts}
 use Rattle.m51_stmt.proofs.PrintedTrees.{IsLeafName, IsTree, expr_words, expr_said, expr_cut, expr_laid, one_laid}
-use Rattle.m51_stmt.proofs.PrintedTrees.{five_joined}
 use Rattle.m51_stmt.proofs.ListWords.{Each, OneOrMore, some_each, list_words, list_laid, list_cut, list_said}
 use Rattle.m51_stmt.proofs.PrintedParts.{name_symbol}
 use Rattle.m51_stmt.proofs.PrintedOperands.{IsOperand, operand_words, operand_laid, operand_cut, operand_part}
@@ -123,47 +122,13 @@ body_words (body.Extrn externs) = name_word (codes "EXTRN") ∷ list_words exter
 body_words (body.ModuleName name) = name_word (codes "NAME") ∷ name_word name ∷ []
 
 -- the text of these words
-expr_alone : (word : List ℕ) (e : Tree) → word ++ 32 ∷ laid (expr_words e []) ≡ word_text word ++ expr_text e
-expr_alone word e = one_laid word (laid (expr_words e []))
-    ∙ ap (λ l. word_text word ++ l) (expr_laid e [] ∙ append-nil (expr_text e))
-
-two_words : (a b : List ℕ) → a ++ 32 ∷ (b ++ 32 ∷ []) ≡ word_text a ++ word_text b
-two_words a b = one_laid a (b ++ 32 ∷ [])
-
-define_text : (name word : List ℕ) (e : Tree) → name ++ 32 ∷ (word ++ 32 ∷ laid (expr_words e [])) ≡ word_text name
-    ++ (word_text word ++ expr_text e)
-define_text name word e = one_laid name (word ++ 32 ∷ laid (expr_words e []))
-    ∙ ap (λ l. word_text name ++ l) (expr_alone word e)
-
 overlayable_laid : (b : Bool) → laid (overlayable_words b) ≡ overlayable_text b
 overlayable_laid true = refl
 overlayable_laid false = refl
 
-segment_laid : (name : List ℕ) (k : Kind) (r : Reloc) (b : Bool)
-    → name ++ 32 ∷ (codes "SEGMENT" ++ 32 ∷ (kind_word k ++ 32 ∷ (reloc_word r ++ 32 ∷ laid (overlayable_words b))))
-    ≡ segment_text name k r b
-segment_laid name k r b =
-    ap (λ l. name ++ 32 ∷ (codes "SEGMENT" ++ 32 ∷ (kind_word k ++ 32 ∷ (reloc_word r ++ 32 ∷ l)))) (overlayable_laid b)
-    ∙ ap (λ l. name ++ 32 ∷ (codes "SEGMENT" ++ 32 ∷ (kind_word k ++ 32 ∷ l)))
-    (one_laid (reloc_word r) (overlayable_text b))
-    ∙ ap (λ l. name ++ 32 ∷ (codes "SEGMENT" ++ 32 ∷ l))
-    (one_laid (kind_word k) (word_text (reloc_word r) ++ overlayable_text b))
-    ∙ one_laid name (codes "SEGMENT" ++ 32
-    ∷ (word_text (kind_word k) ++ (word_text (reloc_word r) ++ overlayable_text b)))
-    ∙ five_joined (word_text name) (word_text (codes "SEGMENT")) (word_text (kind_word k)) (word_text (reloc_word r))
-    (overlayable_text b)
-
-select_laid : (k : Kind) (e : Option Tree) → select_word k ++ 32 ∷ laid (at_words e) ≡ word_text (select_word k)
-    ++ at_text e
-select_laid k None = one_laid (select_word k) []
-select_laid k (Some e) = one_laid (select_word k) (laid (at_words (Some e)))
-    ∙ ap (λ l. word_text (select_word k) ++ l) (expr_alone (codes "AT") e)
-
-listed : {A : Type 0} (word : List ℕ) (words : A → List Word → List Word) (text : A → List ℕ) (xs : List A)
-    → ((a : A) (rest : List Word) → laid (words a rest) ≡ text a ++ laid rest)
-    → word ++ 32 ∷ laid (list_words words xs) ≡ word_text word ++ separated text xs
-listed word words text xs is = one_laid word (laid (list_words words xs))
-    ∙ ap (λ l. word_text word ++ l) (list_laid words text is xs)
+at_laid : (e : Option Tree) → laid (at_words e) ≡ at_text e
+at_laid None = refl
+at_laid (Some e) = simp (expr_laid, append-nil)
 
 pub body_laid : (at : ℕ) (b : BodyTree) → IsBody at b → laid (body_words b) ≡ body_text b
 unfolding body_text
@@ -172,23 +137,19 @@ body_laid at body.Ignored is = absurd is
 body_laid at (body.Include name) is = absurd is
 body_laid at (body.Mod51 on) is = absurd is
 body_laid at body.End is = refl
-body_laid at (body.Code mnemonic operands) is = listed mnemonic operand_words operand_text operands operand_laid
-body_laid at (body.Db items) is = listed (codes "DB") item_words item_text items item_laid
-body_laid at (body.Dw items) is = listed (codes "DW") item_words item_text items item_laid
-body_laid at (body.Ds e) is = expr_alone (codes "DS") e
-body_laid at (body.Dbit e) is = expr_alone (codes "DBIT") e
-body_laid at (body.Org e) is = expr_alone (codes "ORG") e
-body_laid at (body.Using e) is = expr_alone (codes "USING") e
-body_laid at (body.Segment name k r overlayable) is = segment_laid name k r overlayable
-body_laid at (body.Rseg name) is = two_words (codes "RSEG") name
-body_laid at (body.Select k e) is = select_laid k e
-body_laid at (body.Equ name e) is = define_text name (codes "EQU") e
-body_laid at (body.Set name e) is = define_text name (codes "SET") e
-body_laid at (body.Address name k e) is = define_text name (kind_word k) e
-body_laid at (body.Public names) is =
-    listed (codes "PUBLIC") name_words word_text names (λ a rest. one_laid a (laid rest))
-body_laid at (body.Extrn externs) is = listed (codes "EXTRN") extern_words extern_text externs extern_laid
-body_laid at (body.ModuleName name) is = two_words (codes "NAME") name
+body_laid at (body.Rseg name) is = refl
+body_laid at (body.ModuleName name) is = refl
+body_laid at b is = simp (
+  expr_laid,
+  overlayable_laid,
+  at_laid,
+  list_laid operand_words operand_text operand_laid,
+  list_laid item_words item_text item_laid,
+  list_laid name_words word_text (λ a rest. one_laid a (laid rest)),
+  list_laid extern_words extern_text extern_laid,
+  append-nil,
+  append_assoc,
+)
 
 -- they are cut
 pub select_written : (k : Kind) → name_of (select_word k) ≡ Some (select_word k)
@@ -200,57 +161,26 @@ reloc_written reloc.Abs = refl
 reloc_written r = refl
 
 overlayable_cut : (b : Bool) → AreCut (overlayable_words b)
-overlayable_cut true = (name_cut (codes "OVERLAYABLE") refl, tt)
+overlayable_cut true = (name_cut refl, tt)
 overlayable_cut false = tt
 
 at_cut : (e : Option Tree) → IsAt e → AreCut (at_words e)
 at_cut None is = tt
-at_cut (Some e) is = (name_cut (codes "AT") refl, expr_cut e [] is tt)
+at_cut (Some e) is = (name_cut refl, expr_cut e [] is tt)
 
 pub body_cut : (at : ℕ) (b : BodyTree) → IsBody at b → AreCut (body_words b)
-body_cut at body.Empty is = tt
-body_cut at body.Ignored is = tt
-body_cut at (body.Include name) is = tt
-body_cut at (body.Mod51 on) is = tt
-body_cut at body.End is = (name_cut (codes "END") refl, tt)
 body_cut at (body.Code mnemonic operands) is =
-    (name_cut mnemonic is.written, list_cut IsOperand operand_words operand_cut operands is.each)
-body_cut at (body.Db items) is = (
-  name_cut (codes "DB") refl,
-  list_cut (IsItem true) item_words (item_cut true) items (some_each (IsItem true) items is),
-)
-body_cut at (body.Dw items) is = (
-  name_cut (codes "DW") refl,
-  list_cut (IsItem false) item_words (item_cut false) items
-      (some_each (IsItem false) items is),
-)
-body_cut at (body.Ds e) is = (name_cut (codes "DS") refl, expr_cut e [] is tt)
-body_cut at (body.Dbit e) is = (name_cut (codes "DBIT") refl, expr_cut e [] is tt)
-body_cut at (body.Org e) is = (name_cut (codes "ORG") refl, expr_cut e [] is tt)
-body_cut at (body.Using e) is = (name_cut (codes "USING") refl, expr_cut e [] is tt)
-body_cut at (body.Segment name k r overlayable) is = (
-  name_cut name is.1.name_is.leaf.written,
-  (
-    name_cut (codes "SEGMENT") refl,
-    (
-      name_cut (kind_word k) (kind_written k),
-      (name_cut (reloc_word r) (reloc_written r), overlayable_cut overlayable),
-    ),
-  ),
-)
-body_cut at (body.Rseg name) is = (name_cut (codes "RSEG") refl, (name_cut name is.written, tt))
-body_cut at (body.Select k e) is = (name_cut (select_word k) (select_written k), at_cut e is.1)
-body_cut at (body.Equ name e) is =
-    (name_cut name is.1.leaf.written, (name_cut (codes "EQU") refl, expr_cut e [] is.2 tt))
-body_cut at (body.Set name e) is =
-    (name_cut name is.1.leaf.written, (name_cut (codes "SET") refl, expr_cut e [] is.2 tt))
-body_cut at (body.Address name k e) is =
-    (name_cut name is.1.leaf.written, (name_cut (kind_word k) (kind_written k), expr_cut e [] is.3 tt))
+    (name_cut is.written, list_cut IsOperand operand_words operand_cut operands is.each)
+body_cut at (body.Db items) is =
+    (name_cut refl, list_cut (IsItem true) item_words (item_cut true) items (some_each (IsItem true) items is))
+body_cut at (body.Dw items) is =
+    (name_cut refl, list_cut (IsItem false) item_words (item_cut false) items (some_each (IsItem false) items is))
 body_cut at (body.Public names) is =
-    (name_cut (codes "PUBLIC") refl, list_cut IsLeafName name_words names_cut names (some_each IsLeafName names is))
+    (name_cut refl, list_cut IsLeafName name_words names_cut names (some_each IsLeafName names is))
 body_cut at (body.Extrn externs) is =
-    (name_cut (codes "EXTRN") refl, list_cut IsExtern extern_words extern_cut externs (some_each IsExtern externs is))
-body_cut at (body.ModuleName name) is = (name_cut (codes "NAME") refl, (name_cut name is.written, tt))
+    (name_cut refl, list_cut IsExtern extern_words extern_cut externs (some_each IsExtern externs is))
+body_cut at b is =
+    search (cuts, expr_cut, kind_written, reloc_written, select_written, at_cut, overlayable_cut)
 
 -- they are of the grammar
 operands_said : (os : List OperandTree) → Each IsOperand os
@@ -281,18 +211,18 @@ code_said labelled m os is =
     (sym (mnemonic_symbol m os is))
     (grammar.Instruction (mnemonic_is m os is.form) (operands_said os is.each) is.form)
 
-directive_said : (labelled : Bool) (w : List ℕ) (d : Directive) (rest : List Word) (b : BodyTree)
+directive_said : {labelled : Bool} (w : List ℕ) {d : Directive} (rest : List Word) {b : BodyTree}
     → directive_of w ≡ Some d → symbol (name_word w) ≡ symbols.Word w → grammar.IsDirective d (map symbol rest) b
     → IsSaid labelled (map symbol (name_word w ∷ rest)) b
-directive_said labelled w d rest b found word is =
+directive_said {labelled} w rest {b} found word is =
     subst (SaysFirst labelled (map symbol rest) b) (sym word) (grammar.Directed found is)
 
 -- a definition without a label before it
-define_said : (labelled : Bool) (name w : List ℕ) (d : DefinitionWord) (rest : List Word) (b : BodyTree)
+define_said : {labelled : Bool} (name w : List ℕ) {d : DefinitionWord} (rest : List Word) {b : BodyTree}
     → labelled ≡ false → IsFree name → definition_word w ≡ Some d → symbol (name_word w) ≡ symbols.Word w
     → grammar.IsDefinition name d (map symbol rest) b
     → IsSaid labelled (map symbol (name_word name ∷ name_word w ∷ rest)) b
-define_said labelled name w d rest b bare free found word is =
+define_said {labelled} name w rest {b} bare free found word is =
     subst (λ l. IsSaid l (map symbol (name_word name ∷ name_word w ∷ rest)) b) (sym bare)
     (subst (SaysFirst false (symbol (name_word w) ∷ map symbol rest) b) (sym (name_symbol name free.leaf))
     (subst (λ s. IsSaid false (symbols.Name name ∷ s ∷ map symbol rest) b) (sym word)
@@ -346,52 +276,38 @@ body_said labelled at first body.Empty is = grammar.Nothing
 body_said labelled at first body.Ignored is = absurd is
 body_said labelled at first (body.Include name) is = absurd is
 body_said labelled at first (body.Mod51 on) is = absurd is
-body_said labelled at first body.End is =
-    directive_said labelled (codes "END") directive.End [] body.End refl refl grammar.End
+body_said labelled at first body.End is = directive_said (codes "END") [] refl refl grammar.End
 body_said labelled at first (body.Code m os) is = code_said labelled m os is
 body_said labelled at first (body.Db items) is =
-    directive_said labelled (codes "DB") directive.Db (list_words item_words items) (body.Db items) refl refl
-    (grammar.Db (items_said items is))
+    directive_said (codes "DB") (list_words item_words items) refl refl (grammar.Db (items_said items is))
 body_said labelled at first (body.Dw items) is =
-    directive_said labelled (codes "DW") directive.Dw (list_words item_words items) (body.Dw items) refl refl
-    (grammar.Dw (values_said items is))
+    directive_said (codes "DW") (list_words item_words items) refl refl (grammar.Dw (values_said items is))
 body_said labelled at first (body.Ds e) is =
-    directive_said labelled (codes "DS") directive.Ds (expr_words e []) (body.Ds e) refl refl
-    (grammar.Ds (expr_said e is))
+    directive_said (codes "DS") (expr_words e []) refl refl (grammar.Ds (expr_said e is))
 body_said labelled at first (body.Dbit e) is =
-    directive_said labelled (codes "DBIT") directive.Dbit (expr_words e []) (body.Dbit e) refl refl
-    (grammar.Dbit (expr_said e is))
+    directive_said (codes "DBIT") (expr_words e []) refl refl (grammar.Dbit (expr_said e is))
 body_said labelled at first (body.Org e) is =
-    directive_said labelled (codes "ORG") directive.Org (expr_words e []) (body.Org e) refl refl
-    (grammar.Org (expr_said e is))
+    directive_said (codes "ORG") (expr_words e []) refl refl (grammar.Org (expr_said e is))
 body_said labelled at first (body.Using e) is =
-    directive_said labelled (codes "USING") directive.Using (expr_words e []) (body.Using e) refl refl
-    (grammar.Using (expr_said e is))
+    directive_said (codes "USING") (expr_words e []) refl refl (grammar.Using (expr_said e is))
 body_said labelled at first (body.Segment name k r b) is =
-    define_said labelled name (codes "SEGMENT") definition.Segment
-    (name_word (kind_word k) ∷ name_word (reloc_word r) ∷ overlayable_words b) (body.Segment name k r b) (first is.0)
-    is.1.name_is refl refl (segment_said name k r b is.1)
+    define_said name (codes "SEGMENT") (name_word (kind_word k) ∷ name_word (reloc_word r) ∷ overlayable_words b)
+    (first is.0) is.1.name_is refl refl (segment_said name k r b is.1)
 body_said labelled at first (body.Rseg name) is =
-    directive_said labelled (codes "RSEG") directive.Rseg (name_words name []) (body.Rseg name) refl refl
-    (grammar.Rseg (name_said name is))
+    directive_said (codes "RSEG") (name_words name []) refl refl (grammar.Rseg (name_said name is))
 body_said labelled at first (body.Select k e) is =
-    directive_said labelled (select_word k) (directive.Select k) (at_words e) (body.Select k e) is.0 (select_symbol k)
-    (select_said k e is.1)
+    directive_said (select_word k) (at_words e) is.0 (select_symbol k) (select_said k e is.1)
 body_said labelled at first (body.Equ name e) is =
-    define_said labelled name (codes "EQU") definition.Equ (expr_words e []) (body.Equ name e) (first is.0) is.1 refl
-    refl (grammar.Equ (expr_said e is.2))
+    define_said name (codes "EQU") (expr_words e []) (first is.0) is.1 refl refl (grammar.Equ (expr_said e is.2))
 body_said labelled at first (body.Set name e) is =
-    define_said labelled name (codes "SET") definition.Set (expr_words e []) (body.Set name e) (first is.0) is.1 refl
-    refl (grammar.Set (expr_said e is.2))
+    define_said name (codes "SET") (expr_words e []) (first is.0) is.1 refl refl (grammar.Set (expr_said e is.2))
 body_said labelled at first (body.Address name k e) is =
-    define_said labelled name (kind_word k) (definition.Address k) (expr_words e []) (body.Address name k e)
-    (first is.0) is.1 (kind_defines k is.2) (kind_symbol k) (grammar.Address (expr_said e is.3))
+    define_said name (kind_word k) (expr_words e []) (first is.0) is.1 (kind_defines k is.2) (kind_symbol k)
+    (grammar.Address (expr_said e is.3))
 body_said labelled at first (body.Public names) is =
-    directive_said labelled (codes "PUBLIC") directive.Public (list_words name_words names) (body.Public names) refl
-    refl (grammar.Public (names_said names is))
+    directive_said (codes "PUBLIC") (list_words name_words names) refl refl (grammar.Public (names_said names is))
 body_said labelled at first (body.Extrn externs) is =
-    directive_said labelled (codes "EXTRN") directive.Extrn (list_words extern_words externs) (body.Extrn externs) refl
-    refl (grammar.Extrn (externs_said externs is))
+    directive_said (codes "EXTRN") (list_words extern_words externs) refl refl
+    (grammar.Extrn (externs_said externs is))
 body_said labelled at first (body.ModuleName name) is =
-    directive_said labelled (codes "NAME") directive.Name (name_words name []) (body.ModuleName name) refl refl
-    (grammar.ModuleName (name_said name is))
+    directive_said (codes "NAME") (name_words name []) refl refl (grammar.ModuleName (name_said name is))

@@ -1,5 +1,5 @@
 -- The printed names of EXTRN read back.
-use Rattle.std.proofs.Common.{◌≡◌, ℕ, false, map, List, [], ◌∷◌, ◌++◌, Some, None, refl, sym, ap, ◌∙◌, subst}
+use Rattle.std.proofs.Common.{◌≡◌, ℕ, false, map, List, [], ◌∷◌, ◌++◌, Some, None, refl, sym, append_assoc, subst}
 use Rattle.std.specs.Prelude.{codes}
 use Rattle.m51_cells.specs.Name.{name_of}
 use Rattle.m51_cells.specs.declared.kind.Kind.{Kind}
@@ -12,8 +12,8 @@ use Rattle.m51_stmt.specs.Kinds.{kind_of, extern_kind_of}
 use Rattle.m51_stmt.specs.Grammar as grammar
 use Rattle.m51_stmt.specs.Printing.{word_text, kind_word, extern_text}
 use Rattle.m51_stmt.proofs.LineCuts.{Word, laid, AreCut, symbol}
-use Rattle.m51_stmt.proofs.WordCuts.{name_word, name_cut, open_cut, close_cut}
-use Rattle.m51_stmt.proofs.PrintedTrees.{IsLeafName, open_word, close_word, one_laid, five_joined}
+use Rattle.m51_stmt.proofs.WordCuts.{name_word, name_cut, sign_cut}
+use Rattle.m51_stmt.proofs.PrintedTrees.{IsLeafName, open_word, close_word}
 use Rattle.m51_stmt.proofs.ListWords.{OneOrMore, list_words}
 use Rattle.m51_stmt.proofs.PrintedParts.{name_symbol}
 
@@ -37,20 +37,17 @@ unfolding kind_of
 kind_read kind.Code = refl
 kind_read k = refl
 
-around : (k n r : List ℕ)
-    → k ++ 32 ∷ 0x28 ∷ 32 ∷ (n ++ 32 ∷ 0x29 ∷ 32 ∷ r)
-    ≡ (((word_text k ++ word_text (codes "(")) ++ word_text n) ++ word_text (codes ")")) ++ r
-around k n r =
-    one_laid k (0x28 ∷ 32 ∷ (n ++ 32 ∷ 0x29 ∷ 32 ∷ r))
-    ∙ ap (λ l. word_text k ++ (0x28 ∷ 32 ∷ l)) (one_laid n (0x29 ∷ 32 ∷ r))
-    ∙ five_joined (word_text k) (word_text (codes "(")) (word_text n) (word_text (codes ")")) r
+around : (k s p n c r : List ℕ)
+    → k ++ (s ++ (p ++ (n ++ (s ++ (c ++ r))))) ≡ ((((k ++ s) ++ p) ++ (n ++ s)) ++ c) ++ r
+around k s p n c r = sym (simp append_assoc)
 
 pub extern_laid : (x : List ℕ × Kind) (rest : List Word) → laid (extern_words x rest) ≡ extern_text x ++ laid rest
-extern_laid x rest = around (kind_word x.1) x.0 (laid rest)
+extern_laid x rest =
+    around (kind_word x.1) (codes " ") (word_text (codes "(")) x.0 (word_text (codes ")")) (laid rest)
 
 pub extern_cut : (x : List ℕ × Kind) (rest : List Word) → IsExtern x → AreCut rest → AreCut (extern_words x rest)
 extern_cut x rest is more =
-    (name_cut (kind_word x.1) (kind_written x.1), (open_cut, (name_cut x.0 is.leaf.written, (close_cut, more))))
+    (name_cut (kind_written x.1), (sign_cut refl, (name_cut is.leaf.written, (sign_cut refl, more))))
 
 pub kind_symbol : (k : Kind) → symbol (name_word (kind_word k)) ≡ symbols.Word (kind_word k)
 unfolding operator_of prefix_word relation_word arithmetic_word is_language_word

@@ -22,7 +22,7 @@ abbrev pub name_words : List ℕ → List Word → List Word
 name_words name rest = name_word name ∷ rest
 
 pub names_cut : (name : List ℕ) (rest : List Word) → IsLeafName name → AreCut rest → AreCut (name_words name rest)
-names_cut name rest is more = (name_cut name is.written, more)
+names_cut name rest is more = (name_cut is.written, more)
 
 pub name_said : (name : List ℕ) → IsLeafName name → grammar.IsName (map symbol (name_words name [])) name
 name_said name is = subst (λ s. grammar.IsName (s ∷ []) name) (sym (name_symbol name is)) grammar.Name
@@ -55,14 +55,11 @@ item_cut texts (Text characters) rest is more = (text_cut characters, more)
 
 one_character : (c : ℕ) (rest : List ℕ) → (c == quote) ≡ false → characters (c ∷ rest) ≡ c ∷ characters rest
 one_character c [] other = refl
-one_character c (d ∷ more) other = ap (λ b. cond b (c ∷ characters more) (c ∷ characters (d ∷ more))) other
-
-is_quote : (c : ℕ) → (c == quote) ≡ true → quote ≡ c
-is_quote c h = grind (arith, common_steps, h)
+one_character c (d ∷ more) other = grind (arith, common_steps, other)
 
 undoubled_by : (c : ℕ) (more : List ℕ) (b : Bool) → (c == quote) ≡ b → characters (doubled more) ≡ more
     → characters (cond b (quote ∷ quote ∷ doubled more) (c ∷ doubled more)) ≡ c ∷ more
-undoubled_by c more true is h = ap (λ l. quote ∷ l) h ∙ ap (λ q. q ∷ more) (is_quote c is)
+undoubled_by c more true is h = let same : quote ≡ c = grind (arith, common_steps, is) in (λ i. same i ∷ h i)
 undoubled_by c more false is h = one_character c (doubled more) is ∙ ap (λ l. c ∷ l) h
 
 undoubled : (cs : List ℕ) → characters (doubled cs) ≡ cs
@@ -81,11 +78,8 @@ text_symbol cs = ap (λ l. symbols.Text (characters l)) (between (doubled cs)) �
 
 -- an expression that is printed is no text
 no_text : (e : Tree) → IsTree e → grammar.is_text_alone (map symbol (expr_words e [])) ≡ false
-no_text (tree.Number n) is = refl
 no_text (tree.Name name) is = ap (λ s. grammar.is_text_alone (s ∷ [])) (name_symbol name is)
-no_text tree.Here is = refl
-no_text (tree.One op e) is = refl
-no_text (tree.Two op left right) is = refl
+no_text e is = refl
 
 item_said : (i : ItemTree) → IsItem true i → grammar.IsItem (map symbol (item_words i [])) i
 item_said (Value e) is = grammar.Value (no_text e is) (expr_said e is)

@@ -12,9 +12,9 @@ use Rattle.m51_stmt.specs.Grammar as grammar
 use Rattle.m51_stmt.specs.Operands.{register, pointer, sum}
 use Rattle.m51_stmt.specs.Printing.{register_word, operand_text}
 use Rattle.m51_stmt.proofs.LineCuts.{Word, laid, IsCut, AreCut, symbol}
-use Rattle.m51_stmt.proofs.WordCuts.{name_word, sign_word, name_cut, hash_cut, over_cut, at_cut, plus_cut}
+use Rattle.m51_stmt.proofs.WordCuts.{name_word, sign_word, name_cut, sign_cut, cuts}
 use Rattle.m51_stmt.proofs.PrintedTrees.{IsTree, expr_words, expr_said, expr_cut, expr_laid, one_laid}
-use Rattle.m51_stmt.proofs.ListWords.{IsPart, one_part, two_parts}
+use Rattle.m51_stmt.proofs.ListWords.{IsPart, after_word, one_part}
 use Rattle.m51_stmt.proofs.PrintedParts.{expr_part}
 
 -- an operand that can be read: its register has a number, and its tree is one of an expression
@@ -58,21 +58,12 @@ register_written n h = of_register (λ n. name_of (register_word n) ≡ Some (re
     refl refl refl n h
 
 register_cut : (n : ℕ) → n < 8 → IsCut (name_word (register_word n))
-register_cut n h = name_cut (register_word n) (register_written n h)
+register_cut n h = name_cut (register_written n h)
 
 pub operand_cut : (o : OperandTree) (rest : List Word) → IsOperand o → AreCut rest → AreCut (operand_words o rest)
-operand_cut A rest is more = (name_cut (codes "A") refl, more)
-operand_cut Ab rest is more = (name_cut (codes "AB") refl, more)
-operand_cut C rest is more = (name_cut (codes "C") refl, more)
-operand_cut Dptr rest is more = (name_cut (codes "DPTR") refl, more)
-operand_cut APc rest is more = (at_cut, (name_cut (codes "A") refl, (plus_cut, (name_cut (codes "PC") refl, more))))
-operand_cut ADptr rest is more = (at_cut, (name_cut (codes "A") refl, (plus_cut, (name_cut (codes "DPTR") refl, more))))
-operand_cut AtDptr rest is more = (at_cut, (name_cut (codes "DPTR") refl, more))
 operand_cut (R n) rest is more = (register_cut n is, more)
-operand_cut (AtR n) rest is more = (at_cut, (register_cut n (omega (arith, is)), more))
-operand_cut (Imm e) rest is more = (hash_cut, expr_cut e rest is more)
-operand_cut (Plain e) rest is more = expr_cut e rest is more
-operand_cut (NotBit e) rest is more = (over_cut, expr_cut e rest is more)
+operand_cut (AtR n) rest is more = (sign_cut refl, (register_cut n (omega (arith, is)), more))
+operand_cut o rest is more = search (cuts, expr_cut, more)
 
 register_symbol : (n : ℕ) → n < 8 → symbol (name_word (register_word n)) ≡ symbols.Word (register_word n)
 unfolding operator_of prefix_word relation_word arithmetic_word is_language_word
@@ -108,19 +99,6 @@ operand_said (Imm e) is = grammar.Immediate (expr_said e is)
 operand_said (Plain e) is = grammar.Address (expr_said e is)
 operand_said (NotBit e) is = grammar.Inverted (expr_said e is)
 
-after_word : {words : List Word → List Word} (w : Word) → IsPart words → IsPart (λ rest. w ∷ words rest)
-after_word {words} w p = two_parts (λ rest. w ∷ rest) words (one_part w) p
-
 pub operand_part : (o : OperandTree) → IsPart (λ rest. operand_words o rest)
-operand_part APc = after_word _ (after_word _ (after_word _ (one_part _)))
-operand_part ADptr = after_word _ (after_word _ (after_word _ (one_part _)))
-operand_part AtDptr = after_word _ (one_part _)
-operand_part (AtR n) = after_word _ (one_part _)
-operand_part (Imm e) = after_word _ (expr_part e)
 operand_part (Plain e) = expr_part e
-operand_part (NotBit e) = after_word _ (expr_part e)
-operand_part A = one_part _
-operand_part Ab = one_part _
-operand_part C = one_part _
-operand_part Dptr = one_part _
-operand_part (R n) = one_part _
+operand_part o = search (after_word, expr_part, one_part)

@@ -1,29 +1,28 @@
 -- Printed statements read back.
-use Rattle.std.proofs.Common.{◌≡◌, ℕ, ◌<◌, ◌==◌, ◌&&◌, true, false, cond, nat_le, not, map, List, [], ◌∷◌, ◌++◌, length}
+use Rattle.std.proofs.Common.{◌≡◌, ℕ, ◌<◌, ◌==◌, true, false, cond, map, List, [], ◌∷◌, ◌++◌, length}
 use Rattle.std.proofs.Common.{take, drop, Option, Some, None, Ok, Err, refl, sym, ap, ◌∙◌, arith, subst, append_assoc}
-use Rattle.std.proofs.Common.{inl, inr, ◌⊎◌}
+use Rattle.std.proofs.Common.{inl, inr, rules, ◌⊎◌}
 use Rattle.std.specs.Prelude.{codes, option_and_then}
-use Rattle.std.specs.Char.{is_ascii_digit}
 use Rattle.std.specs.List.{list_all, prefix_len}
+use Rattle.std.proofs.lemmas.Bool.{and_parts}
 use Rattle.std.proofs.lemmas.Grind.{common_steps}
 use Rattle.std.proofs.Math.Seq.{drop-append_seam, take-append_seam}
-use Rattle.m51_cells.proofs.NameLaws.{named_is_name}
+use Rattle.m51_cells.proofs.NameLaws.{name_parts, named_is_name}
 use Rattle.m51_cells.proofs.Small.{not_zero}
 use Rattle.m51_cells.specs.Name as cells
 use Rattle.m51_cells.specs.Name.{name_of, is_name}
 use Rattle.m51_cells.specs.declared.fault.TheConstants.{BAD_FORM}
 use Rattle.m51_expr.specs.declared.symbol.Symbol.TheVariants as symbols
-use Rattle.m51_expr.specs.Symbol.{symbol_of}
-use Rattle.m51_stmt.specs.Answer.{and_then, or_fault}
+use Rattle.m51_stmt.specs.Answer.{and_then}
 use Rattle.m51_stmt.specs.Statement as body
 use Rattle.m51_stmt.specs.Statement.{BodyTree, StmtTree}
 use Rattle.m51_stmt.specs.Control as control
 use Rattle.m51_stmt.specs.Control.{is_inside, behind_sign, if_ended, closed_at, include_of, is_ignored_word}
 use Rattle.m51_stmt.specs.Grammar as grammar
-use Rattle.m51_stmt.specs.Lines.{statement, statement_fault, read, control_line, token_line, any_line}
+use Rattle.m51_stmt.specs.Lines.{statement, control_line, token_line, any_line}
 use Rattle.m51_stmt.specs.Printing.{word_text, body_text, stmt_text}
-use Rattle.m51_stmt.proofs.LineCuts.{Word, laid, AreCut, cut, symbol, line_symbols}
-use Rattle.m51_stmt.proofs.WordCuts.{name_word, sign_word, name_cut, colon_cut, left, right, run_stops}
+use Rattle.m51_stmt.proofs.LineCuts.{Word, laid, laid_cut, symbol, words_read}
+use Rattle.m51_stmt.proofs.WordCuts.{name_word, sign_word, name_cut, sign_cut, run_ends}
 use Rattle.m51_stmt.proofs.PrintedTrees.{one_laid}
 use Rattle.m51_stmt.proofs.PrintedParts.{name_symbol}
 use Rattle.m51_stmt.proofs.PrintedExterns.{IsFree}
@@ -60,23 +59,7 @@ body_begins at body.Empty is = inl refl
 body_begins at body.Ignored is = absurd is
 body_begins at (body.Include name) is = absurd is
 body_begins at (body.Mod51 on) is = absurd is
-body_begins at body.End is = inr (begun _ _ refl)
-body_begins at (body.Code m os) is = inr (begun _ _ is.written)
-body_begins at (body.Db items) is = inr (begun _ _ refl)
-body_begins at (body.Dw items) is = inr (begun _ _ refl)
-body_begins at (body.Ds e) is = inr (begun _ _ refl)
-body_begins at (body.Dbit e) is = inr (begun _ _ refl)
-body_begins at (body.Org e) is = inr (begun _ _ refl)
-body_begins at (body.Using e) is = inr (begun _ _ refl)
-body_begins at (body.Segment name k r b) is = inr (begun _ _ is.1.name_is.leaf.written)
-body_begins at (body.Rseg name) is = inr (begun _ _ refl)
-body_begins at (body.Select k e) is = inr (begun _ _ (select_written k))
-body_begins at (body.Equ name e) is = inr (begun _ _ is.1.leaf.written)
-body_begins at (body.Set name e) is = inr (begun _ _ is.1.leaf.written)
-body_begins at (body.Address name k e) is = inr (begun _ _ is.1.leaf.written)
-body_begins at (body.Public names) is = inr (begun _ _ refl)
-body_begins at (body.Extrn externs) is = inr (begun _ _ refl)
-body_begins at (body.ModuleName name) is = inr (begun _ _ refl)
+body_begins at b is = inr (begun _ _ (search (rules, select_written)))
 
 no_dollar : (c : ℕ) → cells.is_name_byte c ≡ true → (c == 0x24) ≡ false
 no_dollar c h = grind (arith, common_steps)
@@ -89,9 +72,7 @@ pub name_line : (text rest : List ℕ) → is_name text ≡ true → any_line (t
 unfolding any_line
 name_line [] rest h = absurd (cc h)
 name_line (c ∷ more) rest h =
-    let all = right (not (is_ascii_digit c) && nat_le (length (c ∷ more)) 31) (list_all cells.is_name_byte (c ∷ more))
-    h in
-    let is : cells.is_name_byte c ≡ true = left (cells.is_name_byte c) (list_all cells.is_name_byte more) all in
+    let is = (and_parts (cells.is_name_byte c) (list_all cells.is_name_byte more) (name_parts c more h).bytes).0 in
     let line = c ∷ (more ++ rest) in
     ap (λ b. cond b (control_line (drop 1 line)) (cond (c == 0x25) (Err BAD_FORM) (token_line line))) (no_dollar c is)
     ∙ ap (λ b. cond b (Err BAD_FORM) (token_line line)) (no_percent c is)
@@ -100,13 +81,6 @@ begun_line : (ws : List Word) → Begins ws → any_line (laid ws) ≡ token_lin
 begun_line ws b =
     let P : List Word → Type 0 = λ ws. any_line (laid ws) ≡ token_line (laid ws) in
     subst P (sym b.is) (name_line b.name (32 ∷ laid b.rest) (named_is_name b.name b.name b.written))
-
--- a line of words is read as what its symbols say
-tokens_line : (ws : List Word) → AreCut ws → (s : StmtTree) → statement (map symbol ws) ≡ Some s
-    → token_line (laid ws) ≡ Ok s
-tokens_line ws is s reads =
-    ap (λ r. and_then r (λ tokens. read (map (symbol_of (laid ws)) tokens))) (cut ws 0 is)
-    ∙ ap read (line_symbols ws) ∙ ap (or_fault (statement_fault (map symbol ws))) reads
 
 abbrev bare : BodyTree → StmtTree
 bare b = record { label = None; body = b }
@@ -127,7 +101,7 @@ bare_printed b is (inl empty) = let P : BodyTree → Type 0 = λ b. any_line (st
     subst P (sym empty) refl
 bare_printed b is (inr begins) =
     ap any_line (sym (body_laid 0 b is)) ∙ begun_line (body_words b) begins
-    ∙ tokens_line (body_words b) (body_cut 0 b is) (bare b) (bare_read b is)
+    ∙ words_read (bare b) (laid_cut (body_words b) (body_cut 0 b is)) (bare_read b is)
 
 -- after a label
 abbrev labelled_words : List ℕ → BodyTree → List Word
@@ -152,7 +126,7 @@ labelled_printed name b label is =
     let ws = labelled_words name b in
     ap any_line (sym (labelled_laid name b is))
     ∙ begun_line ws (begun name (sign_word 0x3A ∷ body_words b) label.leaf.written)
-    ∙ tokens_line ws (name_cut name label.leaf.written, (colon_cut, body_cut 2 b is)) (labelled name b)
+    ∙ words_read (labelled name b) (laid_cut ws (name_cut label.leaf.written, (sign_cut refl, body_cut 2 b is)))
     (labelled_read name b label is)
 
 -- controls
@@ -160,7 +134,7 @@ closed_here : (name : List ℕ) → 0 < length name → list_all is_inside name 
     → closed_at (name ++ 0x29 ∷ 32 ∷ []) (prefix_len is_inside (name ++ 0x29 ∷ 32 ∷ [])) ≡ Some name
 closed_here name some all =
     let x = name ++ 0x29 ∷ 32 ∷ [] in
-    ap (closed_at x) (run_stops is_inside name 0x29 (32 ∷ []) all refl)
+    ap (closed_at x) (run_ends is_inside name (0x29 ∷ 32 ∷ []) all refl)
     ∙ ap (λ b. cond b None
     (option_and_then (if_ended (take (length name) x)) (behind_sign 0x29 (drop (length name) x))))
     (not_zero (length name) some)

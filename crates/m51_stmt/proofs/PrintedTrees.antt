@@ -22,8 +22,7 @@ use Rattle.m51_expr.proofs.Complete.{ends_within}
 use Rattle.m51_stmt.specs.Grammar.{IsExpr}
 use Rattle.m51_stmt.specs.Printing.{word_text, number_text, unary_word, binary_word, expr_text}
 use Rattle.m51_stmt.proofs.LineCuts.{Word, laid, IsCut, AreCut, symbol}
-use Rattle.m51_stmt.proofs.WordCuts.{name_word, number_word, sign_word, name_cut, number_cut, open_cut, close_cut}
-use Rattle.m51_stmt.proofs.WordCuts.{plus_cut, minus_cut, times_cut, over_cut, dot_cut, here_cut}
+use Rattle.m51_stmt.proofs.WordCuts.{name_word, number_word, sign_word, name_cut, number_cut, sign_cut, cuts}
 
 -- a name that an expression may have
 pub record IsLeafName (name : List ℕ) : Type 0 where
@@ -76,62 +75,40 @@ expr_words (tree.Two op left right) rest =
 pub one_laid : (text rest : List ℕ) → text ++ space ∷ rest ≡ word_text text ++ rest
 one_laid text rest = sym (append_assoc text (space ∷ []) rest)
 
-five : (a l b m c r : List ℕ) → a ++ (l ++ (b ++ (m ++ (c ++ r)))) ≡ ((((a ++ l) ++ b) ++ m) ++ c) ++ r
-five a l b m c r = sym (simp append_assoc)
-
-around : (l b m r : List ℕ) → 0x28 ∷ space ∷ (l ++ (b ++ space ∷ (m ++ 0x29 ∷ space ∷ r)))
-    ≡ ((((word_text (codes "(") ++ l) ++ word_text b) ++ m) ++ word_text (codes ")")) ++ r
-around l b m r =
-    ap (λ x. 0x28 ∷ space ∷ (l ++ x)) (sym (append_assoc b (space ∷ []) (m ++ 0x29 ∷ space ∷ r)))
-    ∙ five (word_text (codes "(")) l (word_text b) m (word_text (codes ")")) r
+around : (p l b s m c r : List ℕ)
+    → p ++ (l ++ (b ++ (s ++ (m ++ (c ++ r))))) ≡ ((((p ++ l) ++ (b ++ s)) ++ m) ++ c) ++ r
+around p l b s m c r = sym (simp append_assoc)
 
 -- these words are the printed text
 pub expr_laid : (e : Tree) (rest : List Word) → laid (expr_words e rest) ≡ expr_text e ++ laid rest
 expr_laid (tree.Number n) rest = one_laid (number_text n) (laid rest)
 expr_laid (tree.Name name) rest = one_laid name (laid rest)
 expr_laid tree.Here rest = refl
-expr_laid (tree.One op e) rest =
-    ap (λ l. 0x28 ∷ space ∷ (unary_word op ++ space ∷ l)) (expr_laid e (close_word ∷ rest)) ∙ simp append_assoc
+expr_laid (tree.One op e) rest = simp (expr_laid e (close_word ∷ rest), append_assoc)
 expr_laid (tree.Two op left right) rest =
-    ap (λ l. 0x28 ∷ space ∷ l) (expr_laid left (between_word op ∷ expr_words right (close_word ∷ rest)))
-    ∙ ap (λ l. 0x28 ∷ space ∷ (expr_text left ++ (binary_word op ++ space ∷ l))) (expr_laid right (close_word ∷ rest))
-    ∙ around (expr_text left) (binary_word op) (expr_text right) (laid rest)
+    rw (expr_laid left (between_word op ∷ expr_words right (close_word ∷ rest)))
+    (rw (expr_laid right (close_word ∷ rest))
+    (around (word_text (codes "(")) (expr_text left) (binary_word op) (space ∷ []) (expr_text right)
+    (word_text (codes ")")) (laid rest)))
 
 before_cut : (op : Unary) → IsCut (before_word op)
-before_cut op1.Plus = plus_cut
-before_cut op1.Minus = minus_cut
-before_cut op1.High = name_cut (codes "HIGH") refl
-before_cut op1.Low = name_cut (codes "LOW") refl
-before_cut op1.Not = name_cut (codes "NOT") refl
+before_cut op1.Plus = sign_cut refl
+before_cut op = search cuts
 
 between_cut : (op : Binary) → IsCut (between_word op)
-between_cut op2.Mul = times_cut
-between_cut op2.Div = over_cut
-between_cut op2.Add = plus_cut
-between_cut op2.Sub = minus_cut
-between_cut op2.Dot = dot_cut
-between_cut op2.Rem = name_cut (codes "MOD") refl
-between_cut op2.Shl = name_cut (codes "SHL") refl
-between_cut op2.Shr = name_cut (codes "SHR") refl
-between_cut op2.Eq = name_cut (codes "EQ") refl
-between_cut op2.Ne = name_cut (codes "NE") refl
-between_cut op2.Lt = name_cut (codes "LT") refl
-between_cut op2.Le = name_cut (codes "LE") refl
-between_cut op2.Gt = name_cut (codes "GT") refl
-between_cut op2.Ge = name_cut (codes "GE") refl
-between_cut op2.And = name_cut (codes "AND") refl
-between_cut op2.Or = name_cut (codes "OR") refl
-between_cut op2.Xor = name_cut (codes "XOR") refl
+between_cut op2.Mul = sign_cut refl
+between_cut op = search cuts
 
 pub expr_cut : (e : Tree) (rest : List Word) → IsTree e → AreCut rest → AreCut (expr_words e rest)
-expr_cut (tree.Number n) rest h more = (number_cut n h, more)
-expr_cut (tree.Name name) rest h more = (name_cut name h.written, more)
-expr_cut tree.Here rest h more = (here_cut, more)
-expr_cut (tree.One op e) rest h more = (open_cut, (before_cut op, expr_cut e (close_word ∷ rest) h (close_cut, more)))
+expr_cut (tree.Number n) rest h more = (number_cut h, more)
+expr_cut (tree.Name name) rest h more = (name_cut h.written, more)
+expr_cut tree.Here rest h more = (sign_cut refl, more)
+expr_cut (tree.One op e) rest h more =
+    (sign_cut refl, (before_cut op, expr_cut e (close_word ∷ rest) h (sign_cut refl, more)))
 expr_cut (tree.Two op left right) rest h more = (
-  open_cut,
+  sign_cut refl,
   expr_cut left (between_word op ∷ expr_words right (close_word ∷ rest)) h.0
-      (between_cut op, expr_cut right (close_word ∷ rest) h.1 (close_cut, more)),
+      (between_cut op, expr_cut right (close_word ∷ rest) h.1 (sign_cut refl, more)),
 )
 
 before_is : (op : Unary) → prefix_of (Some (symbol (before_word op))) (prefix_rank op) ≡ Some op
@@ -238,7 +215,3 @@ expr_said e is =
     let w = written (line_of_symbols l) 0 e [] is (stand l (expr_words e []) 0 refl) in
     let all : w.next ≡ length l = omega (arith, ends_within l w.writes, past_end l w.next w.then) in
     record { writes = subst (Writes (line_of_symbols l) 0 0 e) all (looser 8 0 (omega arith) (omega arith) w.writes) }
-
--- five consecutive texts, however they are joined
-pub five_joined : (a b c d e : List ℕ) → a ++ (b ++ (c ++ (d ++ e))) ≡ (((a ++ b) ++ c) ++ d) ++ e
-five_joined a b c d e = sym (simp append_assoc)

@@ -9,7 +9,7 @@ use Rattle.std.specs.List.{prefix_len, slice_range}
 use Rattle.std.proofs.lemmas.Grind.{common_steps}
 use Rattle.std.proofs.lemmas.Option.{same_Some}
 use Rattle.m51_cells.specs.Name.{name_of, is_name}
-use Rattle.m51_cells.proofs.NameLaws.{upper_again, name_upper}
+use Rattle.m51_cells.proofs.NameLaws.{upper_again, name_upper, named_is_name}
 use Rattle.m51_lex.specs.declared.token.Token.{Token}
 use Rattle.m51_lex.specs.declared.token.What.{What}
 use Rattle.m51_lex.specs.declared.token.What.TheVariants as what
@@ -28,7 +28,6 @@ use Rattle.m51_expr.specs.Ranks.{leaf_of, text_value}
 use Rattle.m51_expr.specs.Reading.{line_of_symbols}
 use Rattle.m51_expr.specs.Grammar.{Writes, Leaf, Parens, Before, Between, Tighter}
 use Rattle.m51_stmt.specs.Laws.{IsByte}
-use Rattle.m51_stmt.proofs.WordCuts.{passed}
 use Rattle.m51_stmt.proofs.PrintedTrees.{IsLeafName, IsTree}
 use Rattle.m51_stmt.proofs.ListWords.{Each}
 use Rattle.m51_stmt.proofs.IfRead.{IfSome, some_is, none_is, some_cond, some_or, IfRead, ok_is, err_is, read_cond, flip}
@@ -58,7 +57,7 @@ written_again text word h =
     let is : upper ≡ word = kept (is_name text) upper word h in
     let P : List ℕ → Type 0 = λ w. name_of w ≡ Some w in
     subst P is (
-    ap (λ b. cond b (Some (map to_ascii_uppercase upper)) None) (name_upper text (passed (is_name text) upper word h))
+    ap (λ b. cond b (Some (map to_ascii_uppercase upper)) None) (name_upper text (named_is_name text word h))
     ∙ ap Some (upper_again text))
 
 -- a word of the language

@@ -1,10 +1,11 @@
-use Rattle.m51_asm.proofs.Common.{◌<◌, ◌≤◌, ◌≡◌, ◌==◌, map, length, ap, sym, subst, ◌∙◌, add-one, arith, length-map}
+use Rattle.m51_asm.proofs.Common.{◌≤◌, ◌≡◌, ◌==◌, map, length, ap, sym, subst, ◌∙◌, add-one, arith, length-map}
 use Rattle.m51_asm.proofs.Common.{line_tree, TextSegment, IsGivenTo, nothing_gathered, gathered_before, number_at}
 use Rattle.m51_text.proofs.Telling.{is_nothing}
 use Rattle.m51_emit.specs.Within.{LieInside}
 use Rattle.m51_emit.specs.declared.content.EmittedContent.{EmittedContent}
 use Rattle.m51_asm.proofs.AnAssignment.{fitting, fits}
-use Rattle.m51_asm.proofs.ReadLines.{line_at, place_at}
+use Rattle.std.proofs.lemmas.Option.{slice_get_within}
+use Rattle.m51_asm.proofs.AnsweredLines.{read_at}
 use Rattle.m51_asm.proofs.GivenLines.{first_given}
 use Rattle.m51_asm.proofs.GatheredLines.{placed_text, segments_few, first_gathered, next_gathered, given_fits}
 use Rattle.m51_asm.proofs.GatheredLines.{line_lies}
@@ -35,66 +36,53 @@ loop-k-init c =
 pub gather_line-requires-clause-memory : goal.gather_line-requires-clause-memory
 gather_line-requires-clause-memory c = λ clean.
     let t = c.args.text.now in
-    let read = t.text.lines.now in
-    let lines = map line_tree read in
+    let lines = map line_tree t.text.lines.now in
     let k = c.loop-k.k in
     let a = fitting lines in
-    let f = fits lines in
-    let ready = c.requires.ready a f in
-    let within : k < length read = omega arith in
-    let room : k < length t.places.now = omega arith in
-    let said = line_at read k c.index-lines-k.result within c.index-lines-k.is in
-    let stands = place_at lines a t.places.now k _ room ready.placed.each in
-    let h = c.loop-k.invariant.0 a f in
-    let after = c.in_ok-content.ensures.given lines a k ready said stands h in
-    let none = is_nothing c.give_line.new.contents.faults (sym c.is_empty-is_clean.ensures ∙ clean) in
+    let ready = c.requires.ready a (fits lines) in
+    let r = read_at t.text.lines.now a t.places.now ready.placed.each k (omega arith) (omega arith) _
+    c.index-lines-k.is _ in
+    let here = c.in_ok-content.ensures.given lines a k ready r.0 r.1 (c.loop-k.invariant.0 a (fits lines)) in
     given_fits lines a (placed_text lines a t c.requires.text ready) k _ c.in_ok-content.content
-    (omega (arith, within, length-map read line_tree))
-    (after.clean none k (omega arith)) stands.offset
-    (c.in_ok-content.ensures.content lines a k ready said stands h)
+    (slice_get_within lines k _ r.0)
+    (here.1.clean (is_nothing c.give_line.new.contents.faults (sym c.is_empty-is_clean.ensures ∙ clean)) k
+    (omega arith))
+    r.1.offset here.0
 
 pub gather_line-requires-clause-inside : goal.gather_line-requires-clause-inside
 gather_line-requires-clause-inside c =
     let t = c.args.text.now in
-    let read = t.text.lines.now in
-    let lines = map line_tree read in
+    let lines = map line_tree t.text.lines.now in
     let k = c.loop-k.k in
     let a = fitting lines in
-    let f = fits lines in
-    let ready = c.requires.ready a f in
-    let within : k < length read = omega arith in
-    let room : k < length t.places.now = omega arith in
-    let said = line_at read k c.index-lines-k.result within c.index-lines-k.is in
-    let stands = place_at lines a t.places.now k _ room ready.placed.each in
+    let ready = c.requires.ready a (fits lines) in
+    let r = read_at t.text.lines.now a t.places.now ready.placed.each k (omega arith) (omega arith) _
+    c.index-lines-k.is _ in
     subst (λ (x : EmittedContent). LieInside (length x.bytes) x.references)
-    (sym (c.in_ok-content.ensures.content lines a k ready said stands (c.loop-k.invariant.0 a f)))
+    (sym (c.in_ok-content.ensures.given lines a k ready r.0 r.1 (c.loop-k.invariant.0 a (fits lines))).0)
     (line_lies lines a k)
 
 pub loop-k-preserved : goal.loop-k-preserved
 loop-k-preserved c =
     let t = c.args.text.now in
-    let read = t.text.lines.now in
-    let lines = map line_tree read in
+    let lines = map line_tree t.text.lines.now in
     let k = c.loop-k.k in
-    let within : k < length read = omega arith in
-    let room : k < length t.places.now = omega arith in
-    let said = line_at read k c.index-lines-k.result within c.index-lines-k.is in
     rw add-one (
       λ a f.
           let ready = c.requires.ready a f in
-          c.in_ok-content.ensures.given lines a k ready said (place_at lines a t.places.now k _ room ready.placed.each)
-          (c.loop-k.invariant.0 a f),
+          let r = read_at t.text.lines.now a t.places.now ready.placed.each k (omega arith) (omega arith) _
+          c.index-lines-k.is _ in
+          (c.in_ok-content.ensures.given lines a k ready r.0 r.1 (c.loop-k.invariant.0 a f)).1,
       λ none a f.
           let ready = c.requires.ready a f in
-          let place = place_at lines a t.places.now k _ room ready.placed.each in
-          let before = c.in_ok-content.ensures.faults none in
+          let r = read_at t.text.lines.now a t.places.now ready.placed.each k (omega arith) (omega arith) _
+          c.index-lines-k.is _ in
           next_gathered lines a (placed_text lines a t c.requires.text ready) k _ _
           c.in_ok-content.content t.numbering.now.segments c.loop-k.gathered.items _ ready.numbered.segments
-          (ap (λ (s : TextSegment). number_at t.numbering.now.numbers s.id) place.segment
+          (ap (λ (s : TextSegment). number_at t.numbering.now.numbers s.id) r.1.segment
           ∙ ready.numbered.each (a.segment k).id)
-          place.offset
-          (c.in_ok-content.ensures.content lines a k ready said place (c.loop-k.invariant.0 a f))
-          (c.loop-k.invariant.1 before a f)
+          r.1.offset (c.in_ok-content.ensures.given lines a k ready r.0 r.1 (c.loop-k.invariant.0 a f)).0
+          (c.loop-k.invariant.1 (c.in_ok-content.ensures.faults none) a f)
           (c.in_ok-gather_line.ensures (c.is_empty-is_clean.ensures ∙ ap (λ fs. length fs == 0) none)),
     )
 

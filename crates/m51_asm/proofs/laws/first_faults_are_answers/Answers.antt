@@ -1,4 +1,4 @@
-use Rattle.m51_asm.proofs.FirstFaults.{fault_answer, content_answer}
+use Rattle.m51_asm.proofs.AnsweredLines.{fault_answer, content_answer}
 use Rattle.m51_asm.proofs.laws.first_faults_are_answers.Goals as goal
 
 pub returns-clause-fault : goal.returns-clause-fault

@@ -1,7 +1,7 @@
 use Rattle.m51_asm.proofs.Common.{◌≡◌, ◌<◌, map, length, ap, sym, subst, ◌∙◌, add-one, arith, length-map, line_tree}
 use Rattle.m51_asm.proofs.Common.{ArePlaces, IsPassedTo}
 use Rattle.m51_asm.specs.Placing.{IsLineOutcome}
-use Rattle.m51_asm.proofs.ReadLines.{line_at}
+use Rattle.m51_asm.proofs.AnsweredLines.{line_at}
 use Rattle.m51_asm.proofs.PassedLines.{reached, no_places, passed_more}
 use Rattle.m51_asm.proofs.passing.place_lines.Goals as goal
 

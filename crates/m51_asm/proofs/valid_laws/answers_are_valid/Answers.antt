@@ -1,4 +1,4 @@
-use Rattle.m51_asm.proofs.ValidAnswers.{answers_are_valid}
+use Rattle.m51_asm.proofs.ValidParts.{answers_are_valid}
 use Rattle.m51_asm.proofs.valid_laws.answers_are_valid.Goals as goal
 
 pub returns : goal.returns

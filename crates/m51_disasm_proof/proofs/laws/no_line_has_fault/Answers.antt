@@ -1,5 +1,5 @@
 use Rattle.m51_disasm.specs.Parts.{code_ranges}
-use Rattle.m51_disasm_proof.proofs.DisassemblyRead.{given}
+use Rattle.m51_disasm_proof.proofs.TextRead.{given}
 use Rattle.m51_disasm_proof.proofs.PartsInOrder.{parts_in_order, parts_small}
 use Rattle.m51_disasm_proof.proofs.Reassembled.{faultless}
 use Rattle.m51_disasm_proof.proofs.laws.no_line_has_fault.Goals as goal

@@ -1,4 +1,4 @@
-use Rattle.m51_disasm_proof.proofs.DisassemblyRead.{disassembly_read}
+use Rattle.m51_disasm_proof.proofs.TextRead.{disassembly_read}
 use Rattle.m51_disasm_proof.proofs.laws.texts_read_back.Goals as goal
 
 pub returns : goal.returns

@@ -1,5 +1,5 @@
 use Rattle.m51_asm.proofs.Common.{ap, ◌∙◌, ℕ, Vec, lookup, bytes_eq, first_in}
-use Rattle.m51_asm.proofs.NamedEntries.{lookup_is}
+use Rattle.m51_asm.proofs.PublicKeys.{lookup_is}
 use Rattle.m51_asm.proofs.names.TextNames.first.Goals as goal
 
 pub returns : goal.returns

@@ -1,5 +1,4 @@
-use Rattle.m51_asm.proofs.Common.{◌≡◌, ap, map, refl, ◌∙◌, line_tree, Giving, definitions_in, brief, value_in}
-use Rattle.m51_asm.proofs.Common.{given_or}
+use Rattle.m51_asm.proofs.Common.{◌≡◌, ap, map, refl, ◌∙◌, line_tree, Giving, definitions_in, brief, value_in, given_or}
 use Rattle.std.proofs.Common.{rules}
 use Rattle.m51_stmt.specs.Statement.{stmt_tree}
 use Rattle.m51_asm.proofs.GivenValues.{have_numbers}
@@ -23,10 +22,7 @@ returns c = λ lines a f is none at told counts.
       line = c.args.k;
       externals = c.args.self.now.externals;
     } in
-    at_next lines a f c.args.k (line_tree c.args.line.now) is (free lines a c.args.k none) c.args.self.now at
-    c.args.told.now told
-    c.args.counts.now counts
-    (record { next = c.requires.next; segments = c.requires.segments; externals = c.requires.externals })
+    at_next f (line_tree c.args.line.now) is (free lines a c.args.k none) at told counts c.requires.small
     g refl c.given.ensures refl refl _
     (λ name. c.in_ok-take_in.ensures name
     ∙ ap (λ ds. given_or g ds name (value_in c.args.self.now.values name)) defined)

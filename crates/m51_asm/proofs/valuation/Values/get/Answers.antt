@@ -1,6 +1,6 @@
 use Rattle.m51_asm.proofs.Common.{ap, ◌∙◌, ℕ, Vec, lookup, bytes_eq, value_in}
-use Rattle.m51_asm.specs.Above.{known}
-use Rattle.m51_asm.proofs.KeptMeanings.{lookup_value}
+use Rattle.m51_asm.specs.Values.{known}
+use Rattle.m51_asm.proofs.GivenValues.{lookup_value}
 use Rattle.m51_asm.proofs.valuation.Values.get.Goals as goal
 
 pub returns : goal.returns

@@ -1,6 +1,6 @@
 use Rattle.m51_asm.proofs.Common.{◌≡◌, cond, ap, ◌∙◌, bytes_eq, value_in}
-use Rattle.m51_asm.specs.Above.{valuation_of}
-use Rattle.m51_asm.proofs.KeptMeanings.{put_value}
+use Rattle.m51_asm.specs.Values.{valuation_of}
+use Rattle.m51_asm.proofs.GivenValues.{put_value}
 use Rattle.m51_asm.proofs.valuation.Values.put.Goals as goal
 
 pub returns : goal.returns

@@ -26,16 +26,16 @@ index-part-requires c =
     (rw (← c.self.view_is) at c.requires) in
     omega (arith, stands _ _ _ _ _ _ _ _ e.entry c.index-start.ensures c.from.ensures c.from-2.ensures, e.entry.within)
 
-pub overflow_cast-result : goal.overflow_cast-result
-overflow_cast-result c =
+pub overflow_cast-part : goal.overflow_cast-part
+overflow_cast-part c =
     let e = part_entry _ _ _ _ _ _ c.args.module c.args.segment c.self.invariant
     (rw (← c.self.view_is) at c.requires) in
     let is = reads _ _ _ _ _ _ _ _ _ e.entry c.index-start.ensures c.from.ensures c.from-2.ensures c.index-part.ensures
     in
     omega (arith, e.number, ap (λ (x : SegmentPart). x.number) is)
 
-pub overflow_cast-result-2 : goal.overflow_cast-result-2
-overflow_cast-result-2 c =
+pub overflow_cast-result : goal.overflow_cast-result
+overflow_cast-result c =
     let e = part_entry _ _ _ _ _ _ c.args.module c.args.segment c.self.invariant
     (rw (← c.self.view_is) at c.requires) in
     let is = reads _ _ _ _ _ _ _ _ _ e.entry c.index-start.ensures c.from.ensures c.from-2.ensures c.index-part.ensures
@@ -48,4 +48,4 @@ returns c =
     (rw (← c.self.view_is) at c.requires) in
     let is = reads _ _ _ _ _ _ _ _ _ e.entry c.index-start.ensures c.from.ensures c.from-2.ensures c.index-part.ensures
     in
-    rw (← c.self.view_is) (ap (λ (x : SegmentPart). (x.number, x.offset)) is ∙ e.value)
+    rw (← c.self.view_is, c.new.ensures) (ap (λ (x : SegmentPart). (x.number, x.offset)) is ∙ e.value)

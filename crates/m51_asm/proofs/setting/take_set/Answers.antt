@@ -1,7 +1,7 @@
 use Rattle.m51_asm.proofs.Common.{subst, line_tree}
 use Rattle.m51_asm.specs.ValuesAt.{PutsIf}
 use Rattle.m51_asm.proofs.TextValues.{set_next}
-use Rattle.m51_asm.proofs.values_at.take_set.Goals as goal
+use Rattle.m51_asm.proofs.setting.take_set.Goals as goal
 
 pub returns : goal.returns
 returns c = λ lines a k is place before.

@@ -1,0 +1,6 @@
+use Rattle.m51_place.proofs.Common.{◌≡◌, map, range_with_len}
+use Rattle.m51_place.specs.Placement.{joined_base}
+use Rattle.m51_place.proofs.layouts.joined_bases.Given as goal
+
+abbrev pub invariant-loop-number : goal.invariant-loop-number
+invariant-loop-number l = l.bases.items ≡ map (joined_base l.located) (range_with_len 0 l.number)

@@ -2,7 +2,7 @@
 ghost use Rattle.std.specs.Prelude.{◌≡◌, ℕ, List, Some, map, slice_get};
 ghost use Rattle.m51_expr.specs.Operand.{operand_tree};
 ghost use Rattle.m51_encode.specs.Coding.{seen, look_in, line, line_row, row_of, coded_as, gathered, coded_in, coded};
-ghost use Rattle.m51_encode.specs.Coding.{outcomes_in, outcomes, length_of};
+ghost use Rattle.m51_encode.specs.Coding.{outcomes_in, outcomes};
 
 use crate::choosing::address_after;
 use crate::filling::{CodingError, Held, filled, references_of};
@@ -166,19 +166,5 @@ pub fn code<L: Lookup>(names: &L, mnemonic: &Name, operands: &[Operand], jump: J
     match row_of(mnemonic, operands, jump) {
         Some(row) => code_row(names, &row, operands),
         None => NO_SUCH_ROW,
-    }
-}
-
-/// How many bytes an instruction of a source has, 1 to 3, whatever the values of its operands; none where it has no
-/// row. `jump` as for [`row_of`].
-///
-/// Source: family manual.
-#[tactic(auto, unfolding(crate::specs::Coding::length_of))]
-pub fn length_of(mnemonic: &Name, operands: &[Operand], jump: Jump) -> Option<u8>
-    ensures { result ≡ length_of mnemonic.now (map operand_tree operands.now) jump }
-{
-    match row_of(mnemonic, operands, jump) {
-        Some(row) => Some(length(&row)),
-        None => None,
     }
 }

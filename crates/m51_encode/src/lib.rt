@@ -15,7 +15,7 @@ mod reference;
 mod taking;
 
 pub use choosing::{jump_form, located_jump_form};
-pub use coding::{Coded, Coding, code, code_row, length_of, row_of};
+pub use coding::{Coded, Coding, code, code_row, row_of};
 pub use field_laws::{
     blocks_lead_to_targets, chosen_jumps_reach, references_have_bits, relatives_lead_to_targets,
 };

@@ -30,7 +30,7 @@ use std::alloc::Global;
 #[derive(Drop)]
 pub struct Placing {
     pub layout: Layout,
-    /// For each joined segment, by its number, its base.
+    /// For each joined segment, by its number, its base: an address, for BIT that of a bit.
     pub bases: ListOf<u16>,
 }
 

@@ -3,7 +3,7 @@ ghost use Rattle.std.specs.Prelude.{◌≡◌, ℕ};
 
 use std::marker::Model;
 
-/// The number of a joined segment, counted from 0. Contracts see it as that number.
+/// The number of a joined segment, counted from 0: below 2,000, the limit of a link. Contracts see it as that number.
 ///
 /// Source: own choice ("Joined segments").
 #[derive(Clone, Copy, Debug, PartialEq, Eq)]

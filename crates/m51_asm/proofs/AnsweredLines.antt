@@ -1,28 +1,25 @@
--- The first line that has a fault by the lines above it gives the answer.
-use Rattle.m51_asm.proofs.Common.{◌≡◌, ℕ, zero, suc, ◌+◌, ◌<◌, ◌≤◌, List, [], ◌∷◌, length, Option, Some, None, refl, ap}
-use Rattle.m51_asm.proofs.Common.{◌∙◌, slice_get, arith, LineTree, Assignment, content_faults, Faults, first_fault}
-use Rattle.m51_asm.proofs.Common.{content_or_faults, AreFree, IsFirstFault, Lines, map, get_or, option_map, line_tree}
-use Rattle.m51_asm.proofs.Common.{LinePlace, IsPlaceOf, ArePlaces, ◌==◌, false, ◌++◌, take, Ok, Err, sym, length-take}
-use Rattle.m51_asm.proofs.Common.{Fault, Row, SourceFile, StmtTree, rows_from, rows, faults_from, IsGivenTo, IsText}
-use Rattle.m51_asm.proofs.Common.{Result}
-use Rattle.m51_asm.specs.PlacedFaults.{placed_fault}
-use Rattle.m51_asm.specs.ContentFaults.{fault_of_line, content_fault}
-use Rattle.m51_asm.specs.Answer.{fault_or, placed_or_fault, answer_of_lines, Gives}
-use Rattle.m51_text.specs.Answer.{TextTree, Faults as TextFaults, statements_of, with_statement}
-use Rattle.m51_asm.specs.AnswerLaws.{HasOneAnswer}
-use Rattle.m51_asm.proofs.OneAssignment.{same}
-use Rattle.m51_asm.proofs.AnAssignment.{fitting, fits}
+-- The answer of a text: that of the first line that has a fault by the lines above it, or else the faults of content,
+-- or the module and the rows; no other. Also how lines are read in a loop, and that a text has at most 65,536.
+use Rattle.m51_asm.proofs
+use Rattle.m51_asm.specs
+use proofs.Common.{◌≡◌, ℕ, zero, suc, ◌+◌, ◌<◌, ◌≤◌, List, [], ◌∷◌, length, Option, Some, None, refl, ap, slice_get}
+use proofs.Common.{arith, LineTree, Assignment, content_faults, Faults, first_fault, content_or_faults, AreFree}
+use proofs.Common.{IsFirstFault, Lines, map, get_or, line_tree, LinePlace, IsPlaceOf, ArePlaces, ◌==◌, false, take}
+use proofs.Common.{length-take, Fault, Row, SourceFile, rows, IsGivenTo, IsText}
+use specs.PlacedFaults.{placed_fault}
+use specs.ContentFaults.{fault_of_line}
+use specs.Answer.{answer_of_lines, Gives}
+use Rattle.m51_text.specs.Answer.{TextTree, Faults as TextFaults, statements_of}
+use specs.AnswerLaws.{HasOneAnswer}
+use proofs.AnAssignment.{same, fitting, fits}
 use Rattle.std.proofs.lemmas.Option.{slice_get-map, slice_get_read, slice_get-get_or}
 use Rattle.m51_text.specs.declared.text.Line.{Line}
-use Rattle.m51_text.specs.Faults.{faults_of}
 use Rattle.std.proofs.Math.Seq.{drop-length}
 use Rattle.std.proofs.lemmas.List.{append-nil}
 use Rattle.m51_module.specs.declared.parts.ModuleParts.{ModuleParts}
-use Rattle.m51_text.specs.Said.{said}
 use Rattle.m51_text.specs.Text.{file_lines, text_lines, TextLine}
-use Rattle.m51_asm.specs.declared.contents.Contents.{Contents}
-use Rattle.m51_asm.specs.Parts.{parts}
-use Rattle.m51_asm.proofs.GoodLines.{found_are}
+use specs.declared.contents.Contents.{Contents}
+use specs.Parts.{parts}
 
 -- a number further on
 pub moved : (n k : ℕ) → suc n + k ≡ n + suc k
@@ -33,34 +30,32 @@ module _ (fault : ℕ → Option ℕ) where
       → first_fault fault n lines ≡ None
   no_fault [] n h = refl
   no_fault (l ∷ lines) n h =
-      ap (λ o. fault_or l o (first_fault fault (suc n) lines)) (h n (omega arith) (omega arith))
-      ∙ no_fault lines (suc n) (λ m low up. h m (omega arith) (omega arith))
+      cc (h n (omega arith) (omega arith), no_fault lines (suc n) (λ m low up. h m (omega arith) (omega arith)))
 
   fault_first : (lines : List LineTree) (n k m : ℕ) (line : LineTree) (number : ℕ) → slice_get lines k ≡ Some line
       → m ≡ n + k → fault m ≡ Some number → ((j : ℕ) → n ≤ j → j < m → fault j ≡ None)
       → first_fault fault n lines ≡ Some (fault_of_line line number)
   fault_first [] n k m line number is at found earlier = absurd (cc is)
-  fault_first (l ∷ lines) n zero m line number is at found earlier =
-      let same : l ≡ line = cc is in
-      let here : n ≡ m = omega arith in
-      λ i. fault_or (same i) ((ap fault here ∙ found) i) (first_fault fault (suc n) lines)
+  fault_first (l ∷ lines) n zero m line number is at found earlier = grind arith
   fault_first (l ∷ lines) n (suc k) m line number is at found earlier =
-      ap (λ o. fault_or l o (first_fault fault (suc n) lines)) (earlier n (omega arith) (omega arith))
-      ∙ fault_first lines (suc n) k m line number is (omega arith) found (λ j low up. earlier j (omega arith) up)
+      cc (
+        earlier n (omega arith) (omega arith),
+        fault_first lines (suc n) k m line number is (omega arith) found (λ j
+            low up. earlier j (omega arith) up),
+      )
 
 pub fault_answer : (file : List ℕ) (lines : List LineTree) (a : Assignment) (k number : ℕ) (line : LineTree)
     → slice_get lines k ≡ Some line
     → IsFirstFault lines a k number → answer_of_lines file lines a ≡ Faults (fault_of_line line number ∷ [])
 unfolding answer_of_lines
 fault_answer file lines a k number line is h =
-    ap (placed_or_fault file lines a)
-    (fault_first (placed_fault lines a) lines 0 k k line number is (omega arith) h.found (λ j low up. h.earlier j up))
+    cc (fault_first (placed_fault lines a) lines 0 k k line number is (omega arith) h.found (λ j low up. h.earlier j
+    up))
 
 pub content_answer : (file : List ℕ) (lines : List LineTree) (a : Assignment) → AreFree lines a (length lines)
     → answer_of_lines file lines a ≡ content_or_faults file lines a (content_faults lines a)
 unfolding answer_of_lines
-content_answer file lines a h =
-    ap (placed_or_fault file lines a) (no_fault (placed_fault lines a) lines 0 (λ m low up. h m (omega arith)))
+content_answer file lines a h = cc (no_fault (placed_fault lines a) lines 0 (λ m low up. h m (omega arith)))
 
 -- the answer of a text, and no other
 pub one_answer : (file : List ℕ) (text : TextTree) → HasOneAnswer file text
@@ -74,8 +69,7 @@ one_answer file (Lines lines) = record {
 pub line_at : (lines : List Line) (k : ℕ) (line : Line) → k < length lines → line ≡ get_or lines k line
     → slice_get (map line_tree lines) k ≡ Some (line_tree line)
 line_at lines k line within is =
-    slice_get-map line_tree lines k
-    ∙ ap (option_map line_tree) (slice_get_read lines (length lines) k line refl within is)
+    cc (slice_get-map line_tree lines k, slice_get_read lines (length lines) k line refl within is)
 
 -- a line that is read in a loop over the lines of a text and their places, and its place
 pub read_at : (lines : List Line) (a : Assignment) (places : List LinePlace) → ArePlaces (map line_tree lines) a places
@@ -89,43 +83,30 @@ read_at lines a places each k within room line is d =
 module _ (lines : List LineTree) (a : Assignment) (c : Contents) (h : IsGivenTo lines a (length lines) c) where
   -- the faults of all lines
   pub all_faults : content_faults lines a ≡ c.faults
-  all_faults =
-      sym h.faults ∙ ap (λ ls. c.faults ++ faults_from (content_fault lines a) (length lines) ls) (drop-length lines)
-      ∙ append-nil c.faults
+  all_faults = cc (drop-length lines, append-nil c.faults)
 
   -- the rows of all lines
   pub all_rows : c.rows ≡ rows lines a
-  all_rows =
-      sym (append-nil c.rows) ∙ ap (λ ls. c.rows ++ rows_from lines a (length lines) ls) (sym (drop-length lines))
-      ∙ h.rows
+  all_rows = cc (append-nil c.rows, drop-length lines)
 
 module _ (file : List ℕ) (lines : List LineTree) (a : Assignment) (free : AreFree lines a (length lines)) where
   some_by : (faults : List Fault) → (length faults == 0) ≡ false → Faults faults ≡ content_or_faults file lines a faults
-  some_by [] some = absurd (cc some)
-  some_by (fault ∷ faults) some = refl
+  some_by b some = grind arith
 
   -- where content has faults, they are the answer
   pub faults_answer : (faults : List Fault) → content_faults lines a ≡ faults → (length faults == 0) ≡ false
       → Faults faults ≡ answer_of_lines file lines a
-  faults_answer faults e some = some_by faults some ∙ ap (content_or_faults file lines a) (sym e)
-      ∙ sym (content_answer file lines a free)
+  faults_answer faults e some = cc (some_by faults some, content_answer file lines a free)
 
   -- where it has none, the module and the rows are
   pub module_answer : (m : ModuleParts) (listed : List Row) → content_faults lines a ≡ [] → m ≡ parts file lines a
       → listed ≡ rows lines a
       → Gives m listed ≡ answer_of_lines file lines a
-  module_answer m listed none made all =
-      (λ i. Gives (made i) (all i)) ∙ ap (content_or_faults file lines a) (sym none)
-      ∙ sym (content_answer file lines a free)
-
-with_few : (line : TextLine) (r : Result StmtTree ℕ) (more : List LineTree) (n : ℕ) → length more ≤ n
-    → length (with_statement line r more) ≤ suc n
-with_few line (Ok s) more n h = omega (arith, h)
-with_few line (Err e) more n h = omega (arith, h)
+  module_answer m listed none made all = cc (content_answer file lines a free)
 
 said_few : (ls : List TextLine) → length (statements_of ls) ≤ length ls
 said_few [] = omega arith
-said_few (l ∷ ls) = with_few l (said l.bytes) (statements_of ls) (length ls) (said_few ls)
+said_few (l ∷ ls) = grind (arith, said_few ls)
 
 short : {A : Type 0} (n : ℕ) (xs : List A) → length (take n xs) ≤ n
 short n xs = omega (arith, length-take n xs)
@@ -136,7 +117,4 @@ read_few source includes = short 65536 (file_lines includes 8 0 source.bytes)
 
 -- a text has at most 65,536 lines
 pub lines_few : (lines : List LineTree) → IsText lines → length lines ≤ 65536
-lines_few lines text =
-    let ls = text_lines text.source text.includes in
-    let is : statements_of ls ≡ lines = found_are (faults_of text.includes ls) (statements_of ls) lines text.read in
-    omega (arith, said_few ls, read_few text.source text.includes, ap length is)
+lines_few lines text = grind (arith, said_few, read_few)

@@ -1,23 +1,24 @@
 -- What holds of the bases that names and the place of a statement have, and of the numbers of their bits, holds of the
--- value of each expression.
-use Rattle.m51_asm.proofs.Common.{◌≡◌, ℕ, ◌==◌, List, Option, Some, None, Ok, refl, ap, subst, arith, ltb-false, Base}
-use Rattle.m51_asm.proofs.Common.{Value, Tree, Valued, Meanings, zero, suc, ◌+◌, ◌<◌, ◌≤◌, nat_lt, Bool, true, false}
-use Rattle.m51_asm.proofs.Common.{cond, [], ◌∷◌, ◌++◌, length, option_map, Err, sym, ltb-true, Kind, BodyTree, LineTree}
-use Rattle.m51_asm.proofs.Common.{Definition, Label, SegmentOf, EquOf, SetOf, AddressOf, ExternOf, label_defined}
-use Rattle.m51_asm.proofs.Common.{defined_by, externals_from, found_in, or_later, definition_from, Assignment, body_at}
-use Rattle.m51_asm.proofs.Common.{here_at, if_before, set_by, register_or_predefined, externals_in, value_by}
-use Rattle.m51_asm.proofs.Common.{named_value, Fits}
+-- value of each expression. So the names of a text count only from segments of the text and externals that it declares.
+use Rattle.m51_asm.proofs
+use Rattle.m51_asm.specs
+use proofs.Common.{◌≡◌, ℕ, ◌==◌, List, Option, Some, None, Ok, refl, ap, subst, arith, ltb-false, Base, Value, Tree}
+use proofs.Common.{Valued, Meanings, zero, suc, ◌+◌, ◌<◌, ◌≤◌, nat_lt, Bool, true, false, cond, [], ◌∷◌, ◌++◌, length}
+use proofs.Common.{option_map, Err, sym, ltb-true, Kind, BodyTree, LineTree, Definition, Label, SegmentOf, EquOf, SetOf}
+use proofs.Common.{AddressOf, ExternOf, label_defined, defined_by, externals_from, found_in, or_later, definition_from}
+use proofs.Common.{Assignment, body_at, here_at, if_before, set_by, register_or_predefined, externals_in, value_by}
+use proofs.Common.{named_value, Fits, TextSegment, segment_of, declared_or, bytes_eq, ◌∙◌}
+use proofs.KnownSegments.{Declares, known, two_more}
 use Rattle.m51_expr.specs.Evaluation.{or_unknown, value_of}
 use Rattle.m51_encode.specs.FieldLaws.{IsBitOf}
-use Rattle.m51_asm.proofs.RenumberedValues.{Tied, none, segment, external, Like, like, Both, ok, err, AreTied}
-use Rattle.m51_asm.proofs.RenumberedValues.{value_like}
+use proofs.RenumberedValues.{Tied, none, segment, external, Like, like, Both, ok, err, AreTied, value_like}
 use borrow.Author.Count.{below_more}
 use Rattle.m51_expr.specs.Value.{whole}
 use Rattle.m51_predefined.specs.Predefined.{register_or_bit}
 use Rattle.m51_sfr.specs.Registers.{address_in, bits, registers}
-use Rattle.m51_asm.specs.Definitions.{definition_of}
-use Rattle.m51_asm.specs.Assignment.{above, value_or_none}
-use Rattle.m51_asm.specs.Fitting.{last_set, undefined_value, externals_before, with_class}
+use specs.Definitions.{definition_of}
+use specs.Assignment.{above, value_or_none}
+use specs.Fitting.{last_set, undefined_value, externals_before, with_class}
 use Rattle.m51_cells.specs.declared.kind.Base.TheVariants as base
 use Rattle.m51_stmt.specs.Statement as body
 
@@ -85,45 +86,50 @@ module _ (G : Base → Type 0) (no_base : G base.None) where
         bit = λ {k} h b e. let same : k ≡ b = cc e in let most = ltb-false 7 k h in omega arith;
       }
 
--- the number of a definition of an external is below the count
-abbrev IsBelow : ℕ → Definition → Type 0
-IsBelow n (ExternOf kind m) = m < n
-IsBelow n d = Unit {0}
+-- what a line says of a definition that is its own: the number of an external is below the count, and a segment is
+-- declared
+abbrev IsFrom : BodyTree → Definition → Type 0
+IsFrom b (ExternOf kind m) = m < externals_in b
+IsFrom b (SegmentOf kind) = Declares b kind
+IsFrom b d = Unit {0}
 
-abbrev IfBelow : ℕ → Option Definition → Type 0
-IfBelow n None = Unit {0}
-IfBelow n (Some d) = IsBelow n d
+abbrev IfFrom : BodyTree → Option Definition → Type 0
+IfFrom b None = Unit {0}
+IfFrom b (Some d) = IsFrom b d
 
-if_found : (n : ℕ) (b : Bool) (d : Definition) (o : Option Definition) → IsBelow n d → IfBelow n o
-    → IfBelow n (cond b (Some d) o)
-if_found n true d o h k = h
-if_found n false d o h k = k
+if_found : (b : BodyTree) (test : Bool) (d : Definition) (o : Option Definition) → IsFrom b d → IfFrom b o
+    → IfFrom b (cond test (Some d) o)
+if_found b true d o h k = h
+if_found b false d o h k = k
 
-externals_below : (xs : List (List ℕ × Kind)) (from n : ℕ) (name : List ℕ) → n ≡ from + length xs
-    → IfBelow n (found_in (externals_from from xs) name)
-externals_below [] from n name e = tt
-externals_below (x ∷ xs) from n name e =
-    if_found n _ _ _ (omega arith) (externals_below xs (suc from) n name (omega arith))
+externals_below : (b : BodyTree) (xs : List (List ℕ × Kind)) (from : ℕ) (name : List ℕ)
+    → externals_in b ≡ from + length xs → IfFrom b (found_in (externals_from from xs) name)
+externals_below b [] from name e = tt
+externals_below b (x ∷ xs) from name e =
+    if_found b _ _ _ (omega arith) (externals_below b xs (suc from) name (omega arith))
 
-body_below : (b : BodyTree) (name : List ℕ) → IfBelow (externals_in b) (found_in (defined_by b) name)
-body_below (body.Segment t kind type overlayable) name = if_found 0 _ _ None tt tt
-body_below (body.Equ t e) name = if_found 0 _ _ None tt tt
-body_below (body.Set t e) name = if_found 0 _ _ None tt tt
-body_below (body.Address t kind e) name = if_found 0 _ _ None tt tt
-body_below (body.Extrn xs) name = externals_below xs 0 (length xs) name (omega arith)
-body_below b name = tt
+body_from : (b : BodyTree) (name : List ℕ) → IfFrom b (found_in (defined_by b) name)
+body_from (body.Segment t kind type overlayable) name =
+    let declares : Declares (body.Segment t kind type overlayable) kind =
+    record { name = t; type = type; overlayable = overlayable; is = refl } in
+    if_found (body.Segment t kind type overlayable) (bytes_eq name t) (SegmentOf kind) None declares tt
+body_from (body.Equ t e) name = if_found (body.Equ t e) _ _ None tt tt
+body_from (body.Set t e) name = if_found (body.Set t e) _ _ None tt tt
+body_from (body.Address t kind e) name = if_found (body.Address t kind e) _ _ None tt tt
+body_from (body.Extrn xs) name = externals_below (body.Extrn xs) xs 0 name (omega arith)
+body_from b name = tt
 
-line_below : (label : Option (List ℕ)) (b : BodyTree) (name : List ℕ)
-    → IfBelow (externals_in b) (found_in (label_defined label ++ defined_by b) name)
-line_below None b name = body_below b name
-line_below (Some t) b name = if_found (externals_in b) _ Label _ tt (body_below b name)
+line_from : (label : Option (List ℕ)) (b : BodyTree) (name : List ℕ)
+    → IfFrom b (found_in (label_defined label ++ defined_by b) name)
+line_from None b name = body_from b name
+line_from (Some t) b name = if_found b _ Label _ tt (body_from b name)
 
 -- a definition in one of these lines
 record IsIn (ls : List LineTree) (n line : ℕ) (d : Definition) : Type 0 where
   index : ℕ
   at : line ≡ n + index
   inside : index < length ls
-  below : IsBelow (externals_in (body_at ls index)) d
+  from : IsFrom (body_at ls index) d
 
 abbrev IfIn : List LineTree → ℕ → Option (ℕ × Definition) → Type 0
 IfIn ls n None = Unit {0}
@@ -132,19 +138,20 @@ IfIn ls n (Some (line, d)) = IsIn ls n line d
 in_lines : (ls : List LineTree) (n : ℕ) (name : List ℕ) → IfIn ls n (definition_from n ls name)
 in_lines [] n name = tt
 in_lines (l ∷ ls) n name =
-    first _ _ (line_below l.stmt.label l.stmt.body name) (in_lines ls (suc n) name)
+    first _ _ (line_from l.stmt.label l.stmt.body name) (in_lines ls (suc n) name)
   where
-    first : (f : Option Definition) (o : Option (ℕ × Definition)) → IfBelow (externals_in l.stmt.body) f
+    first : (f : Option Definition) (o : Option (ℕ × Definition)) → IfFrom l.stmt.body f
         → IfIn ls (suc n) o → IfIn (l ∷ ls) n (or_later n f o)
-    first (Some d) o h k = record { index = 0; at = omega arith; inside = omega arith; below = h }
+    first (Some d) o h k = record { index = 0; at = omega arith; inside = omega arith; from = h }
     first None None h k = tt
     first None (Some (line, d)) h k =
-        record { index = suc k.index; at = omega arith; inside = omega arith; below = k.below }
+        record { index = suc k.index; at = omega arith; inside = omega arith; from = k.from }
 
--- an external in a base is declared
-abbrev pub IsDeclaredBase : List LineTree → Base → Type 0
-IsDeclaredBase lines (base.External e) = (1 ≤ e) × (e ≤ externals_before lines (length lines))
-IsDeclaredBase lines b = Unit {0}
+-- a segment in a base is one of the text, and an external is declared
+abbrev pub IsDeclaredBase : List LineTree → Assignment → Base → Type 0
+IsDeclaredBase lines a (base.Segment id) = (segment_of lines a id).id ≡ id
+IsDeclaredBase lines a (base.External e) = (1 ≤ e) × (e ≤ externals_before lines (length lines))
+IsDeclaredBase lines a base.None = Unit {0}
 
 -- the externals of a line are among those of the lines above a later one
 externals_up : (lines : List LineTree) (n j : ℕ) → j < n
@@ -157,7 +164,7 @@ externals_up lines (suc n) j h =
 
 module _ (lines : List LineTree) (a : Assignment) (f : Fits lines a) where
   abbrev D : Base → Type 0
-  D = IsDeclaredBase lines
+  D = IsDeclaredBase lines a
 
   abbrev Good : Option Value → Type 0
   Good None = Unit {0}
@@ -165,6 +172,14 @@ module _ (lines : List LineTree) (a : Assignment) (f : Fits lines a) where
 
   good : {n : ℕ} {k : Kind} {b : Base} → D b → IsBased D (whole n k b)
   good d = record { base_is = d; bit_is = λ i e. absurd (cc e) }
+
+  pub place_good : (k : ℕ) → IsBased D (here_at a k)
+  place_good k = good (ap (λ (s : TextSegment). s.id) (known lines a f k).same)
+
+  declared_good : (d : ℕ) (kind : Kind) → Declares (body_at lines d) kind → (segment_of lines a (d + 2)).id ≡ d + 2
+  declared_good d kind declares =
+      ap (λ (s : TextSegment). s.id) (ap (segment_of lines a) (two_more d)
+      ∙ ap (declared_or lines d (a.segment (suc d))) declares.is)
 
   tree_good : (k : ℕ) (e : Tree) → AreBased D (above lines a k) → Good (value_or_none (value_of (above lines a k) e))
   tree_good k e are = if_ok (value_of (above lines a k) e) (value_based D tt (above lines a k) are e)
@@ -195,8 +210,11 @@ module _ (lines : List LineTree) (a : Assignment) (f : Fits lines a) where
   defined_good : (k : ℕ) (name : List ℕ) (d : ℕ) (h : Definition) → IsIn lines 0 d h → AllAbove k
       → AreBased D (above lines a d)
       → Good (value_by (here_at a d) (above lines a d) (last_set lines a name k) (externals_before lines d) d h)
-  defined_good k name d Label i all are = good tt
-  defined_good k name d (SegmentOf kind) i all are = good tt
+  defined_good k name d Label i all are = place_good d
+  defined_good k name d (SegmentOf kind) i all are =
+      let declares = i.from in
+      let at : i.index ≡ d = omega arith in
+      good (declared_good d kind (subst (λ n. Declares (body_at lines n) kind) at declares))
   defined_good k name d (EquOf e) i all are = tree_good d e are
   defined_good k name d (SetOf e) i all are = last_good name k all
   defined_good k name d (AddressOf kind e) i all are =
@@ -204,7 +222,7 @@ module _ (lines : List LineTree) (a : Assignment) (f : Fits lines a) where
   defined_good k name d (ExternOf kind m) i all are =
       let at : i.index ≡ d = omega arith in
       let up = externals_up lines (length lines) i.index i.inside in
-      let below = i.below in
+      let below = i.from in
       let same = ap (externals_before lines) at in
       good (omega arith, omega (arith, up, below, same))
 
@@ -241,7 +259,7 @@ module _ (lines : List LineTree) (a : Assignment) (f : Fits lines a) where
   above_good k all = record {
     value = λ name. holds _ (subst (λ v. Good (if_before k v (definition_of lines name))) (sym (f.values k name))
         (before_good k name (definition_of lines name) (in_lines lines 0 name) all));
-    here = good tt;
+    here = place_good k;
   }
 
   all_good : (k : ℕ) → AllAbove k
@@ -255,11 +273,8 @@ module _ (lines : List LineTree) (a : Assignment) (f : Fits lines a) where
   named_good k name (Some (d, h)) i = defined_good k name d h i (all_good k) (all_good (suc d) d (omega arith))
 
   -- each name of the text has such a value
-  pub name_good : (k : ℕ) (name : List ℕ) → IfSomeBased (IsDeclaredBase lines) (a.value k name)
+  pub name_good : (k : ℕ) (name : List ℕ) → IfSomeBased (IsDeclaredBase lines a) (a.value k name)
   unfolding definition_of
   name_good k name =
       holds _
       (subst Good (sym (f.values k name)) (named_good k name (definition_of lines name) (in_lines lines 0 name)))
-
-  pub place_good : (k : ℕ) → IsBased (IsDeclaredBase lines) (here_at a k)
-  place_good k = good tt

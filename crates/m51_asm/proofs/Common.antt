@@ -21,7 +21,7 @@ pub use Rattle.m51_asm.specs.Contents.{IsGivenTo}
 pub use Rattle.m51_asm.specs.Definitions.{AddressOf, Defined, Definition, EquOf, ExternOf, Label, SegmentOf, SetOf}
 pub use Rattle.m51_asm.specs.Definitions.{defined_by, definition_from, definitions_in, externals_from, found_in}
 pub use Rattle.m51_asm.specs.Definitions.{label_defined, or_later}
-pub use Rattle.m51_asm.specs.Filled.{size_in}
+pub use Rattle.m51_asm.specs.SegmentTable.{size_in}
 pub use Rattle.m51_asm.specs.FirstFault.{AreFree, IsFirstFault}
 pub use Rattle.m51_asm.specs.Fitting.{Fits, bank_by, externals_in, form_by, is_absolute_of, mod51, named_value}
 pub use Rattle.m51_asm.specs.Fitting.{register_or_predefined, segment_by, set_by, size_by, value_by}

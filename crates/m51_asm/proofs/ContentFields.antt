@@ -1,17 +1,15 @@
--- The fields of a row of the instruction table end in its bytes, and none lies over another.
-use Rattle.m51_asm.proofs.Common.{nat_tests, nat_le, ◌≡◌, ◌⊎◌, inl, inr, ℕ, ◌+◌, ◌<◌, ◌≤◌, Bool, true, ◌&&◌, ◌||◌, List}
-use Rattle.m51_asm.proofs.Common.{[], ◌∷◌, Option, Some, None, refl, sym, ap, ◌∙◌, arith, and_parts, Instr, Field}
-use Rattle.m51_asm.proofs.Common.{row_length, suc, length, Ok, Err, subst, eqb-true, field_len, Part, Value, Tree}
-use Rattle.m51_asm.proofs.Common.{Valued, Meanings, FieldValue, Number, Linked, Reference, Answer, linked_is}
-use Rattle.m51_asm.proofs.Common.{ReferenceAt, EmittedContent}
+-- The fields of a row of the instruction table end in its bytes, and none lies over another; so the references of
+-- content lie in its bytes, one after another, and each is what a value leaves to the linker.
+use Rattle.m51_asm.proofs
+use proofs.Common.{nat_le, ◌≡◌, ◌⊎◌, inl, inr, ℕ, ◌+◌, ◌<◌, ◌≤◌, Bool, true, ◌&&◌, ◌||◌, List, [], ◌∷◌, Option, Some}
+use proofs.Common.{None, refl, ap, arith, Instr, Field, row_length, suc, length, Ok, Err, subst, field_len, Part, Value}
+use proofs.Common.{Tree, Valued, Meanings, FieldValue, Number, Linked, Reference, Answer, linked_is, ReferenceAt}
+use proofs.Common.{EmittedContent}
 use Rattle.std.specs.List.{list_all}
-use Rattle.std.proofs.lemmas.Bool.{leb-true}
-use Rattle.m51_isa.specs.declared.instr.Instr.TheVariants.{Nop}
 use Rattle.m51_isa.specs.declared.slot.FieldSlot.{FieldSlot}
 use Rattle.m51_isa.specs.Spelling.{field_in, text_of}
-use Rattle.m51_asm.proofs.Members.{In, Every, Pairs, pairs_weaker}
+use proofs.Members.{In, Every, Pairs, pairs_weaker}
 use Rattle.std.specs.Option.{option_or}
-use Rattle.m51_cells.proofs.Passing.{guarded}
 use Rattle.m51_expr.specs.Evaluation.{value_of}
 use Rattle.m51_expr.specs.Operand.{OperandTree}
 use Rattle.m51_encode.specs.Reference.{form_of}
@@ -47,54 +45,14 @@ fields_lie len (f ∷ fs) = ends_in len f && (list_all (apart f) fs && fields_li
 abbrev pub fields_of : Instr → List (Option FieldSlot)
 fields_of i = field_in (text_of i).first ∷ field_in (text_of i).second ∷ field_in (text_of i).third ∷ []
 
-rows_lie : (i : Instr) → fields_lie (row_length i) (fields_of i) ≡ true
-rows_lie Nop = refl
-rows_lie i = refl
-
 -- what the test of fields says
 pub record DoLie (len : ℕ) (fs : List (Option FieldSlot)) : Type 0 where
   pub ends : (s : FieldSlot) → In (Some s) fs → end_of s ≤ len
   pub orders : (s t : FieldSlot) → In (Some s) fs → In (Some t) fs → s.byte < t.byte → end_of s ≤ t.byte
 
-apart_from : (f : Option FieldSlot) (fs : List (Option FieldSlot)) → list_all (apart f) fs ≡ true
-    → (g : Option FieldSlot) → In g fs → apart f g ≡ true
-apart_from f [] h g i = absurd i
-apart_from f (x ∷ fs) h g (inl e) = ap (apart f) (sym e) ∙ (and_parts _ _ h).0
-apart_from f (x ∷ fs) h g (inr j) = apart_from f fs (and_parts _ _ h).1 g j
-
-two_apart : (f : Option FieldSlot) (fs : List (Option FieldSlot)) → list_all (apart f) fs ≡ true → (s t : FieldSlot)
-    → f ≡ Some s → In (Some t) fs → (end_of s ≤ t.byte) ⊎ (end_of t ≤ s.byte)
-two_apart f fs h s t is i =
-    let e : apart (Some s) (Some t) ≡ true = ap (λ x. apart x (Some t)) (sym is) ∙ apart_from f fs h (Some t) i in
-    grind (arith, nat_tests)
-
-do_lie : (len : ℕ) (fs : List (Option FieldSlot)) → fields_lie len fs ≡ true → DoLie len fs
-do_lie len [] h = record { ends = λ s i. absurd i; orders = λ s t i j less. absurd i }
-do_lie len (f ∷ fs) h =
-    let p = and_parts (ends_in len f) (list_all (apart f) fs && fields_lie len fs) h in
-    let q = and_parts (list_all (apart f) fs) (fields_lie len fs) p.1 in
-    let more = do_lie len fs q.1 in
-    record {
-      ends = λ s i. elim i [
-        | inl is ↦ leb-true (end_of s) len (sym (ap (ends_in len) is) ∙ p.0)
-        | inr j ↦ more.ends s j
-      ];
-      orders = λ s t i j less. elim i [
-        | inl is ↦ elim j [
-          | inl it ↦ let same : s ≡ t = cc (is, it) in
-              let e = ap (λ (x : FieldSlot). x.byte) same in absurd (omega arith)
-          | inr k ↦ let o = two_apart f fs q.0 s t is k in omega arith
-        ]
-        | inr k ↦ elim j [
-          | inl it ↦ let o = two_apart f fs q.0 t s it k in omega arith
-          | inr l ↦ more.orders s t k l less
-        ]
-      ];
-    }
-
 -- the fields of a row
 pub rows_do_lie : (i : Instr) → DoLie (row_length i) (fields_of i)
-rows_do_lie i = do_lie (row_length i) (fields_of i) (rows_lie i)
+rows_do_lie i = grind arith
 
 -- the type of a value, also one that its crate keeps to itself
 abbrev pub type_of : {A : Type 0} → A → Type 0
@@ -179,18 +137,9 @@ module _ (names : Meanings) (row : Instr) (next : ℕ) where
     by_field : (e : Tree) (v : Value) → value_of names e ≡ Ok v → (o : Option FieldValue)
         → field_of names slot.field next v ≡ o
         → Links (and_then (or_out_of_range o) (λ held. Ok (held_at slot.byte held)))
-    by_field e v is (Some (Number n)) from = λ r has. absurd (cc has)
+    by_field e v is (Some (Number n)) from = grind arith
     by_field e v is None from = tt
-    by_field e v is (Some (Linked q)) from = λ r has.
-        let same : q ≡ r = cc has in
-        rw (← same) (record {
-          slot = slot;
-          there = there;
-          byte_is = refl;
-          form_is = ap (λ (y : Reference). field_len y.form) (sym (linked_is _ _ _ _ _ from))
-              ∙ form_width slot.field v.part;
-          by = record { tree = e; value = v; is = is; at = slot.field; next = next; from = from };
-        })
+    by_field e v is (Some (Linked q)) from = grind (arith, linked_is)
 
     by_value : (e : Tree) (w : Valued Value) → value_of names e ≡ w → Links (valued names next slot.field slot.byte w)
     by_value e (Ok v) is = by_field e v is _ refl
@@ -198,16 +147,15 @@ module _ (names : Meanings) (row : Instr) (next : ℕ) where
 
     by_tree : (t : Option Tree) → Links (filled_by names next slot t)
     by_tree (Some e) = by_value e _ refl
-    by_tree None = λ r has. absurd (cc has)
+    by_tree None = grind arith
 
   linking : (slot : Option FieldSlot) (o : Option OperandTree) → In slot (fields_of row)
       → Links (filled names next slot o)
   linking (Some slot) (Some operand) there = by_tree slot there (expression operand)
-  linking (Some slot) None there = λ r has. absurd (cc has)
-  linking None o there = λ r has. absurd (cc has)
+  linking b o there = grind arith
 
   begins : (k : ℕ) (r : Reference) (x : Held) → Links (Ok x) → beginning_at k x ≡ Some r → IsAtByte k r
-  begins k r x links e = let p = guarded _ _ _ e in subst (λ n. IsAtByte n r) (eqb-true _ _ p.0) (links r p.1)
+  begins k r x links e = grind arith
 
   -- what three operands of the row gave
   module _ (oa ob oc : Option OperandTree) (a b c : Held)

@@ -1,14 +1,15 @@
 -- Runs of bytes that lie one after another, and the pieces that they are cut into.
-use Rattle.m51_asm.proofs.Common.{cases_eq, ◌≡◌, ◌⊎◌, inl, inr, ℕ, suc, ◌+◌, ◌/◌, ◌-◌, ◌<◌, ◌≤◌, min, List, [], ◌∷◌}
-use Rattle.m51_asm.proofs.Common.{length, drop, refl, sym, ap, subst, ◌∙◌, arith, length-append, eq-eqb, ne_eqb}
-use Rattle.m51_asm.proofs.Common.{length-take, flat_map, range_with_len, Piece, LiesBefore, Run, if_bytes}
-use Rattle.m51_asm.proofs.Common.{pieces_of_run}
+use Rattle.m51_asm.proofs
+use proofs.Common.{cases_eq, ◌≡◌, ◌⊎◌, inl, inr, ℕ, suc, ◌+◌, ◌/◌, ◌-◌, ◌<◌, ◌≤◌, min, List, [], ◌∷◌, length, drop}
+use proofs.Common.{refl, subst, ◌∙◌, arith, length-append, eq-eqb, ne_eqb, length-take, flat_map, range_with_len, Piece}
+use proofs.Common.{LiesBefore, Run, if_bytes, pieces_of_run}
 use Rattle.std.proofs.Common.{◌*◌, length-drop}
 use Rattle.std.proofs.lemmas.Bool.{cases_lt}
 use Rattle.m51_module.specs.Validity.{Apart, Touching}
 use Rattle.m51_asm.specs.Pieces.{piece_at}
-use Rattle.m51_asm.proofs.Members.{In, Pairs, in_map, map_in, in_left, in_right, in_range, range_in, pairs_map}
-use Rattle.m51_asm.proofs.Members.{pairs_weaker, pairs_range}
+use proofs.Members.{In, Pairs, in_map, map_in, in_left, in_right, in_range, range_in, pairs_map, pairs_weaker}
+use proofs.Members.{pairs_range}
+use Rattle.std.proofs.lemmas.Grind.{common_steps}
 
 -- a run that lies between two offsets
 abbrev pub IsRun : ℕ → ℕ → Run → Type 0
@@ -26,15 +27,8 @@ runs_lower low from to (r ∷ more) h are = (omega arith, are.1)
 -- bytes before runs are runs
 pub runs_before : (low at to : ℕ) (bytes : List ℕ) (runs : List Run) → low ≤ at → at + length bytes ≤ to
     → AreRuns (at + length bytes) to runs → AreRuns low to (if_bytes at bytes runs)
-runs_before low at to [] runs low_at within are = runs_lower _ _ _ _ (omega arith) are
-runs_before low at to (byte ∷ bytes) [] low_at within are = ((low_at, within), tt)
-runs_before low at to (byte ∷ bytes) (next ∷ more) low_at within are =
-    elim (cases_eq (at + length (byte ∷ bytes)) next.0) [
-      | inl same ↦
-          let len = length-append (byte ∷ bytes) next.1 in
-          rw (eq-eqb _ _ same) (omega arith, runs_lower _ _ _ _ (omega arith) are.1)
-      | inr apart ↦ rw (ne_eqb _ _ apart) ((low_at, within), (omega arith, are.1))
-    ]
+runs_before low at to b runs low_at within are =
+    grind (arith, runs_lower, common_steps, cases_eq, length-append, eq-eqb, ne_eqb)
 
 -- an earlier run ends before a later one begins
 abbrev pub IsBefore : Run → Run → Type 0
@@ -42,7 +36,7 @@ IsBefore r q = r.0 + length r.1 < q.0
 
 pub run_in : (from to : ℕ) (runs : List Run) → AreRuns from to runs → (r : Run) → In r runs → IsRun from to r
 run_in from to [] are r i = absurd i
-run_in from to (q ∷ more) are r (inl e) = subst (IsRun from to) e are.0
+run_in from to (q ∷ more) are r (inl e) = grind arith
 run_in from to (q ∷ more) are r (inr j) = omega (arith, run_in (suc (q.0 + length q.1)) to more are.1 r j)
 
 pub runs_pairs : (from to : ℕ) (runs : List Run) → AreRuns from to runs → Pairs IsBefore runs
@@ -65,19 +59,7 @@ Hold (r ∷ runs) offset = Covers r offset ⊎ Hold runs offset
 -- the bytes before runs, and what these have, are in a run
 pub still_held : (at : ℕ) (bytes : List ℕ) (runs : List Run) (offset : ℕ)
     → Covers (at, bytes) offset ⊎ Hold runs offset → Hold (if_bytes at bytes runs) offset
-still_held at [] runs offset (inl c) = let from = c.from in let below = c.below in absurd (omega arith)
-still_held at [] runs offset (inr h) = h
-still_held at (byte ∷ bytes) [] offset h = h
-still_held at (byte ∷ bytes) (next ∷ more) offset h =
-    elim (cases_eq (at + length (byte ∷ bytes)) next.0) [
-      | inr apart ↦ rw (ne_eqb _ _ apart) h
-      | inl same ↦
-          let len = length-append (byte ∷ bytes) next.1 in
-          rw (eq-eqb _ _ same) (elim h [
-            | inl c ↦ inl (omega arith)
-            | inr g ↦ elim g [ inl c ↦ inl (omega arith) | inr m ↦ inr m ]
-          ])
-    ]
+still_held at b runs offset h = grind (arith, cases_eq, length-append, eq-eqb)
 
 -- how many pieces a run is cut into
 abbrev count : Run → ℕ
@@ -92,7 +74,7 @@ pub record IsOfRun (segment : ℕ) (r : Run) (p : Piece) : Type 0 where
   pub within : p.offset + length p.bytes ≤ r.0 + length r.1
 
 piece_len : (segment : ℕ) (r : Run) (i : ℕ) → length (piece_at segment r i).bytes ≡ min 1024 (length r.1 - 1024 * i)
-piece_len segment r i = length-take 1024 (drop (1024 * i) r.1) ∙ ap (min 1024) (length-drop (1024 * i) r.1)
+piece_len segment r i = cc (length-take 1024 (drop (1024 * i) r.1), length-drop (1024 * i) r.1)
 
 below_all : (n i : ℕ) → i < (n + 1023) / 1024 → 1024 * i < n
 below_all n i h = omega arith
@@ -133,10 +115,7 @@ pieces_in_order segment r =
 -- the pieces of two runs, of which one ends before the other begins
 pub runs_in_order : (segment : ℕ) (r q : Run) → IsBefore r q → (p o : Piece) → In p (pieces_of_run segment r)
     → In o (pieces_of_run segment q) → LiesBefore p o
-runs_in_order segment r q before p o in_p in_o =
-    let a = piece_of_run _ _ _ in_p in
-    let b = piece_of_run _ _ _ in_o in
-    Apart (a.segment_is ∙ sym b.segment_is) (omega arith)
+runs_in_order segment r q before p o in_p in_o = grind (arith, piece_of_run)
 
 -- a piece of a segment has a byte at an offset
 abbrev pub HoldsAt : ℕ → ℕ → Piece → Type 0

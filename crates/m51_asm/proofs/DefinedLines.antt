@@ -1,24 +1,23 @@
 -- The state after the first lines of a text: the first definitions above, what is public and named there, and where a
 -- line repeats.
-use Rattle.m51_asm.proofs.Common.{◌≡◌, ℕ, zero, suc, ◌+◌, ◌<◌, Bool, true, false, not, ◌&&◌, ◌||◌, cond, List, [], ◌∷◌}
-use Rattle.m51_asm.proofs.Common.{◌++◌, length, map, take, Option, Some, None, option_map, is_some, slice_get, refl, ap}
-use Rattle.m51_asm.proofs.Common.{sym, ◌∙◌, subst, arith, take_all, bytes_eq-Decides, list_any, bytes_eq, LineTree}
-use Rattle.m51_asm.proofs.Common.{FirstDefinition, Definition, Defined, SetOf, definitions_in, found_in, or_later}
-use Rattle.m51_asm.proofs.Common.{definition_from, defined_of, body_of, is_set, clashes, or_here, repeats_from}
-use Rattle.m51_asm.proofs.Common.{publics_in, publics_again, brief, first_definition, Table, first_in}
-use borrow.Author.Count.{below_more}
+use Rattle.m51_asm.proofs
+use Rattle.m51_asm.specs
+use proofs.Common.{◌≡◌, ℕ, zero, suc, ◌+◌, ◌<◌, Bool, true, false, ◌&&◌, ◌||◌, cond, List, [], ◌∷◌, ◌++◌, length, map}
+use proofs.Common.{take, Option, Some, None, option_map, is_some, slice_get, refl, ap, sym, ◌∙◌, subst, arith, take_all}
+use proofs.Common.{bytes_eq-Decides, list_any, bytes_eq, LineTree, FirstDefinition, Definition, Defined, definitions_in}
+use proofs.Common.{found_in, definition_from, defined_of, body_of, clashes, or_here, repeats_from, publics_in}
+use proofs.Common.{publics_again, brief, first_definition, Table, first_in}
 use Rattle.std.proofs.lemmas.List.{append_assoc, append-nil}
 use Rattle.std.proofs.Math.Bool.{or-false, or_assoc, or_comm}
 use Rattle.std.proofs.lemmas.List.Folds.{list_any-append}
-use Rattle.m51_asm.specs.declared.repeats.Defining.{Defining}
-use Rattle.m51_asm.specs.Definitions.{definition_of}
-use Rattle.m51_asm.specs.Repeats.{has_public, names_module, is_repeated, IsFirstRepeat}
-use Rattle.m51_asm.specs.Table.{how_of, sets, clash, all_noted, any_clash, all_public, any_public}
-use Rattle.m51_asm.specs.Defining.{nothing_defined, line_again, first_again, line_defined, all_defined}
+use specs.declared.repeats.Defining.{Defining}
+use specs.Definitions.{definition_of}
+use specs.Repeats.{has_public, names_module, is_repeated, IsFirstRepeat}
+use specs.Table.{how_of, clash, all_noted, any_clash, all_public, any_public}
+use specs.Defining.{nothing_defined, line_again, first_again, line_defined, all_defined}
 
 pub or_none : {A : Type 0} (o : Option A) → or_here o None ≡ o
-or_none None = refl
-or_none (Some x) = refl
+or_none b = grind arith
 
 -- a definition with its line
 unfoldable pub at_line : ℕ → Definition → ℕ × Definition
@@ -27,8 +26,7 @@ at_line line h = (line, h)
 -- what comes last is found where nothing else is
 or_last : {A : Type 0} (b : Bool) (x : A) (o q : Option A) {p : Option A} → p ≡ or_here o q
     → cond b (Some x) p ≡ or_here (cond b (Some x) o) q
-or_last true x o q h = refl
-or_last false x o q h = h
+or_last b x o q h = grind arith
 
 found_last : (ds : List Defined) (d : Defined) (name : List ℕ)
     → found_in (ds ++ d ∷ []) name ≡ or_here (found_in ds name) (cond (bytes_eq name d.0) (Some d.1) None)
@@ -48,22 +46,9 @@ from_more : (lines : List LineTree) (k number last : ℕ) (l : LineTree) (name :
     (option_map (at_line last) (found_in (definitions_in l.stmt) name))
 unfolding at_line
 from_more [] k number last l name is e = absurd (cc is)
-from_more (x ∷ lines) zero number last l name is e =
-    let same : x ≡ l = cc is in
-    let at : number ≡ last = omega arith in
-    (λ i. or_later (at i) (found_in (definitions_in (same i).stmt) name) None)
-    ∙ later (found_in (definitions_in l.stmt) name)
-  where
-    later : (o : Option Definition) → or_later last o None ≡ option_map (at_line last) o
-    later None = refl
-    later (Some d) = refl
+from_more (x ∷ lines) zero number last l name is e = grind arith
 from_more (x ∷ lines) (suc k) number last l name is e =
-    first_or (found_in (definitions_in x.stmt) name) _ _ (from_more lines k (suc number) last l name is (omega arith))
-  where
-    first_or : (f : Option Definition) (o q : Option (ℕ × Definition)) {p : Option (ℕ × Definition)} → p ≡ or_here o q
-        → or_later number f p ≡ or_here (or_later number f o) q
-    first_or None o q h = h
-    first_or (Some d) o q h = refl
+    grind (arith, from_more lines k (suc number) last l name is (omega arith))
 
 pub defined_more : (lines : List LineTree) (k : ℕ) (l : LineTree) (name : List ℕ) → slice_get lines k ≡ Some l
     → definition_of (take (suc k) lines) name
@@ -80,17 +65,13 @@ record Sees (lines : List LineTree) (k : ℕ) (table : Table) (before : List Def
 held : (table : Table) (name key : List ℕ) (f g : FirstDefinition) (b : Bool) → bytes_eq name key ≡ b
     → first_in table key ≡ Some f
     → first_in table name ≡ or_here (first_in table name) (cond b (Some g) None)
-held table name key f g true e h =
-    let at = ap (first_in table) ((bytes_eq-Decides name key).0 e) ∙ h in
-    at ∙ sym (ap (λ o. or_here o (Some g)) at)
-held table name key f g false e h = sym (or_none (first_in table name))
+held table name key f g b e h = grind (arith, bytes_eq-Decides)
 
 noted_in : (table : Table) (name key : List ℕ) (g : FirstDefinition) (o : Option FirstDefinition)
     → first_in table key ≡ o
     → first_in (cond (is_some o) table (table ++ (key, g) ∷ [])) name
     ≡ or_here (first_in table name) (cond (bytes_eq name key) (Some g) None)
-noted_in table name key g (Some f) h = held table name key f g _ refl h
-noted_in table name key g None h = first_last table key g name
+noted_in table name key g b h = grind (arith, held, first_last)
 
 -- what the table has is found by the definitions above, by those before in the line, and by one more
 join : (k : ℕ) (above : Option (ℕ × Definition)) (before : Option Definition) (b : Bool) (d : Definition)
@@ -98,25 +79,13 @@ join : (k : ℕ) (above : Option (ℕ × Definition)) (before : Option Definitio
     (cond b (Some (first_definition (k, d))) None)
     ≡ option_map first_definition (or_here above (option_map (at_line k) (or_here before (cond b (Some d) None))))
 unfolding at_line
-join k (Some a) before b d = refl
-join k None (Some a) b d = refl
-join k None None true d = refl
-join k None None false d = refl
-
-both_sets : (d e : Definition) → not (sets (how_of d) && sets (how_of e)) ≡ not (is_set d && is_set e)
-both_sets d e = λ i. not (same d i && same e i)
-  where
-    same : (d : Definition) → sets (how_of d) ≡ is_set d
-    same (SetOf e) = refl
-    same d = refl
+join k c before b d = grind arith
 
 clash_same : (k : ℕ) (above : Option (ℕ × Definition)) (before : Option Definition) (d : Definition)
     → clash (option_map first_definition (or_here above (option_map (at_line k) before))) (how_of d)
     ≡ clashes (or_here (option_map (λ d. d.1) above) before) d
 unfolding at_line
-clash_same k (Some a) before d = both_sets a.1 d
-clash_same k None (Some a) d = both_sets a d
-clash_same k None None d = refl
+clash_same k b before d = grind arith
 
 -- a line repeats a name where the table says so, and the table has its definitions after it
 line_seen : {lines : List LineTree} {k : ℕ} (ds : List Defined) {table : Table} {before : List Defined}
@@ -149,21 +118,15 @@ record SeesPublic (lines : List LineTree) (k : ℕ) (publics before : List (List
 also_public : (publics : List (List ℕ)) (name key : List ℕ) (b : Bool) → bytes_eq name key ≡ b
     → list_any (bytes_eq key) publics ≡ true
     → list_any (bytes_eq name) publics ≡ (list_any (bytes_eq name) publics || b)
-also_public publics name key true e h =
-    let at = ap (λ n. list_any (bytes_eq n) publics) ((bytes_eq-Decides name key).0 e) ∙ h in
-    at ∙ sym (ap (λ b. b || true) at)
-also_public publics name key false e h = sym (or-false (list_any (bytes_eq name) publics))
+also_public publics name key b e h = grind (arith, bytes_eq-Decides)
 
 made_in : (publics : List (List ℕ)) (name key : List ℕ) (b : Bool) → list_any (bytes_eq key) publics ≡ b
     → list_any (bytes_eq name) (cond b publics (publics ++ key ∷ []))
     ≡ (list_any (bytes_eq name) publics || (bytes_eq name key || false))
-made_in publics name key true h =
-    also_public publics name key _ refl h
-    ∙ ap (λ b. list_any (bytes_eq name) publics || b) (sym (or-false (bytes_eq name key)))
-made_in publics name key false h = list_any-append (bytes_eq name) publics (key ∷ [])
+made_in publics name key b h = grind (arith, also_public, or-false, list_any-append)
 
 moved : (b t e : Bool) → ((b || t) || e) ≡ ((b || e) || t)
-moved b t e = or_assoc b t e ∙ ap (λ x. b || x) (or_comm t e) ∙ sym (or_assoc b e t)
+moved b t e = grind arith
 
 publics_seen : {lines : List LineTree} {k : ℕ} (names : List (List ℕ)) {publics before : List (List ℕ)}
     → SeesPublic lines k publics before
@@ -199,17 +162,14 @@ record IsKept (lines : List LineTree) (k : ℕ) (d : Defining) : Type 0 where
 first_by : (lines : List LineTree) (k : ℕ) (r : Option ℕ) (again : Bool) → again ≡ is_repeated lines k
     → IsFirstAbove lines k r
     → IsFirstAbove lines (suc k) (first_again r again k)
-first_by lines k (Some r) again e h = ((omega (arith, h.0.0), h.0.1), h.1)
-first_by lines k None true e h = ((omega arith, sym e), h)
-first_by lines k None false e h = λ j b. below_more (λ j. is_repeated lines j ≡ false) k h (sym e) j (omega arith)
+first_by lines k b again e h = grind arith
 
 -- whether a line passes a test, with one more line
 any_more : (p : LineTree → Bool) (lines : List LineTree) (k : ℕ) (l : LineTree) → slice_get lines k ≡ Some l
     → list_any p (take (suc k) lines) ≡ (list_any p (take k lines) || p l)
 any_more p [] k l is = absurd (cc is)
-any_more p (x ∷ lines) zero l is = or-false (p x) ∙ (let same : x ≡ l = cc is in ap p same)
-any_more p (x ∷ lines) (suc k) l is =
-    ap (λ b. p x || b) (any_more p lines k l is) ∙ sym (or_assoc (p x) _ _)
+any_more p (x ∷ lines) zero l is = grind arith
+any_more p (x ∷ lines) (suc k) l is = cc (any_more p lines k l is, or_assoc (p x) _ _)
 
 -- what is kept after one more line
 kept_more : {lines : List LineTree} {k : ℕ} {d : Defining} (l : LineTree) → slice_get lines k ≡ Some l
@@ -249,14 +209,7 @@ kept_all : {lines : List LineTree} (rest : List LineTree) (k : ℕ) {d : Definin
     → ((j n : ℕ) → n ≡ k + j → slice_get lines n ≡ slice_get rest j) → length lines ≡ k + length rest
     → IsKept lines k d
     → IsDefined lines (all_defined d k rest)
-kept_all {lines} [] k {d} at all kept =
-    let end : k ≡ length lines = omega arith in
-    record {
-      names = λ name.
-          kept.names name
-          ∙ ap (λ ls. option_map first_definition (definition_of ls name)) (take_all k lines (omega arith));
-      repeated = subst (λ n. IsFirstAbove lines n d.repeated) end kept.repeated;
-    }
+kept_all {lines} [] k {d} at all kept = grind (arith, take_all)
 kept_all (l ∷ rest) k at all kept =
     kept_all rest (suc k) (λ j n e. at (suc j) n (omega arith)) (omega arith)
     (kept_more l (at 0 k (omega arith)) kept)

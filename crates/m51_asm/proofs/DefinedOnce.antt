@@ -1,14 +1,13 @@
 -- Where no line repeats, names that are no SET names are defined once, and names are public once.
-use Rattle.m51_asm.proofs.Common.{◌≡◌, ◌≢◌, inl, inr, ℕ, zero, suc, ◌<◌, Bool, true, false, not, cond, List, []}
-use Rattle.m51_asm.proofs.Common.{◌∷◌, ◌++◌, take, Option, Some, None, option_map, slice_get, refl, subst, ap, arith}
-use Rattle.m51_asm.proofs.Common.{list_any, bytes_eq, or_parts, bytes_eq-Decides, LineTree, Definition, Defined}
-use Rattle.m51_asm.proofs.Common.{definitions_in, label_defined, defined_by, found_in, or_later, definition_from}
-use Rattle.m51_asm.proofs.Common.{body_of, body_at, defined_of, is_set, clashes, or_here, repeats_from, publics_in}
-use Rattle.m51_asm.proofs.Common.{publics_again}
-use Rattle.std.proofs.lemmas.Bool.{and_right}
-use Rattle.m51_asm.specs.Definitions.{definition_of}
-use Rattle.m51_asm.specs.Repeats.{repeats_a_name, has_public, is_repeated}
-use Rattle.m51_asm.proofs.Members.{In, Pairs, in_left, in_right}
+use Rattle.m51_asm.proofs
+use Rattle.m51_asm.specs
+use proofs.Common.{◌≡◌, ◌≢◌, inl, inr, ℕ, zero, suc, ◌<◌, Bool, false, cond, List, [], ◌∷◌, ◌++◌, take, Option, Some}
+use proofs.Common.{None, option_map, slice_get, refl, subst, arith, list_any, bytes_eq, or_parts, bytes_eq-Decides}
+use proofs.Common.{LineTree, Definition, Defined, label_defined, defined_by, found_in, or_later, definition_from}
+use proofs.Common.{body_of, body_at, defined_of, is_set, clashes, or_here, repeats_from, publics_in, publics_again}
+use specs.Definitions.{definition_of}
+use specs.Repeats.{repeats_a_name, has_public, is_repeated}
+use proofs.Members.{In, Pairs, in_left, in_right}
 
 -- what holds of each of these elements, and of each with those before it, among them and before them
 pub record Follow {A : Type 0} (P : A → Type 0) (R : A → A → Type 0) (before xs : List A) : Type 0 where
@@ -32,8 +31,7 @@ texts_differ : (m n : List ℕ) → bytes_eq m n ≡ false → m ≢ n
 texts_differ m n h e = absurd (cc (h, (bytes_eq-Decides m n).1 e))
 
 if_none : {A : Type 0} (b : Bool) (x : A) (o : Option A) → cond b (Some x) o ≡ None → (b ≡ false) × (o ≡ None)
-if_none true x o h = absurd (cc h)
-if_none false x o h = (refl, h)
+if_none b x o h = grind arith
 
 -- a name that is not found is that of no definition
 not_found : (ds : List Defined) (name : List ℕ) → found_in ds name ≡ None → (d : Defined) → In d ds → name ≢ d.0
@@ -47,27 +45,21 @@ not_found (x ∷ ds) name h d i =
 
 later_none : (n : ℕ) (f : Option Definition) (later : Option (ℕ × Definition)) → or_later n f later ≡ None
     → (f ≡ None) × (later ≡ None)
-later_none n None later h = (refl, h)
-later_none n (Some x) later h = absurd (cc h)
+later_none n b later h = grind arith
 
 -- a name without a definition in the lines above a line is that of no definition there
 none_above : (lines : List LineTree) (n k : ℕ) (name : List ℕ) → definition_from n (take k lines) name ≡ None → (j : ℕ)
     → j < k → (d : Defined) → In d (defined_by (body_at lines j)) → name ≢ d.0
 none_above [] n k name h j less d i = absurd i
-none_above (l ∷ lines) n zero name h j less d i = absurd (omega (arith, less))
-none_above (l ∷ lines) n (suc k) name h zero less d i =
-    not_found (definitions_in l.stmt) name
-    (later_none n _ _ h).0 d
-    (in_right d (label_defined l.stmt.label) (defined_by l.stmt.body) i)
+none_above (l ∷ lines) n zero name h j less d i = grind arith
+none_above (l ∷ lines) n (suc k) name h zero less d i = grind (arith, not_found, in_right)
 none_above (l ∷ lines) n (suc k) name h (suc j) less d i =
     none_above lines (suc n) k name (later_none n _ _ h).1 j (omega arith) d i
 
 -- a definition that clashes with none and is no SET is the first of its name
 is_first : (o : Option (ℕ × Definition)) (before : Option Definition) (d : Definition)
     → clashes (or_here (option_map (λ x. x.1) o) before) d ≡ false → is_set d ≡ false → (o ≡ None) × (before ≡ None)
-is_first None None d h s = (refl, refl)
-is_first None (Some a) d h s = absurd (cc (ap not (and_right (is_set a) (is_set d) s), h))
-is_first (Some a) before d h s = absurd (cc (ap not (and_right (is_set a.1) (is_set d) s), h))
+is_first b before d h s = grind arith
 
 -- a later definition that is no SET has another name
 abbrev pub Apart : Defined → Defined → Type 0
@@ -91,8 +83,7 @@ names_once lines k before (x ∷ ds) h =
 past_label : (lines : List LineTree) (k : ℕ) (label : Option (List ℕ)) (ds : List Defined)
     → repeats_from lines k [] (label_defined label ++ ds) ≡ false
     → Follow (IsNew lines k) Apart (label_defined label) ds
-past_label lines k None ds h = names_once lines k [] ds h
-past_label lines k (Some label) ds h = names_once lines k (label_defined (Some label)) ds (or_parts _ _ h).1
+past_label lines k b ds h = grind (arith, names_once, or_parts)
 
 abbrev label_before : Option LineTree → List Defined
 label_before None = []
@@ -101,7 +92,7 @@ label_before (Some l) = label_defined l.stmt.label
 line_once : (lines : List LineTree) (k : ℕ) (o : Option LineTree) → repeats_from lines k [] (defined_of o) ≡ false
     → Follow (IsNew lines k) Apart (label_before o) (defined_by (body_of o))
 line_once lines k None h = follow_none
-line_once lines k (Some l) h = past_label lines k l.stmt.label (defined_by l.stmt.body) h
+line_once lines k (Some l) h = grind (arith, past_label)
 
 -- a line that repeats nothing
 pub record IsOnce (lines : List LineTree) (k : ℕ) : Type 0 where
@@ -131,9 +122,8 @@ any_none (y ∷ names) name h x i =
 no_public_above : (lines : List LineTree) (k : ℕ) (name : List ℕ) → list_any (has_public name) (take k lines) ≡ false
     → (j : ℕ) → j < k → (x : List ℕ) → In x (publics_in (body_at lines j)) → name ≢ x
 no_public_above [] k name h j less x i = absurd i
-no_public_above (l ∷ lines) zero name h j less x i = absurd (omega (arith, less))
-no_public_above (l ∷ lines) (suc k) name h zero less x i =
-    any_none (publics_in l.stmt.body) name (or_parts _ _ h).0 x i
+no_public_above (l ∷ lines) zero name h j less x i = grind arith
+no_public_above (l ∷ lines) (suc k) name h zero less x i = grind (arith, any_none)
 no_public_above (l ∷ lines) (suc k) name h (suc j) less x i =
     no_public_above lines k name (or_parts (has_public name l) _ h).1 j (omega arith) x i
 

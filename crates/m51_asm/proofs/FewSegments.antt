@@ -1,50 +1,46 @@
 -- A text without faults gives no more segments and externals than a module may have.
-use Rattle.m51_asm.proofs.Common.{cases_eq, nat_tests, nat_le, above, subst, ◌≡◌, ◌≢◌, inl, inr, ℕ, zero, suc, ◌+◌, ◌<◌}
-use Rattle.m51_asm.proofs.Common.{◌≤◌, ◌==◌, Bool, true, not, ◌&&◌, cond, List, [], ◌∷◌, length, flat_map, refl, sym}
-use Rattle.m51_asm.proofs.Common.{ap, ◌∙◌, arith, add-zero, length-append, eq-eqb, length-map, ltb-false, ne_eqb}
-use Rattle.m51_asm.proofs.Common.{or_parts, is_absolute, BodyTree, LineTree, TextSegment, Assignment, body_at, size_by}
-use Rattle.m51_asm.proofs.Common.{externals_in, Kept, segment_of, external, externals}
+use Rattle.m51_asm.proofs
+use Rattle.m51_asm.specs
+use proofs.Common.{cases_eq, nat_le, subst, ◌≡◌, ◌≢◌, inl, inr, ℕ, zero, suc, ◌+◌, ◌<◌, ◌≤◌, ◌==◌, Bool, true, cond}
+use proofs.Common.{List, [], ◌∷◌, length, flat_map, refl, sym, ap, ◌∙◌, arith, length-append, eq-eqb, length-map}
+use proofs.Common.{ltb-false, ne_eqb, or_parts, BodyTree, LineTree, Assignment, body_at, externals_in, Kept, segment_of}
+use proofs.Common.{externals}
 use Rattle.std.proofs.lemmas.List.Concat.{flat_map_single}
-use Rattle.m51_asm.specs.Fitting.{size_at, filled, externals_before}
-use Rattle.m51_asm.specs.PlacedFaults.{is_numbered_by, numbers_a_segment, segments_before}
-use Rattle.m51_asm.specs.ObjectSegments.{kept_before, kept}
-use Rattle.m51_asm.specs.Parts.{externals_by}
-use Rattle.m51_asm.proofs.Members.{Every}
-use Rattle.m51_asm.proofs.GoodLines.{IsFreeText, free}
-use Rattle.m51_asm.proofs.KnownSegments.{known, last_or_below}
-use Rattle.m51_asm.proofs.KeptSegments.{IsKept, IsNamed, Nameless, DeclaredAt, are_kept, Ascend}
+use specs.Fitting.{size_at, filled, externals_before}
+use specs.PlacedFaults.{is_numbered_by, numbers_a_segment, segments_before}
+use specs.ObjectSegments.{kept_before, kept}
+use specs.Parts.{externals_by}
+use proofs.Members.{Every}
+use proofs.GoodLines.{IsFreeText, free}
+use proofs.KnownSegments.{known, last_or_below}
+use proofs.KeptSegments.{IsKept, IsNamed, Nameless, DeclaredAt, are_kept, Ascend}
 use Rattle.m51_cells.specs.declared.kind.Reloc.TheVariants as reloc
 use Rattle.m51_stmt.specs.Statement as body
 
--- what the lines before line n give to one id, where each line gives to its owner only
-unfoldable pub share : (owner gives : ℕ → ℕ) → ℕ → ℕ → ℕ
-share owner gives id zero = 0
-share owner gives id (suc k) = share owner gives id k + cond (owner k == id) (gives k) 0
+-- what those of the lines before line n give that pass a test
+unfoldable pub sum_of : (ℕ → Bool) → (ℕ → ℕ) → ℕ → ℕ
+sum_of test gives zero = 0
+sum_of test gives (suc k) = sum_of test gives k + cond (test k) (gives k) 0
+
+-- what they give to one id, where each line gives to its owner only
+abbrev pub share : (owner gives : ℕ → ℕ) → ℕ → ℕ → ℕ
+share owner gives id = sum_of (λ k. owner k == id) gives
 
 -- what they give to ids from this one on
-above_id : (owner gives : ℕ → ℕ) → ℕ → ℕ → ℕ
-above_id owner gives low zero = 0
-above_id owner gives low (suc k) = above_id owner gives low k + cond (nat_le low (owner k)) (gives k) 0
-
-one_or_above : (owner gives low id : ℕ) → low ≤ id
-    → cond (owner == id) gives 0 + cond (nat_le (suc id) owner) gives 0 ≤ cond (nat_le low owner) gives 0
-one_or_above owner gives low id h = grind (arith, nat_tests)
-
-no_more : (b : Bool) (n : ℕ) → cond b n 0 ≤ n
-no_more b n = grind arith
+abbrev above_id : (owner gives : ℕ → ℕ) → ℕ → ℕ → ℕ
+above_id owner gives low = sum_of (λ k. nat_le low (owner k)) gives
 
 module _ (owner gives most : ℕ → ℕ) (n : ℕ) (grows : (k : ℕ) → k < n → most k + gives k ≤ most (suc k)) where
   joined : (low id k : ℕ) → low ≤ id
       → share owner gives id k + above_id owner gives (suc id) k ≤ above_id owner gives low k
-  unfolding share above_id
+  unfolding sum_of
   joined low id zero h = omega arith
-  joined low id (suc k) h = omega (arith, one_or_above (owner k) (gives k) low id h, joined low id k h)
+  joined low id (suc k) h = grind (arith, joined low id k h)
 
   all_above : (k : ℕ) → k ≤ n → above_id owner gives 0 k ≤ most k
-  unfolding above_id
+  unfolding sum_of
   all_above zero within = omega arith
-  all_above (suc k) within =
-      omega (arith, all_above k (omega arith), grows k (omega arith), no_more (nat_le 0 (owner k)) (gives k))
+  all_above (suc k) within = grind (arith, all_above k (omega arith))
 
   few_from : {B : Type 0} (f : Kept → List B) (low : ℕ) (xs : List Kept) → Every (λ s. low ≤ s.id) xs → Ascend xs
       → Every (λ s. length (f s) ≤ share owner gives s.id n) xs
@@ -81,7 +77,7 @@ module _ (lines : List LineTree) (a : Assignment) (c : IsFreeText lines a) where
   Numbers id k b = (owner_by k b ≡ id) × (is_numbered_by lines a k b ≡ true)
 
   shared : (id k n : ℕ) → Numbers id k (body_at lines k) → k < n → 0 < share owner gives id n
-  unfolding share
+  unfolding sum_of
   shared id k zero h less = absurd (omega arith)
   shared id k (suc n) h less = elim (last_or_below _ _ less) [
     | inl e ↦
@@ -97,14 +93,8 @@ module _ (lines : List LineTree) (a : Assignment) (c : IsFreeText lines a) where
   first_line : (id k : ℕ) → (a.segment k).id ≡ id → (segment_of lines a id).reloc ≡ reloc.Abs
       → filled lines a id k ≡ 0 → size_at lines a k ≢ 0 → (b : BodyTree) → body_at lines k ≡ b → Numbers id k b
   unfolding size_at
-  first_line id k open_is fixed none size (body.Segment name j type overlayable) is =
-      absurd (size (ap (size_by (above lines a k) (a.form k)) is))
-  first_line id k open_is fixed none size b is =
-      let type = ap (λ (t : TextSegment). t.reloc)
-      (sym (known lines a c k).same ∙ ap (segment_of lines a) open_is) ∙ fixed in
-      let first = eq-eqb _ _ (ap (λ i. filled lines a i k) open_is ∙ none) in
-      let more = ne_eqb _ _ size in
-      (open_is, λ i. is_absolute (type i) && (first i && not (more i)))
+  first_line id k open_is fixed none size (body.Segment name j type overlayable) is = grind arith
+  first_line id k open_is fixed none size b is = grind (arith, known, ne_eqb)
 
   filled_from : (id n : ℕ) → (segment_of lines a id).reloc ≡ reloc.Abs → filled lines a id n ≢ 0
       → (k : ℕ) × (k < n) × Numbers id k (body_at lines k)
@@ -124,10 +114,7 @@ module _ (lines : List LineTree) (a : Assignment) (c : IsFreeText lines a) where
 
   has_share : (s : Kept) → IsKept lines a s → s.id ≤ suc (length lines) → IsNamed lines s.id s.segment
       → 0 < share owner gives s.id (length lines)
-  has_share s is low (Nameless n r) =
-      let some = (is.valid.absolute r).some in
-      let f = filled_from _ (length lines) (is.fixed r) (λ z. absurd (omega arith)) in
-      shared _ f.0 _ f.2 f.1
+  has_share s is low (Nameless n r) = grind (arith, filled_from, shared)
   has_share s is low (DeclaredAt k j d at n) = shared _ k _ (rw d.is (sym at, refl)) (omega arith)
 
   -- lines say no more segments and externals than a module may have
@@ -154,21 +141,19 @@ module _ (lines : List LineTree) (a : Assignment) (c : IsFreeText lines a) where
   few_segments = kept_most (length lines) (omega arith)
 
 externals_of : (b : BodyTree) → externals_in b ≡ length (externals_by b)
-externals_of (body.Extrn xs) = sym (length-map xs external)
-externals_of b = refl
+externals_of b = grind (arith, length-map)
 
 -- these are the lines from line n on
 abbrev pub IsRest : List LineTree → ℕ → List LineTree → Type 0
 IsRest lines n ls = (j k : ℕ) → k ≡ n + j → body_at ls j ≡ body_at lines k
 
 pub all_lines : (lines : List LineTree) → IsRest lines 0 lines
-all_lines lines j k e = let same : j ≡ k = omega arith in ap (body_at lines) same
+all_lines lines j k e = grind arith
 
 externals_to : (lines ls : List LineTree) (n m : ℕ) → IsRest lines n ls → m ≡ n + length ls
     → externals_before lines m ≡ externals_before lines n + length (externals ls)
 unfolding externals_before
-externals_to lines [] n m rest is = let e : m ≡ n = omega arith in
-    ap (externals_before lines) e ∙ sym (add-zero (externals_before lines n))
+externals_to lines [] n m rest is = grind arith
 externals_to lines (l ∷ ls) n m rest is =
     omega (
       arith,

@@ -1,70 +1,61 @@
 -- What lines give to the segments of a module: line by line it grows to the pieces and fixups of the definitions.
-use Rattle.m51_asm.proofs.Common.{◌≡◌, ◌≢◌, inl, inr, ℕ, zero, suc, ◌+◌, ◌<◌, ◌≤◌, ◌==◌, ◌-◌, Bool, true, false, cond}
-use Rattle.m51_asm.proofs.Common.{List, [], ◌∷◌, ◌++◌, map, length, Option, Some, None, option_map, Result, Ok, Err}
-use Rattle.m51_asm.proofs.Common.{refl, ap, sym, ◌∙◌, slice_get, get_or, arith, eq-eqb, flat_map, eqb-true, ne_eqb}
-use Rattle.m51_asm.proofs.Common.{length-map, Fixup, Piece, Segment, LineTree, with_line, Assignment, body_at, Kept}
-use Rattle.m51_asm.proofs.Common.{object_segments, from_one, index_in, segment_number, if_bytes, pieces_of_run}
-use Rattle.m51_asm.proofs.Common.{offset_at, pieces, fixups, nothing_gathered, gathered_before, IsText, IsAssignedText}
-use Rattle.m51_asm.proofs.Common.{PlacedText}
+use Rattle.m51_asm.proofs
+use Rattle.m51_asm.specs
+use proofs.Common.{◌≡◌, ◌≢◌, inl, inr, ℕ, zero, suc, ◌+◌, ◌<◌, ◌≤◌, ◌==◌, ◌-◌, Bool, cond, List, [], ◌∷◌, ◌++◌, map}
+use proofs.Common.{length, Option, Some, None, option_map, Result, refl, ap, sym, ◌∙◌, slice_get, get_or, arith, eq-eqb}
+use proofs.Common.{eqb-true, ne_eqb, length-map, Fixup, Piece, Segment, LineTree, with_line, Assignment, Kept}
+use proofs.Common.{object_segments, from_one, index_in, segment_number, if_bytes, offset_at, pieces, fixups}
+use proofs.Common.{nothing_gathered, gathered_before, IsText, IsAssignedText, PlacedText}
 use Rattle.std.proofs.Common.{append_assoc, OnOk}
 use Rattle.std.specs.Prelude.{slice_set}
 use Rattle.std.proofs.lemmas.List.{append-nil}
 use Rattle.std.proofs.lemmas.List.Folds.{flat_map-map}
 use Rattle.m51_emit.specs.Within.{LieInside}
-use Rattle.m51_emit.specs.Gathering.{Gathered, run_of, runs_of, fixups_of, gathered_of, pieces_in, all_pieces}
-use Rattle.m51_emit.specs.Gathering.{all_fixups}
+use Rattle.m51_emit.specs.Gathering.{Gathered, run_of, runs_of, fixups_of, gathered_of, all_pieces, all_fixups}
 use Rattle.m51_emit.specs.declared.content.EmittedContent.{EmittedContent}
 use Rattle.m51_emit.specs.declared.gathering.ModuleContent.{ModuleContent}
 use Rattle.m51_emit.proofs.GrownRuns.{gathered_grows}
 use Rattle.m51_emit.proofs.LyingContent.{references_lie}
-use Rattle.m51_asm.specs.ObjectMeanings.{final}
-use Rattle.m51_asm.specs.ObjectSegments.{kept, number_in}
-use Rattle.m51_asm.specs.Pieces.{content_at, runs_from, line_fixups, fixups_from}
-use Rattle.m51_asm.specs.Gathering.{nothing_in, changed_at, changed_element, placed_at, placed_before, gathered_in}
-use Rattle.m51_asm.specs.ContentFaults.{content_fault}
-use Rattle.m51_asm.proofs.FewSegments.{few_segments}
-use Rattle.m51_asm.proofs.Members.{In, in_first, in_later, got_in}
-use Rattle.m51_asm.proofs.AnsweredLines.{moved}
-use Rattle.m51_asm.proofs.GivenContents.{given_at}
-use Rattle.m51_asm.proofs.GoodLines.{IsFreeText, free_where}
-use Rattle.m51_asm.proofs.KeptSegments.{ids, Ascend, AreKept, all_kept}
-use Rattle.m51_asm.proofs.KnownSegments.{known}
-use Rattle.m51_asm.proofs.SegmentRoom.{room}
-use Rattle.m51_asm.proofs.ValidPieces.{ends_by}
+use specs.ObjectSegments.{kept, number_in}
+use specs.Pieces.{content_at, runs_from, line_fixups, fixups_from}
+use specs.Gathering.{nothing_in, changed_at, changed_element, placed_at, placed_before, gathered_in}
+use specs.ContentFaults.{content_fault}
+use proofs.FewSegments.{few_segments}
+use proofs.Members.{In, in_first, in_later, got_in}
+use proofs.AnsweredLines.{moved}
+use proofs.GivenContents.{given_at}
+use proofs.GoodLines.{IsFreeText, free_where}
+use proofs.SegmentsAt.{of_cond}
+use proofs.KeptSegments.{ids, Ascend, AreKept, all_kept, room}
+use proofs.KnownSegments.{known}
+use proofs.ValidPieces.{ends_by}
 
 -- a write to an element is a change of it
 written : {A : Type 0} (change : A → A) (xs : List A) (i : ℕ) (d : A) → i < length xs
     → slice_set xs i (change (get_or xs i d)) ≡ changed_at change i xs
-written change [] i d h = absurd (omega (arith, h))
+written change [] i d h = grind arith
 written change (x ∷ xs) zero d h = refl
-written change (x ∷ xs) (suc i) d h = ap (λ ys. x ∷ ys) (written change xs i d (omega (arith, h)))
+written change (x ∷ xs) (suc i) d h = cc (written change xs i d (omega (arith, h)))
 
 -- past the end there is nothing to change
 nothing_changed : {A : Type 0} (change : A → A) (xs : List A) (i : ℕ) → length xs ≤ i → changed_at change i xs ≡ xs
 nothing_changed change [] i h = refl
-nothing_changed change (x ∷ xs) zero h = absurd (omega (arith, h))
-nothing_changed change (x ∷ xs) (suc i) h = ap (λ ys. x ∷ ys) (nothing_changed change xs i (omega (arith, h)))
+nothing_changed change (x ∷ xs) zero h = grind arith
+nothing_changed change (x ∷ xs) (suc i) h = cc (nothing_changed change xs i (omega (arith, h)))
 
 pub on_ok : {T E : Type 0} (r : Result T E) (P Q : Type 0) → (P → Q) → OnOk r P → OnOk r Q
-on_ok (Ok t) P Q f h = f h
-on_ok (Err e) P Q f h = tt
+on_ok b c d f h = grind arith
 
 -- the element of this number is changed, where the change goes well
 pub added : {A T E : Type 0} (r : Result T E) (change : A → A) (xs : List A) (n number : ℕ) (x new : A) → n ≡ number
     → number ≢ 0 → get_or xs (n - 1) x ≡ x
     → n - 1 < length xs → OnOk r (new ≡ change x) → OnOk r (slice_set xs (n - 1) new ≡ changed_element change number xs)
-added r change xs n zero x new same some is below h = absurd (some refl)
-added r change xs n (suc m) x new same some is below h =
-    let at : n - 1 ≡ m = omega (arith, same) in
-    on_ok r _ (slice_set xs (n - 1) new ≡ changed_at change m xs)
-    (λ e. ap (slice_set xs (n - 1)) (e ∙ ap change (sym is)) ∙ written change xs (n - 1) x below
-    ∙ ap (λ j. changed_at change j xs) at) h
+added r change xs n b x new same some is below h = grind (arith, on_ok, written)
 
 -- no element has this number
 pub not_there : {A : Type 0} (change : A → A) (xs : List A) (n number : ℕ) → n ≡ number → number ≢ 0 → length xs ≤ n - 1
     → xs ≡ changed_element change number xs
-not_there change xs n zero same some past = absurd (some refl)
-not_there change xs n (suc m) same some past = sym (nothing_changed change xs m (omega (arith, same, past)))
+not_there change xs n b same some past = grind (arith, nothing_changed)
 
 module _ (F G : Kept → Gathered) (change : Gathered → Gathered) (id : ℕ)
     (same : (s : Kept) → s.id ≡ id → change (F s) ≡ G s)
@@ -77,20 +68,14 @@ module _ (F G : Kept → Gathered) (change : Gathered → Gathered) (id : ℕ)
   changed_later : (x : Gathered) (ys : List Gathered) (o : Option ℕ)
       → changed_element change (from_one (option_map (λ n. suc n) o)) (x ∷ ys)
       ≡ x ∷ changed_element change (from_one o) ys
-  changed_later x ys None = refl
-  changed_later x ys (Some n) = refl
+  changed_later x ys b = grind arith
 
   changed_by : (x : Kept) (xs : List Kept) (b : Bool) → (x.id == id) ≡ b → ((s : Kept) → In s xs → x.id < s.id)
       → changed_element change (from_one (index_in (ids xs) id)) (map F xs) ≡ map G xs
       → changed_element change (from_one (cond b (Some 0) (option_map (λ n. suc n) (index_in (ids xs) id))))
       (F x ∷ map F xs)
       ≡ G x ∷ map G xs
-  changed_by x xs true test less go =
-      let e : x.id ≡ id = eqb-true x.id id test in
-      λ i. same x e i ∷ others xs (λ s j f. let l = less s j in absurd (omega (arith, l, e, f))) i
-  changed_by x xs false test less go =
-      changed_later (F x) (map F xs) (index_in (ids xs) id)
-      ∙ (λ i. other x (λ e. absurd (cc (test, eq-eqb x.id id e))) i ∷ go i)
+  changed_by x xs b test less go = grind (arith, eqb-true, others, changed_later, ids, eq-eqb)
 
   -- a change of the segment of one id, by its number
   changed_is : (xs : List Kept) → Ascend xs → changed_element change (from_one (index_in (ids xs) id)) (map F xs)
@@ -98,16 +83,10 @@ module _ (F G : Kept → Gathered) (change : Gathered → Gathered) (id : ℕ)
   changed_is [] order = refl
   changed_is (x ∷ xs) order = changed_by x xs (x.id == id) refl order.0 (changed_is xs order.1)
 
--- a function of what a test chooses
-of_cond : {A B : Type 0} (f : A → B) (b : Bool) (x y : A) → f (cond b x y) ≡ cond b (f x) (f y)
-of_cond f true x y = refl
-of_cond f false x y = refl
-
 -- an item that is put between two lists, or not
 between : {A : Type 0} (b : Bool) (xs ys : List A) (x : A)
     → xs ++ cond b (x ∷ ys) ys ≡ cond b (xs ++ x ∷ []) xs ++ ys
-between true xs ys x = sym (append_assoc xs (x ∷ []) ys)
-between false xs ys x = refl
+between b xs ys x = grind (arith, append_assoc)
 
 none_more : (n : ℕ) → n ≡ n + 0
 none_more n = omega arith
@@ -126,14 +105,18 @@ module _ (lines : List LineTree) (a : Assignment) where
   before_and : (id k : ℕ) (ls : List LineTree)
       → placed_before lines a id k ++ placed_from id k ls ≡ placed_before lines a id (k + length ls)
   unfolding placed_before
-  before_and id k [] = append-nil (placed_before lines a id k) ∙ ap (placed_before lines a id) (none_more k)
+  before_and id k [] = cc (append-nil (placed_before lines a id k), none_more k)
   before_and id k (line ∷ ls) =
-      between ((a.segment k).id == id) (placed_before lines a id k) (placed_from id (suc k) ls) (placed_at lines a k)
-      ∙ before_and id (suc k) ls ∙ ap (placed_before lines a id) (moved k (length ls))
+      cc (
+        between ((a.segment k).id == id) (placed_before lines a id k) (placed_from id (suc k) ls) (placed_at lines a
+            k),
+        before_and id (suc k) ls,
+        moved k (length ls),
+      )
 
   all_placed : (id : ℕ) → placed_before lines a id (length lines) ≡ placed_from id 0 lines
   unfolding placed_before
-  all_placed id = sym (before_and id 0 lines ∙ ap (placed_before lines a id) (none_before (length lines)))
+  all_placed id = cc (before_and id 0 lines, none_before (length lines))
 
   runs_are : (id k : ℕ) (ls : List LineTree) → runs_of (map run_of (placed_from id k ls)) ≡ runs_from lines a id k ls
   runs_are id k [] = refl
@@ -154,16 +137,10 @@ module _ (lines : List LineTree) (a : Assignment) where
       ∙ (λ i. cond here (line_fixups lines a number k ++ fixups_are s (suc k) ls i) (fixups_are s (suc k) ls i))
 
   pieces_are : all_pieces (gathered_before lines a (length lines)) ≡ pieces lines a
-  pieces_are =
-      flat_map-map pieces_in (gathered_in lines a (length lines)) (kept lines a)
-      ∙ (λ i. flat_map (λ s. flat_map (pieces_of_run (segment_number lines a s.id))
-      ((ap (λ xs. runs_of (map run_of xs)) (all_placed s.id) ∙ runs_are s.id 0 lines) i)) (kept lines a))
+  pieces_are = grind (arith, flat_map-map, all_placed, runs_are)
 
   fixups_all : all_fixups (gathered_before lines a (length lines)) ≡ fixups lines a
-  fixups_all =
-      flat_map-map (λ (g : Gathered). g.fixups) (gathered_in lines a (length lines)) (kept lines a)
-      ∙ (λ i. flat_map (λ s. (ap (fixups_of (object_segments lines a) (segment_number lines a s.id)) (all_placed s.id)
-      ∙ fixups_are s 0 lines) i) (kept lines a))
+  fixups_all = grind (arith, flat_map-map, all_placed, fixups_are)
 
   abbrev content_of : List Piece → List Fixup → ModuleContent
   content_of pieces fixups = record { pieces = pieces; fixups = fixups }
@@ -171,7 +148,7 @@ module _ (lines : List LineTree) (a : Assignment) where
   -- what is gathered of all lines is the content of the module
   pub whole : (gathered : List Gathered) → gathered ≡ gathered_before lines a (length lines)
       → content_of (all_pieces gathered) (all_fixups gathered) ≡ content_of (pieces lines a) (fixups lines a)
-  whole gathered e = λ i. content_of ((ap all_pieces e ∙ pieces_are) i) ((ap all_fixups e ∙ fixups_all) i)
+  whole gathered e = cc (e, pieces_are, fixups_all)
 
   -- what is gathered in a segment, by whether line k gives to it
   abbrev gathered_if : ℕ → Kept → Bool → Gathered
@@ -186,20 +163,22 @@ module _ (lines : List LineTree) (a : Assignment) where
       ≡ gathered_in lines a (suc k) s
   unfolding placed_before
   here_grows k s e =
-      sym (gathered_grows (object_segments lines a) (segment_number lines a s.id) (placed_before lines a s.id k)
-      (placed_at lines a k))
-      ∙ ap (gathered_if k s) (sym (eq-eqb (a.segment k).id s.id (sym e)))
+      cc (
+        gathered_grows (object_segments lines a) (segment_number lines a s.id) (placed_before lines a s.id k)
+            (placed_at lines a k),
+        eq-eqb (a.segment k).id s.id (sym e),
+      )
 
   -- any other stays
   there_stays : (k : ℕ) (s : Kept) → s.id ≢ (a.segment k).id → gathered_in lines a k s ≡ gathered_in lines a (suc k) s
   unfolding placed_before
-  there_stays k s ne = ap (gathered_if k s) (sym (ne_eqb (a.segment k).id s.id (λ e. ne (sym e))))
+  there_stays k s ne = grind arith
 
 -- the fields of a line lie in its bytes
 pub line_lies : (lines : List LineTree) (a : Assignment) (k : ℕ)
     → LieInside (length (content_at lines a k).bytes) (content_at lines a k).references
 unfolding content_at
-line_lies lines a k = references_lie (final lines a k) (a.form k) (body_at lines k)
+line_lies lines a k = grind (arith, references_lie)
 
 -- this number of segments from a number on, to which no line has given anything
 abbrev nothing_from : ℕ → ℕ → List Gathered
@@ -207,29 +186,31 @@ nothing_from n zero = []
 nothing_from n (suc m) = nothing_in (suc n) ∷ nothing_from (suc n) m
 
 nothing_and : (n m : ℕ) → nothing_gathered n ++ nothing_from n m ≡ nothing_gathered (n + m)
-nothing_and n zero = append-nil (nothing_gathered n) ∙ ap nothing_gathered (none_more n)
+nothing_and n zero = cc (append-nil (nothing_gathered n), none_more n)
 nothing_and n (suc m) =
-    sym (append_assoc (nothing_gathered n) (nothing_in (suc n) ∷ []) (nothing_from (suc n) m)) ∙ nothing_and (suc n) m
-    ∙ ap nothing_gathered (moved n m)
+    cc (
+      append_assoc (nothing_gathered n) (nothing_in (suc n) ∷ []) (nothing_from (suc n) m),
+      nothing_and (suc n) m,
+      moved n m,
+    )
 
 -- the number of a segment is its index, counted from 1
 index_is : (xs : List Kept) → Ascend xs → (j : ℕ) (s : Kept) → slice_get xs j ≡ Some s → index_in (ids xs) s.id ≡ Some j
 index_is [] order j s e = absurd (cc e)
-index_is (x ∷ xs) order zero s e =
-    let same : x ≡ s = cc e in
-    ap (λ b. cond b (Some 0) (option_map (λ n. suc n) (index_in (ids xs) s.id)))
-    (eq-eqb x.id s.id (ap (λ (k : Kept). k.id) same))
+index_is (x ∷ xs) order zero s e = grind arith
 index_is (x ∷ xs) order (suc j) s e =
-    let less : x.id < s.id = order.0 s (got_in xs j s e) in
-    λ i. cond (ne_eqb x.id s.id (omega (arith, less)) i) (Some 0)
-    (option_map (λ n. suc n) (index_is xs order.1 j s e i))
+    let less : x.id < s.id = order.0 s (got_in xs j s e) in cc (
+      ne_eqb x.id s.id (omega (arith, less)),
+      index_is xs
+          order.1 j s e,
+    )
 
 nothing_by : (f : Kept → ℕ) (n : ℕ) (xs : List Kept)
     → ((j : ℕ) (s : Kept) → slice_get xs j ≡ Some s → f s ≡ suc (n + j))
     → nothing_from n (length xs) ≡ map (λ s. nothing_in (f s)) xs
 nothing_by f n [] h = refl
-nothing_by f n (x ∷ xs) h = λ i. nothing_in (sym (h 0 x refl ∙ ap (λ m. suc m) (sym (none_more n))) i)
-    ∷ nothing_by f (suc n) xs (λ j s e. h (suc j) s e ∙ ap (λ m. suc m) (sym (moved n j))) i
+nothing_by f n (x ∷ xs) h =
+    cc (h 0 x refl, none_more n, nothing_by f (suc n) xs (λ j s e. h (suc j) s e ∙ ap (λ m. suc m) (sym (moved n j))))
 
 module _ (lines : List LineTree) (a : Assignment) (f : IsFreeText lines a) where
   order : Ascend (kept lines a)
@@ -242,7 +223,7 @@ module _ (lines : List LineTree) (a : Assignment) (f : IsFreeText lines a) where
       let s = a.segment k in
       let len = ap (λ (y : EmittedContent). length y.bytes) given in
       let end = ends_by lines a k s.id (eq-eqb s.id s.id refl) (given_at lines a f k below none).within in
-      elim (room lines a f (suc k) (omega (arith, below)) s (known lines a f k).same) [
+      elim (room lines a f (suc k) (omega (arith, below)) s (known lines a f.fits k).same) [
         | inl none ↦ omega (arith, end, none, placed, len)
         | inr r ↦ let most = r.most in omega (arith, end, most, placed, len)
       ]
@@ -251,10 +232,12 @@ module _ (lines : List LineTree) (a : Assignment) (f : IsFreeText lines a) where
   gathered_first : nothing_gathered (length (kept lines a)) ≡ gathered_before lines a 0
   unfolding number_in placed_before
   gathered_first =
-      let xs = kept lines a in
-      sym (nothing_and 0 (length xs) ∙ ap nothing_gathered (none_before (length xs)))
-      ∙ nothing_by (λ s. segment_number lines a s.id) 0 xs
-      (λ j s e. ap from_one (index_is xs order j s e) ∙ ap (λ n. suc n) (sym (none_before j)))
+      let xs = kept lines a in cc (
+        nothing_and 0 (length xs),
+        none_before (length xs),
+        nothing_by (λ s. segment_number
+            lines a s.id) 0 xs (λ j s e. ap from_one (index_is xs order j s e) ∙ ap (λ n. suc n) (sym (none_before j))),
+      )
 
   -- what is gathered grows with what is added of a line
   pub next_gathered : (k number at : ℕ) (content : EmittedContent) (segments : List Segment) (old new : List Gathered)
@@ -265,13 +248,10 @@ module _ (lines : List LineTree) (a : Assignment) (f : IsFreeText lines a) where
       ≡ gathered_before lines a (suc k)
   unfolding number_in
   next_gathered k number at content segments old new same numbered placed given before e =
-      e ∙ (λ i. changed_element (λ g. with_line (same i) g (placed i, given i)) (numbered i) (before i))
-      ∙ changed_is (gathered_in lines a k) (gathered_in lines a (suc k))
-      (λ g. with_line (object_segments lines a) g (placed_at lines a k)) (a.segment k).id
-      (here_grows lines a k) (there_stays lines a k) (kept lines a) order
+      grind (arith, changed_is, here_grows, there_stays, order)
 
   count_is : (segments : List Segment) → segments ≡ object_segments lines a → length segments ≡ length (kept lines a)
-  count_is segments e = ap length e ∙ length-map (kept lines a) (λ (k : Kept). k.segment)
+  count_is segments e = cc (length-map (kept lines a) (λ (k : Kept). k.segment))
 
   -- the segments of the module are not too many
   pub segments_few : (segments : List Segment) → segments ≡ object_segments lines a → length segments ≤ 254
@@ -279,10 +259,9 @@ module _ (lines : List LineTree) (a : Assignment) (f : IsFreeText lines a) where
 
   pub first_gathered : (segments : List Segment) → segments ≡ object_segments lines a
       → nothing_gathered (length segments) ≡ gathered_before lines a 0
-  first_gathered segments e = ap nothing_gathered (count_is segments e) ∙ gathered_first
+  first_gathered segments e = cc (count_is segments e, gathered_first)
 
 -- no line of a text that is placed has a fault by the lines above it
 pub placed_text : (lines : List LineTree) (a : Assignment) (t : PlacedText) → IsText lines → IsAssignedText lines a t
     → IsFreeText lines a
-placed_text lines a t text ready =
-    free_where text.source text.includes lines a text.read ready.fits ready.placed.free
+placed_text lines a t text ready = grind (arith, free_where)

@@ -1,9 +1,11 @@
--- An instruction without a fault gives the bytes of its row, and no more references than fixups are counted.
-use Rattle.m51_asm.proofs.Common.{nat_tests, ◌≡◌, ℕ, suc, ◌+◌, ◌≤◌, ◌==◌, Bool, cond, List, [], ◌∷◌, ◌++◌, length, take}
-use Rattle.m51_asm.proofs.Common.{Option, Some, None, Ok, refl, sym, subst, ◌∙◌, arith, length-append, length-take}
-use Rattle.m51_asm.proofs.Common.{Jump, Instr, row_length, Meanings, Reference, Answer, ◌⊎◌, inl, inr, zero, ◌<◌, false}
-use Rattle.m51_asm.proofs.Common.{not, same_kind, kind_same, BodyTree, OperandOutcome, LineTree, TextSegment}
-use Rattle.m51_asm.proofs.Common.{Assignment, body_at, size_by, is_misplaced, EmittedContent}
+-- What a line without a fault gives: no more bytes than it takes, in CODE, and no more references than fixups are
+-- counted; of a text without faults at most 65,535.
+use Rattle.m51_asm.proofs
+use Rattle.m51_asm.specs
+use proofs.Common.{◌≡◌, ℕ, suc, ◌+◌, ◌≤◌, List, [], ◌∷◌, length, take, Option, Some, None, Ok, refl, ◌∙◌, arith}
+use proofs.Common.{length-append, length-take, Jump, Instr, row_length, Meanings, Reference, Answer, ◌⊎◌, inr, zero}
+use proofs.Common.{◌<◌, false, not, same_kind, BodyTree, OperandOutcome, LineTree, TextSegment, Assignment, body_at}
+use proofs.Common.{size_by, is_misplaced, EmittedContent}
 use Rattle.std.specs.Prelude.{unwrap_or}
 use Rattle.std.specs.Option.{option_or}
 use Rattle.m51_isa.specs.Table.{encoded, padded}
@@ -16,18 +18,16 @@ use Rattle.m51_encode.specs.Filling.{beginning_at, reference_at, references_of}
 use Rattle.m51_encode.specs.Outcomes.{linked}
 use Rattle.m51_encode.specs.Coding.{gathered, first_of, second_of, third_of, three_outcomes, coded, outcomes, length_of}
 use Rattle.m51_encode.specs.Lengths.{HasRow}
-use Rattle.m51_asm.specs.Content.{placed_from, coded_content, nothing, outcomes_by, content_by}
-use Rattle.m51_asm.proofs.ContentFields.{Held, row_content, IsContent}
-use Rattle.m51_asm.proofs.MadeParts.{one_fixup, fixes, AreFine, IsGiven, AreMade, made, nothing_given}
-use Rattle.std.proofs.lemmas.Bool.{not-false}
+use specs.Content.{placed_from, coded_content, outcomes_by, content_by}
+use proofs.ContentFields.{Held, row_content, IsContent}
+use proofs.ItemContents.{one_fixup, fixes, AreFine, IsGiven, AreMade, made, bytes_given, words_given}
 use Rattle.m51_encode.proofs.FormRows.{forms_have_rows}
-use Rattle.m51_asm.specs.Assignment.{above}
-use Rattle.m51_asm.specs.Fitting.{size_at}
-use Rattle.m51_asm.specs.ObjectMeanings.{final}
-use Rattle.m51_asm.specs.ContentFaults.{line_outcomes_by, line_outcomes, made_before, content_fault}
-use Rattle.m51_asm.specs.Pieces.{content_at}
-use Rattle.m51_asm.proofs.GoodLines.{IsGood, IsFreeText, IsClean, free_text, free}
-use Rattle.m51_asm.proofs.ItemContents.{bytes_given, words_given}
+use specs.Assignment.{above}
+use specs.Fitting.{size_at}
+use specs.ObjectMeanings.{final}
+use specs.ContentFaults.{line_outcomes_by, line_outcomes, made_before, content_fault}
+use specs.Pieces.{content_at}
+use proofs.GoodLines.{IsGood, IsFreeText, IsClean, free}
 use Rattle.m51_cells.specs.declared.kind.Kind.TheVariants as kind
 use Rattle.m51_stmt.specs.Statement as body
 
@@ -50,15 +50,9 @@ refs_len [] n = refl
 refs_len (None ∷ os) n = let e = refs_len os (suc n) in omega arith
 refs_len (Some r ∷ os) n = let e = refs_len os (suc n) in omega arith
 
-one_if : (b : Bool) (o : Option Reference) → one_ref (cond b o None) ≡ cond b (one_ref o) 0
-one_if b o = grind arith
-
-one_byte : (byte n : ℕ) → cond (byte == 0) n 0 + (cond (byte == 1) n 0 + cond (byte == 2) n 0) ≤ n
-one_byte byte n = grind (arith, nat_tests)
-
 begins_once : (x : Held)
     → one_ref (beginning_at 0 x) + (one_ref (beginning_at 1 x) + one_ref (beginning_at 2 x)) ≤ one_ref x.reference
-begins_once x = omega (arith, one_if, one_byte x.byte (one_ref x.reference))
+begins_once x = grind arith
 
 at_most : (k : ℕ) (a b c : Held) → one_ref (reference_at k a b c) ≤ one_ref
     (beginning_at k a) + (one_ref (beginning_at k b) + one_ref (beginning_at k c))
@@ -69,14 +63,7 @@ few_references : (a b c : Held) → length (placed_from 0 (references_of a b c))
 few_references a b c = omega (arith, refs_len (references_of a b c) 0, at_most, begins_once, one_linked)
 
 front_len : (bytes : List ℕ) → length bytes ≤ 3 → length (take (length bytes) (padded bytes)) ≡ length bytes
-front_len bytes short =
-    let zeros : List ℕ = 0 ∷ 0 ∷ 0 ∷ [] in
-    omega (
-      arith,
-      length-take (length bytes) (take 3 (bytes ++ zeros)),
-      length-take 3 (bytes ++ zeros),
-      length-append bytes zeros,
-    )
+front_len bytes short = grind (arith, length-take, length-append)
 
 -- an instruction of a row
 module _ (names : Meanings) (row : Instr) (oa ob oc : Option OperandTree) where
@@ -99,12 +86,7 @@ pub code_given : (names : Meanings) (mnemonic : List ℕ) (operands : List Opera
     → HasRow mnemonic operands form → AreFine (outcomes names mnemonic operands form)
     → IsGiven names (unwrap_or (length_of mnemonic operands form) 0) (outcomes names mnemonic operands form)
     (coded_content (coded names mnemonic operands form))
-code_given names mnemonic operands form has fine =
-    let given = three_given names has.row has.line.first has.line.second has.line.third _ _ _ refl refl refl
-    (subst AreFine (has.comes_to names) fine) in
-    subst (λ (X : Type 0). X)
-    (λ i. IsGiven names (unwrap_or (sym has.length i) 0) (sym (has.comes_to names) i)
-    (coded_content (sym (has.code names) i))) given
+code_given names mnemonic operands form has fine = grind (arith, three_given)
 
 -- what a line gives, by what it says
 record IsGivenBy (names : Meanings) (size : ℕ) (parts : List OperandOutcome) (segment : TextSegment)
@@ -115,7 +97,7 @@ record IsGivenBy (names : Meanings) (size : ℕ) (parts : List OperandOutcome) (
   code : (length c.bytes ≡ 0) ⊎ (segment.kind ≡ kind.Code)
 
 in_code : (s : TextSegment) → not (same_kind s.kind kind.Code) ≡ false → s.kind ≡ kind.Code
-in_code s h = kind_same s.kind kind.Code (not-false (same_kind s.kind kind.Code) h)
+in_code s h = grind arith
 
 module _ (names counts : Meanings) (form : Jump) (s : TextSegment) where
   exactly : (size : ℕ) (parts : List OperandOutcome) (c : EmittedContent) → IsGiven names size parts c
@@ -127,25 +109,18 @@ module _ (names counts : Meanings) (form : Jump) (s : TextSegment) where
     code = inr (in_code s stands);
   }
 
-  none_given : (size : ℕ) (parts : List OperandOutcome) → IsGivenBy names size parts s nothing
-  none_given size parts =
-      let g = nothing_given names parts in
-      record { content = g.content; within = omega arith; few = g.few; code = inl refl }
-
   given_by : (b : BodyTree) → IsGood b → is_misplaced s b ≡ false → AreFine (outcomes_by names form b)
       → IsGivenBy names (size_by counts form b) (outcomes_by names form b) s (content_by names form b)
-  given_by (body.Code mnemonic operands) good stands fine =
-      exactly _ _ _ (code_given names mnemonic operands form (forms_have_rows mnemonic operands good form) fine) stands
+  given_by (body.Code mnemonic operands) good stands fine = grind (arith, code_given, forms_have_rows)
   given_by (body.Db items) good stands fine = exactly _ _ _ (bytes_given names items fine) stands
   given_by (body.Dw items) good stands fine = exactly _ _ _ (words_given names items good fine) stands
-  given_by b good stands fine = none_given (size_by counts form b) []
+  given_by b good stands fine = grind arith
 
 line_given : (lines : List LineTree) (a : Assignment) (k : ℕ) (counts : Meanings) (s : TextSegment) (b : BodyTree)
     → IsGood b → is_misplaced s b ≡ false → AreFine (line_outcomes_by lines a k b)
     → IsGivenBy (final lines a k) (size_by counts (a.form k) b) (line_outcomes_by lines a k b) s
     (content_by (final lines a k) (a.form k) b)
-line_given lines a k counts s (body.Public ps) good stands fine =
-    none_given (final lines a k) counts (a.form k) s 0 (line_outcomes_by lines a k (body.Public ps))
+line_given lines a k counts s (body.Public ps) good stands fine = grind arith
 line_given lines a k counts s b good stands fine =
     given_by (final lines a k) counts (a.form k) s b good stands fine
 
@@ -173,7 +148,7 @@ given_at lines a f k below none =
 
 module _ (lines : List LineTree) (a : Assignment) (c : IsClean lines a) where
   pub given : (k : ℕ) → k < length lines → IsLineGiven lines a k
-  given k below = given_at lines a (free_text lines a c) k below (c.content k below)
+  given k below = grind (arith, given_at)
 
   pub made_most : (k : ℕ) → k ≤ length lines → made_before lines a k ≤ 65535
   unfolding made_before

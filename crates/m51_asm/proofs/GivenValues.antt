@@ -1,67 +1,42 @@
--- The values of names, as the map keeps them.
-use Rattle.m51_asm.proofs.Common.{◌≡◌, ℕ, Bool, true, false, cond, List, [], ◌∷◌, Option, Some, refl, ap, sym, ◌∙◌}
-use Rattle.m51_asm.proofs.Common.{bytes_eq-Decides, lookup, Vec, bytes_eq, Located, value_in, suc, ◌+◌, ◌≤◌, length}
-use Rattle.m51_asm.proofs.Common.{◌++◌, map, None, subst, arith, option_map, Kind, BodyTree, StmtTree, Equ, Set}
-use Rattle.m51_asm.proofs.Common.{Address, LineTree, Giving, SegmentOf, ExternOf, externals_from, defined_by}
-use Rattle.m51_asm.proofs.Common.{label_defined, definitions_in, found_in, Assignment, here_at, externals_in}
-use Rattle.m51_asm.proofs.Common.{located_value, brief, or_kept, expression_given, given_or, Defined, take, slice_get}
-use Rattle.m51_asm.proofs.Common.{or_parts, Value, Definition, SetOf, line_definitions, defined_of, set_by, value_by}
-use Rattle.m51_asm.proofs.Common.{clashes, or_here, earlier, repeats_from}
+-- The values of names, as the map keeps them, and those that a line gives; how the values of a text grow with a line
+-- that repeats nothing.
+use Rattle.m51_asm.proofs
+use Rattle.m51_asm.specs
+use proofs.Common.{◌≡◌, ℕ, Bool, true, false, cond, List, [], ◌∷◌, Option, Some, refl, ap, sym, ◌∙◌, bytes_eq-Decides}
+use proofs.Common.{lookup, Vec, bytes_eq, Located, value_in, suc, ◌+◌, ◌≤◌, length, ◌++◌, map, None, subst, arith}
+use proofs.Common.{option_map, Kind, BodyTree, StmtTree, LineTree, Giving, ExternOf, externals_from, defined_by}
+use proofs.Common.{label_defined, definitions_in, found_in, Assignment, here_at, externals_in, located_value, brief}
+use proofs.Common.{or_kept, expression_given, given_or, Defined, take, slice_get, or_parts, Value, Definition, SetOf}
+use proofs.Common.{line_definitions, set_by, value_by, clashes, or_here, earlier, repeats_from}
 use Rattle.indexmap.specs.IndexMap.{insert_entry}
-use Rattle.m51_asm.specs.Values.{valuation_of, known, Puts}
-use Rattle.m51_stmt.specs.Statement.{Segment, Extrn}
-use Rattle.m51_asm.specs.Assignment.{above}
-use Rattle.m51_asm.specs.Fitting.{externals_before, last_set}
-use Rattle.m51_asm.specs.Table.{Brief, how_of}
-use Rattle.m51_asm.specs.ValuesAbove.{line_value, value_above}
-use Rattle.m51_asm.specs.GivenValues.{given_by, HaveNumbers}
-use Rattle.m51_asm.specs.Definitions.{definition_of}
-use Rattle.m51_asm.specs.Repeats.{repeats_a_name, is_repeated}
-use Rattle.m51_asm.proofs.DefinedLines.{or_none, at_line, defined_more}
+use specs.Values.{valuation_of, known, Puts}
+use Rattle.m51_stmt.specs.Statement.{Extrn}
+use specs.Assignment.{above}
+use specs.Fitting.{externals_before, last_set}
+use specs.Table.{Brief, how_of}
+use specs.ValuesAbove.{line_value, value_above}
+use specs.GivenValues.{given_by, HaveNumbers}
+use specs.Definitions.{definition_of}
+use specs.Repeats.{repeats_a_name, is_repeated}
+use proofs.DefinedLines.{or_none, at_line, defined_more}
 
 -- the map's entry of a name
 pub lookup_value : (name : List ℕ) (entries : List (Vec ℕ × Option (Located ℕ)))
     → known (lookup (λ (k : Vec ℕ). bytes_eq name k.items) entries) ≡ value_in (valuation_of entries) name
 lookup_value name [] = refl
-lookup_value name (e ∷ es) =
-    known_if (bytes_eq name e.0.items) e.1 (lookup (λ (k : Vec ℕ). bytes_eq name k.items) es) (lookup_value name es)
-  where
-    known_if : (b : Bool) (v : Option (Located ℕ)) (o : Option (Option (Located ℕ))) {w : Option (Located ℕ)}
-        → known o ≡ w → known (cond b (Some v) o) ≡ cond b v w
-    known_if true v o h = refl
-    known_if false v o h = h
-
-value_if : (b : Bool) (xs ys : List (Vec ℕ × Option (Located ℕ))) (name : List ℕ)
-    → value_in (valuation_of (cond b xs ys)) name
-    ≡ cond b (value_in (valuation_of xs) name) (value_in (valuation_of ys) name)
-value_if true xs ys name = refl
-value_if false xs ys name = refl
+lookup_value name (e ∷ es) = grind (arith, lookup_value name es)
 
 -- one entry more: whether its key is the one that is put in, whether it is the name, and whether the two are the same
 put_step : (b p q : Bool) (v w x y : Option (Located ℕ)) → (b ≡ true → p ≡ q) → (p ≡ true → q ≡ true → b ≡ true)
     → y ≡ cond q v x → cond b (cond p v x) (cond p w y) ≡ cond q v (cond p w x)
-put_step true true true v w x y s t h = refl
-put_step true false false v w x y s t h = refl
-put_step true true false v w x y s t h = absurd (cc (s refl))
-put_step true false true v w x y s t h = absurd (cc (s refl))
-put_step false true true v w x y s t h = absurd (cc (t refl refl))
-put_step false true false v w x y s t h = refl
-put_step false false q v w x y s t h = h
+put_step b c q v w x y s t h = grind arith
 
 -- a value that is put in
 pub put_value : (entries : List (Vec ℕ × Option (Located ℕ))) (key : Vec ℕ) (v : Option (Located ℕ))
     → Puts (valuation_of entries)
     (valuation_of (insert_entry (λ (a b : Vec ℕ). bytes_eq a.items b.items) entries key v)) key.items v
 put_value [] key v other = refl
-put_value (e ∷ es) key v other =
-    let same : (m n : List ℕ) → bytes_eq m n ≡ true → m ≡ n = λ m n. (bytes_eq-Decides m n).0 in
-    let rest = insert_entry (λ (a b : Vec ℕ). bytes_eq a.items b.items) es key v in
-    value_if (bytes_eq key.items e.0.items) ((e.0, v) ∷ es) (e ∷ rest) other
-    ∙ put_step (bytes_eq key.items e.0.items) (bytes_eq other e.0.items) (bytes_eq other key.items) v e.1
-    (value_in (valuation_of es) other) (value_in (valuation_of rest) other)
-    (λ p. ap (bytes_eq other) (sym (same key.items e.0.items p)))
-    (λ p q. ap (λ n. bytes_eq n e.0.items) (sym (same other key.items q)) ∙ p)
-    (put_value es key v other)
+put_value (e ∷ es) key v other = grind (arith, bytes_eq-Decides, put_step, put_value es key v other)
 
 module _ (lines : List LineTree) (a : Assignment) (k : ℕ) (g : Giving) (here : located_value g.here ≡ here_at a k)
     (line : g.line ≡ k)
@@ -75,15 +50,7 @@ module _ (lines : List LineTree) (a : Assignment) (k : ℕ) (g : Giving) (here :
       → option_map located_value (given_or g (map brief ds) name kept)
       ≡ or_kept lines a k (found_in ds name) (option_map located_value kept)
   given_in [] h name kept = refl
-  given_in (d ∷ ds) h name kept = by_test (bytes_eq name d.0) (given_in ds h.1 name kept)
-    where
-      by_test : (b : Bool)
-          → option_map located_value (given_or g (map brief ds) name kept)
-          ≡ or_kept lines a k (found_in ds name) (option_map located_value kept)
-          → option_map located_value (cond b (given_by g (how_of d.1)) (given_or g (map brief ds) name kept))
-          ≡ or_kept lines a k (cond b (Some d.1) (found_in ds name)) (option_map located_value kept)
-      by_test true later = h.0
-      by_test false later = later
+  given_in (d ∷ ds) h name kept = grind (arith, given_in ds h.1 name kept)
 
   externals_agree : (number : ℕ) (names : List (List ℕ × Kind)) → Agree (externals_from number names)
   externals_agree number [] = tt
@@ -94,26 +61,14 @@ module _ (lines : List LineTree) (a : Assignment) (k : ℕ) (g : Giving) (here :
 
   body_agrees : (body : BodyTree) → option_map located_value g.expression ≡ expression_given (above lines a k) body
       → Agree (defined_by body)
-  body_agrees (Segment other kind reloc overlayable) h =
-      (ap (λ n. option_map located_value (given_by (record g { line = n }) (how_of (SegmentOf kind)))) line, tt)
-  body_agrees (Equ other e) h = (h, tt)
-  body_agrees (Set other e) h = (h, tt)
-  body_agrees (Address other kind e) h = (h, tt)
-  body_agrees (Extrn names) h = externals_agree 0 names
-  body_agrees body h = tt
-
-  label_agrees : (label : Option (List ℕ)) (ds : List Defined) → Agree ds → Agree (label_defined label ++ ds)
-  label_agrees None ds h = h
-  label_agrees (Some label) ds h = (ap Some here, h)
+  body_agrees body h = grind (arith, externals_agree)
 
   -- after a line a name has the value that its definition there gives it, or else the one that it had
   pub given : (name : List ℕ) (kept : Option (Located ℕ)) (stmt : StmtTree)
       → option_map located_value g.expression ≡ expression_given (above lines a k) stmt.body
       → option_map located_value (given_or g (map brief (definitions_in stmt)) name kept)
       ≡ or_kept lines a k (found_in (definitions_in stmt) name) (option_map located_value kept)
-  given name kept stmt h =
-      given_in (definitions_in stmt) (label_agrees stmt.label (defined_by stmt.body) (body_agrees stmt.body h)) name
-      kept
+  given name kept stmt h = grind (arith, given_in, body_agrees)
 
 externals_have : (above number : ℕ) (names : List (List ℕ × Kind)) → above + number + length names ≤ 255
     → HaveNumbers above (map brief (externals_from number names))
@@ -124,11 +79,7 @@ externals_have above number (e ∷ names) h =
 body_has : (above : ℕ) (body : BodyTree) → above + externals_in body ≤ 255
     → HaveNumbers above (map brief (defined_by body))
 body_has above (Extrn names) h = externals_have above 0 names (omega (arith, h))
-body_has above (Segment other kind reloc overlayable) h = (tt, tt)
-body_has above (Equ other e) h = (tt, tt)
-body_has above (Set other e) h = (tt, tt)
-body_has above (Address other kind e) h = (tt, tt)
-body_has above body h = tt
+body_has above body h = grind arith
 
 label_has : (above : ℕ) (label : Option (List ℕ)) (body : BodyTree) → above + externals_in body ≤ 255
     → HaveNumbers above (map brief (label_defined label ++ defined_by body))
@@ -142,8 +93,7 @@ have_numbers above stmt defined is h = subst (HaveNumbers above) (sym is) (label
 
 -- a definition that clashes with none of two clashes with none of the first
 no_clash_first : (x y : Option Definition) (d : Definition) → clashes (or_here x y) d ≡ false → clashes x d ≡ false
-no_clash_first None y d h = refl
-no_clash_first (Some e) y d h = h
+no_clash_first b y d h = grind arith
 
 abbrev pub above_of : List LineTree → ℕ → List ℕ → Option Definition
 above_of lines k name = option_map (λ d. d.1) (definition_of (take k lines) name)
@@ -182,7 +132,7 @@ module _ (lines : List LineTree) (a : Assignment) (k : ℕ) (name : List ℕ) wh
       → value_with (set_by (above lines a k) last f) (or_here d (option_map (at_line k) f))
       ≡ or_kept lines a k f (value_with last d)
   unfolding at_line
-  grow last d None c = ap (value_with last) (or_none d)
+  grow last d None c = cc (or_none d)
   grow last None (Some (SetOf e)) c = refl
   grow last None (Some x) c = refl
   grow last (Some (j, SetOf e)) (Some (SetOf x)) c = refl
@@ -198,9 +148,9 @@ module _ (lines : List LineTree) (a : Assignment) (k : ℕ) (name : List ℕ) wh
       (value_above lines a k name)
   unfolding value_above last_set
   grown line is h =
-      ap (value_with (last_set lines a name (suc k)))
-      (defined_more lines k line name is
-      ∙ ap (λ l. or_here (definition_of (take k lines) name) (option_map (at_line k) (found_in (defined_of l) name)))
-      (sym is))
-      ∙ grow (last_set lines a name k) (definition_of (take k lines) name) (found_in (line_definitions lines k) name)
-      (λ x f. no_clash_in lines k [] (line_definitions lines k) name x (not_again h) f)
+      cc (
+        defined_more lines k line name is,
+        grow (last_set lines a name k) (definition_of (take k lines) name)
+            (found_in (line_definitions lines k) name) (λ x f. no_clash_in lines k [] (line_definitions lines k) name x
+            (not_again h) f),
+      )

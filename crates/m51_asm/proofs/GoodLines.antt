@@ -1,9 +1,10 @@
 -- What lines of a text say, as far as modules ask for it, and that no line of a text without faults has one.
-use Rattle.m51_asm.proofs.Common.{nat_tests, above, ◌≡◌, ◌≢◌, inl, inr, ℕ, zero, suc, ◌+◌, ◌<◌, Bool, true, false, cond}
-use Rattle.m51_asm.proofs.Common.{List, [], ◌∷◌, length, Option, Some, None, Result, Ok, Err, refl, ap, subst, ◌∙◌}
-use Rattle.m51_asm.proofs.Common.{arith, and_parts, Kind, Reloc, IsWritten, Fault, SourceFile, BodyTree, StmtTree, Each}
-use Rattle.m51_asm.proofs.Common.{LineTree, Lines, text_of, Assignment, body_at, Fits, is_misplaced, operand_fault}
-use Rattle.m51_asm.proofs.Common.{if_fault, faults_from, content_faults, AreFree, first_fault}
+use Rattle.m51_asm.proofs
+use Rattle.m51_asm.specs
+use proofs.Common.{above, ◌≡◌, ◌≢◌, ℕ, zero, suc, ◌+◌, ◌<◌, Bool, true, false, cond, List, [], ◌∷◌, length, Option}
+use proofs.Common.{Some, None, Result, Ok, Err, refl, subst, arith, and_parts, Kind, Reloc, IsWritten, Fault}
+use proofs.Common.{SourceFile, BodyTree, StmtTree, Each, LineTree, Lines, text_of, Assignment, body_at, Fits}
+use proofs.Common.{is_misplaced, operand_fault, if_fault, faults_from, content_faults, AreFree, first_fault}
 use Rattle.std.specs.List.{AllByRecursion, list_all}
 use Rattle.std.proofs.lemmas.List.Elements.{All-from_recursion}
 use Rattle.m51_cells.specs.declared.kind.Kind.TheVariants as kind
@@ -18,17 +19,17 @@ use Rattle.m51_stmt.specs.Printing.{reloc_word}
 use Rattle.m51_stmt.specs.Laws.{IsByte}
 use Rattle.m51_stmt.proofs.ListWords.{some_each}
 use Rattle.m51_stmt.proofs.PrintedLists.{IsItem}
-use Rattle.m51_stmt.proofs.PrintedBodies.{IsSelected, IsBody}
-use Rattle.m51_stmt.proofs.PrintedStatements.{IsControl, IsLine}
+use Rattle.m51_stmt.proofs.PrintedBodies.{IsBody}
+use Rattle.m51_stmt.proofs.PrintedStatements.{IsLine}
 use Rattle.m51_stmt.proofs.ReadStatements.{written_is_good}
 use Rattle.m51_text.specs.Said.{is_character, said}
-use Rattle.m51_text.specs.Text.{text_lines, TextLine}
+use Rattle.m51_text.specs.Text.{TextLine}
 use Rattle.m51_text.specs.Answer.{faults_or_lines, statements_of, with_statement}
-use Rattle.m51_asm.specs.Repeats.{is_repeated}
-use Rattle.m51_asm.specs.PlacedFaults.{is_past, is_too_many, placed_fault}
-use Rattle.m51_asm.specs.ContentFaults.{content_fault}
-use Rattle.m51_asm.specs.Answer.{fault_or}
-use Rattle.m51_asm.specs.ValidTexts.{IsFaultless}
+use specs.Repeats.{is_repeated}
+use specs.PlacedFaults.{is_past, is_too_many, placed_fault}
+use specs.ContentFaults.{content_fault}
+use specs.Answer.{fault_or}
+use specs.ValidTexts.{IsFaultless}
 
 -- a segment that can be declared
 pub record IsDeclared (name : List ℕ) (k : Kind) (r : Reloc) (overlayable : Bool) : Type 0 where
@@ -62,22 +63,17 @@ good_body at (body.Segment name k r overlayable) is = record {
   reloc_is = λ e. cc (subst (λ t. reloc_of (reloc_word t) ≡ Some t) e is.1.reloc_is);
   allowed = is.1.allowed;
 }
-good_body at (body.Select k e) is = λ e. cc (subst IsSelected e is.0)
+good_body at (body.Select k e) is = grind arith
 good_body at (body.Public names) is = each_weaker _ _ (λ name h. h.written) names (some_each _ _ is)
-good_body at (body.Extrn externs) is = each_weaker _ _ (λ e h. h.leaf.written) externs (some_each _ _ is)
-good_body at (body.ModuleName name) is = is.written
+good_body at (body.Extrn externs) is = grind (arith, each_weaker)
+good_body at (body.ModuleName name) is = cc
 good_body at b is = tt
 
-good_control : (b : BodyTree) → IsControl b → IsGood b
-good_control (body.Code mnemonic operands) is = absurd is
-good_control b is = search
-
 good_line : (label : Option (List ℕ)) (b : BodyTree) → IsLine label b → IsGood b
-good_line None b is = elim is [ inl c ↦ good_control b c | inr d ↦ good_body 0 b d ]
-good_line (Some name) b is = good_body 2 b is.1
+good_line c b is = grind (arith, good_body)
 
 character_byte : (b : ℕ) → is_character b ≡ true → b < 256
-character_byte b h = grind (arith, nat_tests)
+character_byte b h = grind arith
 
 pub bytes_all : (line : List ℕ) → list_all is_character line ≡ true → AllByRecursion IsByte line
 bytes_all [] h = tt
@@ -104,17 +100,14 @@ good_said line s h =
 
 one_good : (line : TextLine) (r : Result StmtTree ℕ) (more : List LineTree) → said line.bytes ≡ r
     → ((k : ℕ) → IsGood (body_at more k)) → (k : ℕ) → IsGood (body_at (with_statement line r more) k)
-one_good line (Ok s) more e all zero = good_said line.bytes s e
-one_good line (Ok s) more e all (suc k) = all k
-one_good line (Err number) more e all k = all k
+one_good line b more e all k = grind (arith, good_said)
 
 all_good : (ls : List TextLine) (k : ℕ) → IsGood (body_at (statements_of ls) k)
 all_good [] k = tt
 all_good (l ∷ ls) k = one_good l _ _ refl (all_good ls) k
 
 pub found_are : (faults : List Fault) (ls found : List LineTree) → faults_or_lines faults ls ≡ Lines found → ls ≡ found
-found_are [] ls found h = cc h
-found_are (fault ∷ faults) ls found h = absurd (cc h)
+found_are b ls found h = grind arith
 
 -- a text in which no line has a fault by the lines above it
 pub record IsFreeText (lines : List LineTree) (a : Assignment) : Type 0 where
@@ -141,7 +134,7 @@ none_from : (fault : ℕ → Option ℕ) (P : ℕ → List LineTree → Type 0)
     → ((n : ℕ) (l : LineTree) (ls : List LineTree) → P n (l ∷ ls) → (fault n ≡ None) × P (suc n) ls)
     → (ls : List LineTree) (n j k : ℕ) → k ≡ n + j → P n ls → j < length ls → fault k ≡ None
 none_from fault P parts [] n j k is h below = absurd (omega arith)
-none_from fault P parts (l ∷ ls) n zero k is h below = let e : k ≡ n = omega arith in ap fault e ∙ (parts n l ls h).0
+none_from fault P parts (l ∷ ls) n zero k is h below = grind arith
 none_from fault P parts (l ∷ ls) n (suc j) k is h below =
     none_from fault P parts ls (suc n) j k (omega arith) (parts n l ls h).1 (omega arith)
 
@@ -151,9 +144,7 @@ free_text lines a c = record { fits = c.fits; good = c.good; placed = c.placed }
 module _ (source : SourceFile) (includes : List SourceFile) (lines : List LineTree) (a : Assignment)
     (read : text_of source includes ≡ Lines lines) (fits : Fits lines a) (placed : AreFree lines a (length lines)) where
   pub free_where : IsFreeText lines a
-  free_where =
-      let is = found_are _ _ _ read in
-      record { fits = fits; good = λ k. rw (← is) (all_good (text_lines source includes) k); placed = placed }
+  free_where = grind (arith, all_good)
 
   -- the lines of a text, of which none has a fault
   pub clean_where : content_faults lines a ≡ [] → IsClean lines a
@@ -183,9 +174,4 @@ test_none b n o h = grind arith
 
 pub free : (lines : List LineTree) (a : Assignment) (k : ℕ) → placed_fault lines a k ≡ None → IsFaultFree lines a k
 unfolding placed_fault
-free lines a k h =
-    let one = test_none _ _ _ h in
-    let two = test_none _ _ _ one.1 in
-    let three = test_none _ _ _ two.1 in
-    let four = test_none _ _ _ three.1 in
-    record { once = one.0; inside = two.0; stands = three.0; few = four.0; operand = four.1 }
+free lines a k h = grind (arith, test_none)

@@ -1,8 +1,15 @@
--- DB and DW without a fault give the bytes of their items, and no more references than fixups are counted.
-use Rattle.m51_asm.proofs.Common.{◌≡◌, inl, inr, ℕ, ◌+◌, ◌≤◌, false, List, [], ◌∷◌, ◌++◌, map, length, Option, Some}
-use Rattle.m51_asm.proofs.Common.{None, Ok, Err, refl, sym, ap, subst, ◌∙◌, arith, length-append, length-map, field_len}
-use Rattle.m51_asm.proofs.Common.{Value, Tree, Valued, Meanings, OperandOutcome, Faulty, FieldValue, Number, Linked}
-use Rattle.m51_asm.proofs.Common.{Reference, Answer, linked_is, Each, ReferenceAt, EmittedContent}
+-- DB and DW without a fault give the bytes of their items, and no more references than fixups are counted: where no
+-- part of a line has a fault, the fixups of all are made, never more than 65,535.
+use Rattle.m51_asm.proofs
+use Rattle.m51_asm.specs
+use proofs.Common.{cases_Bool, inl, inr, ◌<◌, ◌≡◌, ℕ, suc, ◌+◌, ◌≤◌, nat_lt, List, [], ◌∷◌, length, None, refl, sym}
+use proofs.Common.{arith, add-zero, ltb-true, Meanings, OperandOutcome, Faulty, EmittedContent, false, ◌++◌, map}
+use proofs.Common.{Option, Some, Ok, subst, length-append, length-map, Value, Tree, Valued, FieldValue, Answer}
+use proofs.Common.{linked_is, Each, ReferenceAt}
+use Rattle.m51_encode.specs.declared.outcome.OperandOutcome.TheVariants.{Fixes, Stands}
+use specs.Outcomes.{made_with_all, leftmost_fault}
+use specs.Content.{nothing, item_outcome, item_given, item_content, later, followed_by, joined}
+use proofs.ContentFields.{IsContent, width, form_width, IsLinkedBy, end_of_field, FieldAfter}
 use Rattle.std.proofs.Common.{◌*◌}
 use Rattle.m51_expr.specs.Evaluation.{value_of}
 use Rattle.m51_expr.specs.Operand.{ItemTree, Value as ValueItem, Text}
@@ -10,20 +17,66 @@ use Rattle.m51_encode.specs.declared.item.Width.{Width}
 use Rattle.m51_encode.specs.declared.item.Width.TheVariants.{Byte, Word}
 use Rattle.m51_encode.specs.FieldValues.{field_of}
 use Rattle.m51_encode.specs.Filling.{and_then, or_out_of_range, fielded}
-use Rattle.m51_encode.specs.Items.{item_field, field_of_width, number_bytes}
+use Rattle.m51_encode.specs.Items.{item_field, field_of_width}
 use Rattle.m51_stmt.proofs.PrintedLists.{IsItem}
 use Rattle.m51_emit.specs.Sizes.{items_size}
-use Rattle.m51_asm.specs.Content.{item_outcome, item_given, item_content, later, followed_by, joined}
-use Rattle.m51_asm.proofs.Members.{in_map, every_append, pairs_append, pairs_map, pairs_weaker}
-use Rattle.m51_asm.proofs.ContentFields.{width, form_width, IsLinkedBy, end_of_field, FieldAfter}
-use Rattle.m51_asm.proofs.MadeParts.{AreFine, IsGiven, no_refs}
+use proofs.Members.{in_map, every_append, pairs_append, pairs_map, pairs_weaker}
+
+-- 1 for a fixup
+abbrev pub one_fixup : OperandOutcome → ℕ
+one_fixup Fixes = 1
+one_fixup other = 0
+
+-- the number of fixups of parts
+abbrev pub fixes : List OperandOutcome → ℕ
+fixes [] = 0
+fixes (part ∷ parts) = one_fixup part + fixes parts
+
+-- no part has a fault
+abbrev pub AreFine : List OperandOutcome → Type 0
+AreFine [] = Unit {0}
+AreFine (Faulty n ∷ parts) = ⊥
+AreFine (part ∷ parts) = AreFine parts
+
+-- what is made with parts of which none has a fault
+pub record AreMade (made : ℕ) (parts : List OperandOutcome) : Type 0 where
+  pub fine : AreFine parts
+  pub made_is : made_with_all made parts ≡ made + fixes parts
+  pub most : made ≤ 65535 → made_with_all made parts ≤ 65535
+
+pub made : (m : ℕ) (parts : List OperandOutcome) → leftmost_fault m parts ≡ None → AreMade m parts
+made m [] h = record { fine = tt; made_is = sym (add-zero m); most = λ most. most }
+made m (Faulty n ∷ parts) h = absurd (cc h)
+made m (Stands ∷ parts) h = grind (arith, made m parts h)
+made m (Fixes ∷ parts) h = elim (cases_Bool (nat_lt m 65535)) [
+  | inr most ↦ absurd (cc (rw most at h))
+  | inl test ↦
+      let r = made (suc m) parts (rw test at h) in
+      let less : m < 65535 = ltb-true _ _ test in
+      record {
+        fine = r.fine;
+        made_is = rw test (omega (arith, r.made_is));
+        most = λ most. rw test (r.most (omega arith));
+      }
+]
+
+-- what a line gives, over what is counted for it
+pub record IsGiven (names : Meanings) (size : ℕ) (parts : List OperandOutcome) (c : EmittedContent) : Type 0 where
+  pub content : IsContent names c
+  pub size_is : length c.bytes ≡ size
+  pub few : length c.references ≤ fixes parts
+
+-- content without references
+pub no_refs : (names : Meanings) (bytes : List ℕ) → IsContent names (record { bytes = bytes; references = [] })
+no_refs names bytes = record { inside = λ r i. absurd i; order = tt; linked = λ r i. absurd i }
+
+-- a line that gives no bytes
+pub nothing_given : (names : Meanings) (parts : List OperandOutcome) → IsGiven names 0 parts nothing
+nothing_given names parts = record { content = no_refs names []; size_is = refl; few = omega arith }
 
 -- how many bytes a number of DB or DW has
 abbrev wide : Width → ℕ
 wide w = width (field_of_width w)
-
-number_len : (w : Width) (n : ℕ) → length (number_bytes w n) ≡ wide w
-number_len w n = grind arith
 
 module _ (names : Meanings) (w : Width) where
   -- an item with this value gives its bytes, unless it has a fault
@@ -34,34 +87,11 @@ module _ (names : Meanings) (w : Width) where
 
   field_given : (t : Tree) (v : Value) → value_of names t ≡ Ok v → (o : Option FieldValue)
       → field_of names (field_of_width w) 0 v ≡ o → GivesNumber t (or_out_of_range o)
-  field_given t v is None from = λ fine. absurd fine
-  field_given t v is (Some (Number n)) from = λ fine.
-      record { content = no_refs names (number_bytes w n); size_is = number_len w n; few = omega arith }
-  field_given t v is (Some (Linked r)) from = λ fine.
-      let len = ap (λ (x : Reference). field_len x.form) (sym (linked_is names _ 0 v r from)) ∙ form_width _ v.part in
-      let bytes = number_len w 0 in
-      record {
-        content = record {
-          inside = λ q i. elim i [
-            | inl e ↦ let h : 0 + field_len r.form ≤ length (number_bytes w 0) = omega arith in
-                subst (λ (x : ReferenceAt). end_of_field x ≤ length (number_bytes w 0)) e h
-            | inr n ↦ absurd n
-          ];
-          order = (λ q i. absurd i, tt);
-          linked = λ q i. elim i [
-            | inl e ↦ subst (λ (x : ReferenceAt). IsLinkedBy names x.1) e
-                (record { tree = t; value = v; is = is; at = field_of_width w; next = 0; from = from })
-            | inr n ↦ absurd n
-          ];
-        };
-        size_is = bytes;
-        few = omega arith;
-      }
+  field_given t v is b from = grind (arith, no_refs, linked_is, form_width, end_of_field)
 
   value_given : (e : Tree) (v : Valued Value) → value_of names e ≡ v
       → GivesNumber e (fielded names 0 (field_of_width w) v)
-  value_given e (Ok v) is = field_given e v is (field_of names (field_of_width w) 0 v) refl
-  value_given e (Err k) is = λ fine. absurd fine
+  value_given e b is = grind (arith, field_given)
 
 -- how many bytes an item has, a text in DB only
 abbrev item_wide : Width → ItemTree → ℕ
@@ -108,8 +138,7 @@ all_wide w [] = 0
 all_wide w (i ∷ items) = item_wide w i + all_wide w items
 
 fine_parts : (o : OperandOutcome) (ps : List OperandOutcome) → AreFine (o ∷ ps) → AreFine (o ∷ []) × AreFine ps
-fine_parts (Faulty n) ps h = absurd h
-fine_parts o ps h = (tt, h)
+fine_parts o ps h = grind arith
 
 abbrev pub parts_of : Meanings → Width → List ItemTree → List OperandOutcome
 parts_of names w items = map (λ item. item_outcome (item_field names w item)) items
@@ -126,8 +155,7 @@ items_given names w (i ∷ items) fine =
 
 bytes_wide : (items : List ItemTree) → all_wide Byte items ≡ items_size items
 bytes_wide [] = refl
-bytes_wide (ValueItem e ∷ items) = omega (arith, bytes_wide items)
-bytes_wide (Text characters ∷ items) = omega (arith, bytes_wide items)
+bytes_wide b = grind arith
 
 words_wide : (items : List ItemTree) → Each (IsItem false) items → all_wide Word items ≡ 2 * length items
 words_wide [] h = refl
@@ -141,4 +169,4 @@ bytes_given names items fine = rw (← bytes_wide items) (items_given names Byte
 pub words_given : (names : Meanings) (items : List ItemTree) → Each (IsItem false) items
     → AreFine (parts_of names Word items)
     → IsGiven names (2 * length items) (parts_of names Word items) (content_of names Word items)
-words_given names items good fine = rw (← words_wide items good) (items_given names Word items fine)
+words_given names items good fine = grind (arith, words_wide, items_given)

@@ -1,22 +1,79 @@
--- The numbers of segments in a module: each counts from 1 in the order of ids, and leads to the segment.
-use Rattle.m51_asm.proofs.Common.{cases_eq, ◌≡◌, ◌≢◌, inl, inr, ℕ, suc, ◌<◌, List, [], ◌∷◌, map, Option, Some}
-use Rattle.m51_asm.proofs.Common.{option_map, refl, sym, ap, ◌∙◌, arith, eq-eqb, ne_eqb, numbered, Kept, from_one}
-use Rattle.m51_asm.proofs.Common.{index_in, slice_get, zero, ◌+◌, ◌≤◌, Bool, true, not, ◌||◌, ◌++◌, length, subst}
-use Rattle.m51_asm.proofs.Common.{and_parts, Kind, Reloc, kind_same, Segment, BodyTree, LineTree, TextSegment}
-use Rattle.m51_asm.proofs.Common.{Assignment, opening, body_at, kind_end, size_of, kept_by, declared_or, segment_of}
+-- The segments of a module: none goes past the end of its kind, each is valid and one of the text, in the order of ids;
+-- its number counts from 1 in that order, and leads to it.
+use Rattle.m51_asm.proofs
+use Rattle.m51_asm.specs
+use proofs.Common.{cases_eq, eq-eqb, ne_eqb, ◌≡◌, ◌⊎◌, inl, inr, ℕ, zero, suc, ◌+◌, ◌<◌, ◌≤◌, false, nat_lt, ◌==◌, true}
+use proofs.Common.{List, length, Option, refl, sym, ap, subst, ◌∙◌, arith, add-zero, ltb-false, or_parts, Kind}
+use proofs.Common.{BodyTree, LineTree, TextSegment, Assignment, body_at, Fits, kind_end, segment_of, ◌≢◌, [], ◌∷◌, map}
+use proofs.Common.{Some, option_map, numbered, Kept, from_one, index_in, slice_get, Bool, not, ◌||◌, ◌++◌, and_parts}
+use proofs.Common.{Reloc, kind_same, Segment, size_of, kept_by, declared_or, segment_reloc}
+use specs.Fitting.{segment_behind, size_at, filled, declared_in}
+use proofs.GoodLines.{IsFreeText, free, IsDeclared, IsGood}
+use proofs.KnownSegments.{known, last_or_below, Declares, two_more}
 use Rattle.std.proofs.lemmas.Option.{slice_get-map}
-use Rattle.m51_asm.specs.ObjectSegments.{number_in, relocatable, absolute_of, if_filled, kept_before, kept}
-use Rattle.m51_asm.proofs.Members.{In, Pairs, pairs_weaker, Every, every_append, pairs_append}
+use specs.ObjectSegments.{number_in, relocatable, absolute_of, if_filled, kept_before, kept}
+use proofs.Members.{In, Pairs, pairs_weaker, Every, every_append, pairs_append}
 use Rattle.m51_cells.specs.Kinds.{allows, largest, may_overlay}
 use Rattle.m51_cells.specs.Fits.{Fits as FitsIn'}
 use Rattle.m51_module.specs.Validity.{IsSegmentValid}
-use Rattle.m51_asm.specs.Fitting.{declared_in}
-use Rattle.m51_asm.proofs.GoodLines.{IsFreeText, IsDeclared, IsGood}
-use Rattle.m51_asm.proofs.KnownSegments.{Declares, known, two_more}
-use Rattle.m51_asm.proofs.SegmentRoom.{HasRoom, FitsIn, room}
+use specs.Assignment.{reloc_by}
 use Rattle.m51_cells.specs.declared.kind.Kind.TheVariants as kind
 use Rattle.m51_cells.specs.declared.kind.Reloc.TheVariants as reloc
 use Rattle.m51_stmt.specs.Statement as body
+
+-- this size fits in the segment
+pub record HasRoom (s : TextSegment) (size : ℕ) : Type 0 where
+  pub end : s.base + size ≤ kind_end s.kind
+  pub most : size ≤ 65535
+
+-- a segment that holds nothing, or in which this size fits
+abbrev pub FitsIn : TextSegment → ℕ → Type 0
+FitsIn s size = (size ≡ 0) ⊎ HasRoom s size
+
+-- a line that gives something leaves its segment open
+pub stays : (lines : List LineTree) (a : Assignment) → Fits lines a → (k : ℕ)
+    → (size_at lines a k ≡ 0) ⊎ (a.segment (suc k) ≡ a.segment k)
+unfolding size_at segment_behind
+stays lines a f k = grind arith
+
+pub filled_here : (lines : List LineTree) (a : Assignment) (id k : ℕ) → ((a.segment k).id == id) ≡ true
+    → filled lines a id (suc k) ≡ filled lines a id k + size_at lines a k
+unfolding filled
+filled_here lines a id k e = rw e refl
+
+pub filled_there : (lines : List LineTree) (a : Assignment) (k id : ℕ) → ((a.segment k).id == id) ≡ false
+    → filled lines a id (suc k) ≡ filled lines a id k
+unfolding filled
+filled_there lines a k id e = rw e (omega arith)
+
+-- more lines give no less
+pub filled_up : (lines : List LineTree) (a : Assignment) (id j k : ℕ) → j ≤ k
+    → filled lines a id j ≤ filled lines a id k
+unfolding filled
+filled_up lines a id j zero h = grind arith
+filled_up lines a id j (suc k) h = elim (last_or_below j k h) [
+  | inl e ↦ subst (λ n. filled lines a id n ≤ filled lines a id (suc k)) (sym e) (omega arith)
+  | inr le ↦ omega (arith, filled_up lines a id j k le)
+]
+
+module _ (lines : List LineTree) (a : Assignment) (c : IsFreeText lines a) where
+  room_after : (k : ℕ) → k < length lines → HasRoom (a.segment (suc k)) (filled lines a (a.segment (suc k)).id (suc k))
+  room_after k below =
+      let s = a.segment (suc k) in
+      let p = or_parts (nat_lt (kind_end s.kind) (a.place (suc k))) (nat_lt 65535 (filled lines a s.id (suc k)))
+      (free lines a k (c.placed k below)).inside in
+      record {
+        end = omega (arith, c.fits.places (suc k), ltb-false _ _ p.0);
+        most = ltb-false _ _ p.1;
+      }
+
+  -- a segment holds nothing, or what it holds fits
+  pub room : (n : ℕ) → n ≤ length lines → (s : TextSegment) → segment_of lines a s.id ≡ s
+      → FitsIn s (filled lines a s.id n)
+  unfolding filled
+  room zero within s is = inl refl
+  room (suc k) within s is =
+      grind (arith, room k (omega arith) s is, ne_eqb, add-zero, stays, eq-eqb, known, room_after)
 
 -- the ids of segments
 abbrev pub ids : List Kept → List ℕ
@@ -31,7 +88,7 @@ StandsAt xs s = (index : ℕ) × (index_in (ids xs) s.id ≡ Some index) × (sli
 
 later_found : (x : Kept) (xs : List Kept) (id index : ℕ) → x.id ≢ id → index_in (ids xs) id ≡ Some index
     → index_in (ids (x ∷ xs)) id ≡ Some (suc index)
-later_found x xs id index ne found = rw (ne_eqb x.id id ne, found) refl
+later_found x xs id index ne found = grind arith
 
 stands : (xs : List Kept) → Ascend xs → (s : Kept) → In s xs → StandsAt xs s
 stands [] h s i = absurd i
@@ -45,10 +102,7 @@ stands (x ∷ xs) h s (inr j) =
 pub leads_to : (xs : List Kept) → Ascend xs → (s : Kept) → In s xs
     → numbered (map (λ k. k.segment) xs) (number_in xs s.id) ≡ Some s.segment
 unfolding number_in
-leads_to xs h s i =
-    let r = stands xs h s i in
-    ap (λ o. numbered (map (λ k. k.segment) xs) (from_one o)) r.1
-    ∙ slice_get-map (λ (k : Kept). k.segment) xs r.0 ∙ ap (option_map (λ (k : Kept). k.segment)) r.2
+leads_to xs h s i = grind (arith, stands, slice_get-map)
 
 -- a number other than 0 is that of a segment of the module with this id, and leads to it
 abbrev pub IsNumbered : List Kept → ℕ → Type 0
@@ -69,9 +123,7 @@ found (x ∷ xs) id ne = elim (cases_eq x.id id) [
 
 pub has_number : (xs : List Kept) → Ascend xs → (id : ℕ) → number_in xs id ≢ 0 → IsNumbered xs id
 unfolding number_in
-has_number xs h id ne =
-    let r = found xs id ne in
-    (r.0, r.1, r.2, (λ i. numbered (map (λ k. k.segment) xs) (number_in xs (sym r.2 i))) ∙ leads_to xs h r.0 r.1)
+has_number xs h id ne = grind (arith, found, leads_to)
 
 -- of two segments the later one has the larger number
 pub numbers_ascend : (xs : List Kept) → Ascend xs → Pairs (λ s t. number_in xs s.id < number_in xs t.id) xs
@@ -88,10 +140,7 @@ numbers_ascend (x ∷ xs) h = (
 )
   where
     one_more : (s : Kept) → In s xs → number_in (x ∷ xs) s.id ≡ suc (number_in xs s.id)
-    one_more s i =
-        let r = stands xs h.1 s i in
-        let less : x.id < s.id = h.0 s i in
-        ap from_one (later_found x xs s.id r.0 (omega arith) r.1) ∙ ap (λ o. suc (from_one o)) (sym r.1)
+    one_more s i = grind (arith, stands)
 
 -- a segment without a name, or one that a line declares under its name
 pub data IsNamed (lines : List LineTree) (id : ℕ) (s : Segment) : Type 0 where
@@ -105,15 +154,8 @@ pub record IsKept (lines : List LineTree) (a : Assignment) (s : Kept) : Type 0 w
   pub named : IsNamed lines s.id s.segment
   pub fixed : s.segment.reloc ≡ reloc.Abs → (segment_of lines a s.id).reloc ≡ reloc.Abs
 
-allows_absolute : (k : Kind) → k ≢ kind.Number → allows k reloc.Abs ≡ true
-allows_absolute k h = grind arith
-
-within_largest : (k : Kind) (base size : ℕ) → base + size ≤ kind_end k → size ≤ 65535 → size ≤ largest k
-within_largest k base size end most = grind arith
-
 size_within : (s : TextSegment) (size : ℕ) → FitsIn s size → size ≤ largest s.kind
-size_within s size (inl e) = omega arith
-size_within s size (inr h) = within_largest _ _ _ h.end h.most
+size_within s size b = grind arith
 
 fits_absolute : (k : Kind) (base size : ℕ) → k ≢ kind.Number → base + size ≤ kind_end k → FitsIn' k reloc.Abs base size
 fits_absolute k base size ne end = grind arith
@@ -122,28 +164,7 @@ module _ (lines : List LineTree) (a : Assignment) (c : IsFreeText lines a) where
   -- an absolute segment that has something
   absolute_kept : (s : TextSegment) (more : ℕ) → segment_of lines a s.id ≡ s → s.kind ≢ kind.Number
       → s.reloc ≡ reloc.Abs → size_of lines a s.id ≡ suc more → IsKept lines a (absolute_of s (suc more))
-  absolute_kept s more same some type is =
-      let holds : FitsIn s (suc more) = subst (FitsIn s) is (room lines a c _ (omega arith) s same) in
-      let all : HasRoom s (suc more) = elim holds [ inl e ↦ absurd (cc e) | inr h ↦ h ] in
-      record {
-        kind_is = λ i. (sym same i).kind;
-        size_is = sym is;
-        valid = record {
-          kind = some;
-          reloc = allows_absolute s.kind some;
-          size = size_within _ _ holds;
-          absolute = λ e. record {
-            name = refl;
-            some = omega arith;
-            fits = fits_absolute _ _ _ some all.end;
-          };
-          relocatable = λ other. absurd (other refl);
-          overlay = λ e. absurd (cc e);
-          argument = λ e. absurd (cc e);
-        };
-        named = Nameless refl refl;
-        fixed = λ e. (λ i. (same i).reloc) ∙ type;
-      }
+  absolute_kept s more same some type is = grind (arith, room, size_within, fits_absolute)
 
   relocatable_kept : (k : ℕ) (name : List ℕ) (j : Kind) (r : Reloc) (overlayable : Bool)
       → body_at lines k ≡ body.Segment name j r overlayable
@@ -197,11 +218,11 @@ module _ (lines : List LineTree) (a : Assignment) (c : IsFreeText lines a) where
   line_adds k (body.Segment name j r overlayable) is = one _ (relocatable_kept k name j r overlayable is)
   line_adds k b is =
       let s = a.segment (suc k) in
-      let known = known lines a c (suc k) in
+      let known = known lines a c.fits (suc k) in
       elim (cases_eq s.id (k + 2)) [
         | inr ne ↦ rw (ne_eqb _ _ ne) (none (k + 2))
-        | inl id ↦ rw (eq-eqb _ _ id, ← id) (filled_adds s _ known.same known.kind_is
-            (known.fixed k id (λ j d. cc (is, d.is))) refl)
+        | inl id ↦ rw (eq-eqb _ _ id, ← id) (filled_adds s _ known.same (known.kind_is c.good)
+            (known.type ∙ ap (segment_reloc lines) (id ∙ two_more k) ∙ ap reloc_by is) refl)
       ]
 
   -- the segments of the first lines
@@ -219,9 +240,7 @@ module _ (lines : List LineTree) (a : Assignment) (c : IsFreeText lines a) where
 
   pub are_kept : (k : ℕ) → AreKept k (kept_before lines a k)
   unfolding kept_before
-  are_kept zero =
-      let o = filled_adds opening (size_of lines a 1) refl (λ e. cc e) refl refl in
-      record { every = o.every; low = λ s i. omega (arith, o.ids s i); order = o.order }
+  are_kept zero = grind (arith, filled_adds)
   are_kept (suc k) = step _ _ _ (are_kept k) (line_adds k (body_at lines k) refl)
 
   -- the segments of the module

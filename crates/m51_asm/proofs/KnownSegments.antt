@@ -1,19 +1,20 @@
 -- The segments of a text are known by their ids: that of a line is the one of its id, and has a kind.
-use Rattle.m51_asm.proofs.Common.{true, false, cases_Bool, above, ◌≡◌, ◌≢◌, ◌⊎◌, inl, inr, ℕ, zero, suc, ◌+◌, ◌<◌, ◌≤◌}
-use Rattle.m51_asm.proofs.Common.{nat_lt, Bool, cond, List, [], ◌∷◌, ◌++◌, Option, Some, None, refl, sym, ap, subst}
-use Rattle.m51_asm.proofs.Common.{◌∙◌, arith, bytes_eq, ltb-true, Kind, Reloc, is_absolute, BodyTree, LineTree}
-use Rattle.m51_asm.proofs.Common.{Definition, SegmentOf, definitions_in, label_defined, defined_by, externals_from}
-use Rattle.m51_asm.proofs.Common.{found_in, or_later, definition_from, TextSegment, Assignment, opening, body_at}
-use Rattle.m51_asm.proofs.Common.{is_absolute_of, segment_by, declared_or, segment_of}
+use Rattle.m51_asm.proofs
+use Rattle.m51_asm.specs
+use proofs.Common.{true, false, cases_Bool, above, ◌≡◌, ◌≢◌, ◌⊎◌, inl, inr, ℕ, zero, suc, ◌+◌, ◌<◌, ◌≤◌, nat_lt, Bool}
+use proofs.Common.{cond, List, [], ◌∷◌, ◌++◌, Option, Some, None, refl, sym, ap, subst, ◌∙◌, arith, bytes_eq, ltb-true}
+use proofs.Common.{Kind, Reloc, is_absolute, BodyTree, LineTree, Definition, SegmentOf, definitions_in, label_defined}
+use proofs.Common.{defined_by, externals_from, found_in, or_later, definition_from, TextSegment, Assignment, opening}
+use proofs.Common.{body_at, is_absolute_of, segment_by, declared_or, segment_of, segment_reloc, Fits}
 use Rattle.std.specs.Prelude.{unwrap_or}
 use Rattle.std.proofs.lemmas.Option.{some_pair_parts}
 use Rattle.m51_cells.specs.declared.kind.Kind.TheVariants as kind
 use Rattle.m51_cells.specs.declared.kind.Reloc.TheVariants as reloc
 use Rattle.m51_stmt.specs.Statement as body
-use Rattle.m51_asm.specs.Definitions.{definition_of}
-use Rattle.m51_asm.specs.Assignment.{absolute}
-use Rattle.m51_asm.specs.Fitting.{last_absolute, declared_by, segment_behind}
-use Rattle.m51_asm.proofs.GoodLines.{IsFreeText, IsGood}
+use specs.Definitions.{definition_of}
+use specs.Assignment.{absolute, reloc_by}
+use specs.Fitting.{last_absolute, declared_by, segment_behind}
+use proofs.GoodLines.{IsGood}
 
 -- what is found is of a test that passes
 pub found_if : (b : Bool) (x y : Definition) (o : Option Definition) → cond b (Some x) o ≡ Some y
@@ -66,7 +67,7 @@ module _ (name : List ℕ) (k : Kind) where
       ]
 
   -- what is defined as a segment is declared by its line
-  declares : (lines : List LineTree) (line : ℕ) → definition_of lines name ≡ Some (line, SegmentOf k)
+  pub declares : (lines : List LineTree) (line : ℕ) → definition_of lines name ≡ Some (line, SegmentOf k)
       → Declares (body_at lines line) k
   unfolding definition_of
   declares lines line h =
@@ -84,10 +85,10 @@ last_or_below j k h = grind (arith, h)
 pub record IsKnown (lines : List LineTree) (a : Assignment) (k : ℕ) (s : TextSegment) : Type 0 where
   pub same : segment_of lines a s.id ≡ s
   pub low : s.id ≤ suc k
-  pub kind_is : s.kind ≢ kind.Number
-  pub fixed : (j : ℕ) → s.id ≡ j + 2 → ((k : Kind) → Declares (body_at lines j) k → ⊥) → s.reloc ≡ reloc.Abs
+  pub type : s.reloc ≡ segment_reloc lines s.id
+  pub kind_is : ((j : ℕ) → IsGood (body_at lines j)) → s.kind ≢ kind.Number
 
-module _ (lines : List LineTree) (a : Assignment) (c : IsFreeText lines a) where
+module _ (lines : List LineTree) (a : Assignment) (f : Fits lines a) where
   abbrev Known : ℕ → Type 0
   Known k = IsKnown lines a k (a.segment k)
 
@@ -96,9 +97,10 @@ module _ (lines : List LineTree) (a : Assignment) (c : IsFreeText lines a) where
 
   known_as : (j k : ℕ) → j ≤ k → a.segment k ≡ a.segment j → Known j → Known k
   known_as j k h e known =
-      rw e (record { same = known.same; low = omega arith; kind_is = known.kind_is; fixed = known.fixed })
+      rw e (record { same = known.same; low = omega arith; type = known.type; kind_is = known.kind_is })
 
-  last_is : (k : ℕ) (j : Kind) (s : TextSegment) → last_absolute a.segment j k ≡ Some s
+  -- the last absolute segment of a kind is that of a line
+  pub last_is : (k : ℕ) (j : Kind) (s : TextSegment) → last_absolute a.segment j k ≡ Some s
       → (i : ℕ) × (i ≤ k) × (a.segment i ≡ s)
   unfolding last_absolute
   last_is zero j s h = elim (cases_Bool (is_absolute_of j (a.segment 0)))
@@ -114,13 +116,14 @@ module _ (lines : List LineTree) (a : Assignment) (c : IsFreeText lines a) where
 
     -- a line that says no SEGMENT, and begins one
     begun : (b : BodyTree) (j : Kind) (at : ℕ) → body_at lines k ≡ b
-        → declared_or lines k (a.segment (suc k)) b ≡ a.segment (suc k)
-        → a.segment (suc k) ≡ absolute (k + 2) j at → j ≢ kind.Number → Known (suc k)
-    begun b j at is other e some = rw e (record {
+        → declared_or lines k (a.segment (suc k)) b ≡ a.segment (suc k) → reloc_by b ≡ reloc.Abs
+        → a.segment (suc k) ≡ absolute (k + 2) j at → (((i : ℕ) → IsGood (body_at lines i)) → j ≢ kind.Number)
+        → Known (suc k)
+    begun b j at is other type e some = rw e (record {
       same = ap (segment_of lines a) (two_more k) ∙ ap (declared_or lines k (a.segment (suc k))) is ∙ other ∙ e;
       low = omega arith;
+      type = sym (ap (segment_reloc lines) (two_more k) ∙ ap reloc_by is ∙ type);
       kind_is = some;
-      fixed = λ i id plain. refl;
     })
 
     declared_known : (name : List ℕ) (o : Option (ℕ × Definition)) → definition_of lines name ≡ o
@@ -133,9 +136,8 @@ module _ (lines : List LineTree) (a : Assignment) (c : IsFreeText lines a) where
           rw now (record {
             same = ap (segment_of lines a) (two_more line) ∙ ap (declared_or lines line (a.segment (suc line))) d.is;
             low = omega arith;
-            kind_is = (subst IsGood d.is (c.good line)).kind_is;
-            fixed = λ i id plain. let here : line ≡ i = omega arith in
-                absurd (plain j (subst (λ n. Declares (body_at lines n) j) here d));
+            type = sym (ap (segment_reloc lines) (two_more line));
+            kind_is = λ good. (subst IsGood d.is (good line)).kind_is;
           })
       | inr test ↦ stays_known (rw test at e)
     ]
@@ -146,16 +148,16 @@ module _ (lines : List LineTree) (a : Assignment) (c : IsFreeText lines a) where
     selected_known j (Some s) is last e =
         let r = last_is k j s last in
         known_as _ _ (omega arith) (e ∙ sym r.2) (below r.0 r.1)
-    selected_known j None is last e = begun _ _ _ is refl e (subst IsGood is (c.good k))
+    selected_known j None is last e = begun _ _ _ is refl refl e (λ good. subst IsGood is (good k))
 
     next_known : (b : BodyTree) → body_at lines k ≡ b
         → a.segment (suc k) ≡ segment_by lines k (above lines a k) (λ j. last_absolute a.segment j k) (a.segment k) b
         → Known (suc k)
     next_known (body.Rseg name) is e = declared_known name _ refl e
-    next_known (body.Select j (Some t)) is e = begun _ _ _ is refl e (subst IsGood is (c.good k))
+    next_known (body.Select j (Some t)) is e = begun _ _ _ is refl refl e (λ good. subst IsGood is (good k))
     next_known (body.Select j None) is e = selected_known _ _ is refl e
     next_known (body.Org t) is e = elim (cases_Bool (is_absolute (a.segment k).reloc)) [
-      | inl test ↦ begun _ _ _ is refl (rw test at e) (below k (omega arith)).kind_is
+      | inl test ↦ begun _ _ _ is refl refl (rw test at e) (below k (omega arith)).kind_is
       | inr test ↦ stays_known (rw test at e)
     ]
     next_known b is e = stays_known e
@@ -165,10 +167,10 @@ module _ (lines : List LineTree) (a : Assignment) (c : IsFreeText lines a) where
   known_below zero j h =
       let e : j ≡ 0 = omega arith in
       let first : IsKnown lines a 0 opening =
-      record { same = refl; low = omega arith; kind_is = λ e. cc e; fixed = λ j id plain. refl } in
-      rw (e, c.fits.first) first
+      record { same = refl; low = omega arith; type = refl; kind_is = λ good e. cc e } in
+      rw (e, f.first) first
   known_below (suc k) j h = elim (last_or_below _ _ h) [
-    | inl e ↦ rw e (next_known k (known_below k) _ refl (c.fits.segments k))
+    | inl e ↦ rw e (next_known k (known_below k) _ refl (f.segments k))
     | inr l ↦ known_below k j l
   ]
 

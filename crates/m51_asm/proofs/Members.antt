@@ -1,7 +1,7 @@
 -- Elements of lists, and what holds of each or of any two in their order.
-use Rattle.m51_asm.proofs.Common.{cases_eq, ◌≡◌, ◌⊎◌, inl, inr, ℕ, zero, suc, ◌+◌, ◌<◌, ◌≤◌, List, [], ◌∷◌, ◌++◌, map}
-use Rattle.m51_asm.proofs.Common.{length, get_or, slice_get, Some, refl, sym, ap, subst, arith, flat_map}
-use Rattle.m51_asm.proofs.Common.{range_with_len}
+use Rattle.m51_asm.proofs
+use proofs.Common.{cases_eq, ◌≡◌, ◌⊎◌, inl, inr, ℕ, zero, suc, ◌+◌, ◌<◌, ◌≤◌, List, [], ◌∷◌, ◌++◌, map, length, get_or}
+use proofs.Common.{slice_get, Some, refl, ap, subst, arith, flat_map, range_with_len}
 use Rattle.std.specs.List.{All, AllPairs, Contains}
 
 -- an element of a list
@@ -33,7 +33,7 @@ in_cons x y ys h = h
 pub in_append : {A : Type 0} (x : A) (xs ys : List A) → In x (xs ++ ys) → In x xs ⊎ In x ys
 in_append x [] ys h = inr h
 in_append x (y ∷ xs) ys (inl e) = inl (inl e)
-in_append x (y ∷ xs) ys (inr h) = elim (in_append x xs ys h) [ inl l ↦ inl (inr l) | inr r ↦ inr r ]
+in_append x (y ∷ xs) ys (inr h) = grind (arith, in_append x xs ys h)
 
 pub in_left : {A : Type 0} (x : A) (xs ys : List A) → In x xs → In x (xs ++ ys)
 in_left x [] ys h = absurd h
@@ -53,7 +53,7 @@ pub record Comes {A B : Type 0} (f : A → B) (xs : List A) (y : B) : Type 0 whe
 pub in_map : {A B : Type 0} (f : A → B) (xs : List A) (y : B) → In y (map f xs) → Comes f xs y
 in_map f [] y h = absurd h
 in_map f (x ∷ xs) y (inl e) = record { from = x; there = inl refl; is = e }
-in_map f (x ∷ xs) y (inr h) = let c = in_map f xs y h in record { from = c.from; there = inr c.there; is = c.is }
+in_map f (x ∷ xs) y (inr h) = grind (arith, in_map f xs y h)
 
 pub map_in : {A B : Type 0} (f : A → B) (xs : List A) (x : A) → In x xs → In (f x) (map f xs)
 map_in f [] x h = absurd h
@@ -71,7 +71,7 @@ in_flat f (x ∷ xs) y h = elim (in_append y (f x) (flat_map f xs) h) [
 pub flat_in : {A B : Type 0} (f : A → List B) (xs : List A) (x : A) (y : B) → In x xs → In y (f x)
     → In y (flat_map f xs)
 flat_in f [] x y h k = absurd h
-flat_in f (z ∷ xs) x y (inl e) k = in_left y (f z) (flat_map f xs) (subst (λ w. In y (f w)) (sym e) k)
+flat_in f (z ∷ xs) x y (inl e) k = grind (arith, in_left)
 flat_in f (z ∷ xs) x y (inr h) k = in_right y (f z) (flat_map f xs) (flat_in f xs x y h k)
 
 in_at : {A : Type 0} (xs : List A) (k : ℕ) (d : A) → k < length xs → In (get_or xs k d) xs
@@ -128,7 +128,7 @@ pairs_append R (x ∷ xs) ys h k cross = (
 pub pairs_all : {A : Type 0} (R : A → A → Type 0) (xs : List A) → Pairs R xs → AllPairs R xs
 pairs_all R [] h i j d less below = absurd (omega arith)
 pairs_all R (x ∷ xs) h i zero d less below = absurd (omega arith)
-pairs_all R (x ∷ xs) h zero (suc j) d less below = h.0 (get_or xs j d) (in_at xs j d (omega arith))
+pairs_all R (x ∷ xs) h zero (suc j) d less below = grind (arith, in_at)
 pairs_all R (x ∷ xs) h (suc i) (suc j) d less below = pairs_all R xs h.1 i j d (omega arith) (omega arith)
 
 pub pairs_map : {A B : Type 0} (f : A → B) (R : B → B → Type 0) (xs : List A) → Pairs (λ x y. R (f x) (f y)) xs

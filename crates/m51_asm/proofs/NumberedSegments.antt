@@ -1,35 +1,34 @@
 -- The segments of a module and the numbers of ids, line by line.
-use Rattle.m51_asm.proofs.Common.{◌≡◌, ℕ, zero, suc, ◌+◌, ◌≤◌, ◌==◌, Bool, true, false, cond, List, [], ◌∷◌, ◌++◌, map}
-use Rattle.m51_asm.proofs.Common.{length, length-append, Option, Some, None, option_map, refl, ap, subst, ◌≢◌, sym, ◌∙◌}
-use Rattle.m51_asm.proofs.Common.{inl, inr, arith, eqb-true, length-map, Segment, BodyTree, LineTree, TextSegment}
-use Rattle.m51_asm.proofs.Common.{Assignment, opening, body_at, or_here, Kept, size_of, kept_by, from_one, index_in}
-use Rattle.m51_asm.proofs.Common.{number_at}
+use Rattle.m51_asm.proofs
+use Rattle.m51_asm.specs
+use proofs.Common.{◌≡◌, ℕ, zero, suc, ◌+◌, ◌≤◌, ◌==◌, Bool, true, false, cond, List, [], ◌∷◌, ◌++◌, map, length}
+use proofs.Common.{length-append, Option, Some, None, option_map, refl, ap, subst, ◌≢◌, sym, ◌∙◌, inl, inr, arith}
+use proofs.Common.{eq-eqb, ne_eqb, cases_eq, length-map, Segment, BodyTree, LineTree, TextSegment, ◌<◌, Fits}
+use proofs.Common.{segment_of, declared_or, Assignment, opening, body_at, or_here, Kept, size_of, kept_by, from_one}
+use proofs.Common.{index_in, number_at}
 use Rattle.std.proofs.Common.{append-nil}
 use Rattle.std.proofs.lemmas.Bool.Decides.{eqb_tells}
 use Rattle.std.proofs.lemmas.List.{map-append}
 use Rattle.m51_stmt.specs.Statement.{Segment as Declares}
-use Rattle.m51_asm.proofs.DefinedLines.{or_none}
-use Rattle.m51_asm.proofs.FilledSizes.{one_more}
-use Rattle.m51_asm.specs.ObjectSegments.{if_filled, kept_before, number_in}
-use Rattle.m51_asm.specs.Numbering.{segment_filled, segment_added, as_list, next_number, kept_as, AreNumbered}
+use proofs.DefinedLines.{or_none}
+use proofs.KnownSegments.{known, two_more}
+use proofs.KeptSegments.{filled_there}
+use specs.declared.segment_table.SegmentEntry.{SegmentEntry}
+use specs.Fitting.{filled}
+use specs.ObjectSegments.{if_filled, kept_before, number_in}
+use specs.Placing.{IsSegmentTableAt}
+use specs.SegmentTable.{segment_in, size_in}
+use specs.Numbering.{segment_filled, segment_added, as_list, next_number, kept_as, AreNumbered}
 
 filled_kept : (s : TextSegment) (size : ℕ) → kept_as s.id (segment_filled s size) ≡ if_filled s size
 filled_kept s zero = refl
 filled_kept s (suc more) = refl
 
--- what a line adds to the segments
-added_kept : (lines : List LineTree) (a : Assignment) (k : ℕ) (body : BodyTree)
-    → kept_as (k + 2) (segment_added (size_of lines a) k (a.segment (suc k)) body) ≡ kept_by lines a k body
-added_kept lines a k (Declares name kind reloc overlayable) = refl
-added_kept lines a k body = begun (a.segment (suc k)) ((a.segment (suc k)).id == k + 2) refl
-  where
-    begun : (s : TextSegment) (b : Bool) → (s.id == k + 2) ≡ b
-        → kept_as (k + 2) (cond b (segment_filled s (size_of lines a s.id)) None)
-        ≡ cond b (if_filled s (size_of lines a s.id)) []
-    begun s true e =
-        ap (λ id. kept_as id (segment_filled s (size_of lines a s.id))) (sym (eqb-true s.id (k + 2) e))
-        ∙ filled_kept s (size_of lines a s.id)
-    begun s false e = refl
+one_more : (numbers : List ℕ) (id : ℕ) → number_at (numbers ++ 0 ∷ []) id ≡ number_at numbers id
+one_more [] zero = refl
+one_more [] (suc id) = refl
+one_more (number ∷ numbers) zero = refl
+one_more (number ∷ numbers) (suc id) = one_more numbers id
 
 number_at_end : (numbers : List ℕ) (number : ℕ) → number_at (numbers ++ number ∷ []) (length numbers) ≡ number
 number_at_end [] number = refl
@@ -65,7 +64,7 @@ index_pushed (other ∷ table) new id = first (other == id) (index_pushed table 
         ≡ or_here (cond b (Some 0) (option_map (λ n. suc n) (index_in table id)))
         (cond (new == id) (Some (suc (length table))) None)
     first true h = refl
-    first false h = ap (option_map (λ n. suc n)) h ∙ or_later (index_in table id) (new == id) (length table)
+    first false h = cc (h, or_later (index_in table id) (new == id) (length table))
 
 no_index : (o : Option ℕ) → from_one o ≡ 0 → o ≡ None
 no_index None h = refl
@@ -82,25 +81,21 @@ module _ {table : List Kept} {n : ℕ} {segments : List Segment} {numbers : List
   found id is_next = or_here (index id) (cond is_next (Some (length (map (λ (s : Kept). s.id) table))) None)
 
   count_is : length segments ≡ length (map (λ (s : Kept). s.id) table)
-  count_is = ap length h.same ∙ length-map table (λ (s : Kept). s.segment) ∙ sym (length-map table (λ (s : Kept). s.id))
+  count_is = cc (h.same, length-map table (λ (s : Kept). s.segment), length-map table (λ (s : Kept). s.id))
 
   each_more : (o : Option Segment) (id : ℕ)
       → number_at (numbers ++ next_number (length segments) o ∷ []) id ≡ number_in (table ++ kept_as n o) id
   unfolding number_in
-  each_more None id = one_more numbers id ∙ h.each id ∙ ap (λ ks. number_in ks id) (sym (append-nil table))
+  each_more None id = cc (one_more numbers id, h.each id, append-nil table)
   each_more (Some s) id =
       elim (eqb_tells n id) [
         | inl p ↦
-            let at : length numbers ≡ id = h.counted ∙ p.1 in
             let none : index id ≡ None =
-            no_index (index id) (sym (h.each id) ∙ ap (number_at numbers) (sym at) ∙ number_past_end numbers) in
-            ap (number_at (numbers ++ suc (length segments) ∷ [])) (sym at)
-            ∙ number_at_end numbers (suc (length segments)) ∙ ap (λ m. suc m) count_is
-            ∙ sym (ap (λ b. from_one (found id b)) p.0
-            ∙ ap (λ o. from_one (or_here o (Some (length (map (λ (s : Kept). s.id) table))))) none)
+            no_index (index id) (cc (h.each id, h.counted, p.1, number_past_end numbers)) in
+            cc (h.counted, p.0, p.1, none, number_at_end numbers (suc (length segments)), count_is)
         | inr p ↦
-            number_not_at_end numbers (suc (length segments)) id (λ e. p.1 (sym h.counted ∙ e)) ∙ h.each id
-            ∙ sym (ap (λ b. from_one (found id b)) p.0 ∙ ap from_one (or_none (index id)))
+            let other = number_not_at_end numbers (suc (length segments)) id (λ e. p.1 (sym h.counted ∙ e)) in
+            cc (other, h.each id, p.0, or_none (index id))
       ]
       ∙ sym (ap from_one (ap (λ t. index_in t id)
       (map-append (λ (k : Kept). k.id) table (record { id = n; segment = s } ∷ []))
@@ -150,15 +145,41 @@ few_first before None h = omega (arith, h)
 pub kept_first : (lines : List LineTree) (a : Assignment) (o : Option Segment)
     → o ≡ segment_filled opening (size_of lines a 1) → kept_as 1 o ≡ kept_before lines a 0
 unfolding kept_before
-kept_first lines a o is = ap (kept_as 1) is ∙ filled_kept opening (size_of lines a 1)
+kept_first lines a o is = cc (filled_kept opening (size_of lines a 1))
 
--- what a line adds, by what is kept
-pub kept_more : (lines : List LineTree) (a : Assignment) (k : ℕ) (o : Option Segment) (size : ℕ → ℕ)
-    (next : TextSegment) (body : BodyTree) → o ≡ segment_added size k next body
-    → ((id : ℕ) → size id ≡ size_of lines a id) → next ≡ a.segment (suc k) → body ≡ body_at lines k
-    → kept_before lines a k ++ kept_as (k + 2) o ≡ kept_before lines a (suc k)
-unfolding kept_before
-kept_more lines a k o size next body is sizes after said =
-    ap (λ ks. kept_before lines a k ++ ks)
-    (ap (kept_as (k + 2)) (is ∙ (λ i. segment_added (λ id. sizes id i) k (after i) (said i)))
-    ∙ added_kept lines a k (body_at lines k))
+-- an id that no line has gets nothing
+nothing_filled : (lines : List LineTree) (a : Assignment) (id n : ℕ) → ((j : ℕ) → (a.segment j).id ≢ id)
+    → filled lines a id n ≡ 0
+unfolding filled
+nothing_filled lines a id zero other = refl
+nothing_filled lines a id (suc n) other =
+    cc (filled_there lines a n id (ne_eqb _ _ (other n)), nothing_filled lines a id n other)
+
+module _ (lines : List LineTree) (a : Assignment) (f : Fits lines a) (entries : List SegmentEntry)
+    (h : IsSegmentTableAt lines a (length lines) entries) (k : ℕ) (within : k < length lines) where
+  abbrev behind : TextSegment
+  behind = a.segment (suc k)
+
+  -- what a line adds to the segments
+  added : (body : BodyTree) → body_at lines k ≡ body
+      → kept_as (k + 2) (segment_added (segment_in entries (k + 2)) (size_in entries (k + 2)) body)
+      ≡ kept_by lines a k body
+  added (Declares name kind reloc overlayable) is = cc (h.sizes (k + 2))
+  added body is = elim (cases_eq behind.id (k + 2)) [
+    | inl e ↦
+        let same : segment_in entries (k + 2) ≡ behind = ap (segment_in entries) (sym e) ∙ h.begun (suc k) within in
+        cc (e, same, h.sizes (k + 2), filled_kept behind (size_of lines a behind.id), eq-eqb _ _ e)
+    | inr ne ↦
+        let own : segment_of lines a (k + 2) ≡ behind =
+        ap (segment_of lines a) (two_more k) ∙ ap (declared_or lines k behind) is in
+        let other : (j : ℕ) → (a.segment j).id ≢ k + 2 = λ j e.
+        let same = sym own ∙ ap (segment_of lines a) (sym e) ∙ (known lines a f j).same in
+        ne (ap (λ (t : TextSegment). t.id) same ∙ e) in
+        cc (h.sizes (k + 2), nothing_filled lines a (k + 2) (length lines) other, ne_eqb _ _ ne)
+  ]
+
+  pub kept_more : (o : Option Segment) (body : BodyTree)
+      → o ≡ segment_added (segment_in entries (k + 2)) (size_in entries (k + 2)) body → body ≡ body_at lines k
+      → kept_before lines a k ++ kept_as (k + 2) o ≡ kept_before lines a (suc k)
+  unfolding kept_before
+  kept_more o body is said = cc (added body (sym said))

@@ -1,26 +1,19 @@
 -- Pass 1 line by line: where it stops, and how one more line is passed.
-use Rattle.m51_asm.proofs.Common.{◌≡◌, ℕ, zero, suc, ◌<◌, true, false, List, [], ◌∷◌, ◌++◌, length, Option, Some, None}
-use Rattle.m51_asm.proofs.Common.{refl, ap, sym, subst, ◌∙◌, slice_get, arith, add-one, length-append, LineTree}
-use Rattle.m51_asm.proofs.Common.{PassOneState, LinePlace, Assignment, IsAt, IsPlaceOf, AreFree, IsFirstFault}
-use Rattle.m51_asm.proofs.Common.{ArePlaces, IsPassedTo}
-use Rattle.std.proofs.Common.{below_more}
-use Rattle.std.proofs.lemmas.Bool.{leb-false, leb-true}
+use Rattle.m51_asm.proofs
+use Rattle.m51_asm.specs
+use proofs.Common.{◌≡◌, ℕ, zero, suc, ◌<◌, true, List, [], ◌∷◌, ◌++◌, length, Option, Some, None, refl, ap, sym, subst}
+use proofs.Common.{◌∙◌, slice_get, arith, length-append, LineTree, PassOneState, LinePlace, Assignment, IsAt, IsPlaceOf}
+use proofs.Common.{AreFree, IsFirstFault, ArePlaces, IsPassedTo}
+use Rattle.std.proofs.lemmas.Bool.{leb-true}
 use Rattle.m51_cells.specs.declared.fault.TheConstants.{DEFINED_TWICE}
-use Rattle.m51_asm.specs.Repeats.{is_repeated, IsFirstRepeat}
-use Rattle.m51_asm.specs.PlacedFaults.{placed_fault}
-use Rattle.m51_asm.specs.Passing.{is_reached}
+use specs.Repeats.{is_repeated, IsFirstRepeat}
+use specs.PlacedFaults.{placed_fault}
+use specs.Passing.{is_reached}
 
 repeat_is_fault : (lines : List LineTree) (a : Assignment) (k : ℕ) → is_repeated lines k ≡ true
     → placed_fault lines a k ≡ Some DEFINED_TWICE
 unfolding placed_fault
 repeat_is_fault lines a k h = rw h refl
-
--- a line above the first one that repeats does not
-pub not_reached : (lines : List LineTree) (repeated : Option ℕ) (k : ℕ) → IsFirstRepeat lines repeated
-    → k < length lines
-    → is_reached repeated k ≡ false → is_repeated lines k ≡ false
-not_reached lines None k h b e = h k b
-not_reached lines (Some first) k h b e = h.1 k (leb-false first k e)
 
 -- where no line above has a fault, a line that is not above the first one that repeats is that one
 pub reached : (lines : List LineTree) (a : Assignment) (repeated : Option ℕ) (k : ℕ) → IsFirstRepeat lines repeated
@@ -43,17 +36,14 @@ reached lines a (Some first) k h free e =
 pub pushed_each : {T : Type 0} (P : ℕ → T → Type 0) (xs : List T) (y : T)
     → ((j : ℕ) (x : T) → slice_get xs j ≡ Some x → P j x)
     → P (length xs) y → (j : ℕ) (x : T) → slice_get (xs ++ y ∷ []) j ≡ Some x → P j x
-pushed_each P [] y h here zero x e =
-    let same : y ≡ x = cc e in
-    subst (P 0) same here
+pushed_each P [] y h here zero x e = grind arith
 pushed_each P [] y h here (suc j) x e = absurd (cc e)
 pushed_each P (z ∷ xs) y h here zero x e = h zero x e
 pushed_each P (z ∷ xs) y h here (suc j) x e = pushed_each (λ j. P (suc j)) xs y (λ j x e. h (suc j) x e) here j x e
 
 -- no line is placed yet
 pub no_places : (lines : List LineTree) (a : Assignment) → ArePlaces lines a []
-no_places lines a zero p e = absurd (cc e)
-no_places lines a (suc j) p e = absurd (cc e)
+no_places lines a b p e = grind arith
 
 -- one more line is passed
 pub passed_more : (lines : List LineTree) (a : Assignment) (k : ℕ) (places more : List LinePlace) (p : LinePlace)
@@ -70,4 +60,4 @@ passed_more lines a k places more p before end h e free at place = record {
 }
   where
     free_more : AreFree lines a (suc k)
-    free_more = rw (← add-one) (below_more (λ j. placed_fault lines a j ≡ None) k h.free free)
+    free_more = grind arith

@@ -1,28 +1,29 @@
 -- What is kept grows with a line as the definitions say, and the fault of the line follows from what is counted.
-use Rattle.m51_asm.proofs.Common.{◌≡◌, inl, inr, ℕ, suc, ◌+◌, ◌-◌, ◌<◌, ◌≤◌, ◌==◌, ◌&&◌, ◌||◌, not, min, nat_lt, Bool}
-use Rattle.m51_asm.proofs.Common.{true, false, cond, List, [], ◌∷◌, map, Option, Some, None, refl, ap, sym, subst, ◌∙◌}
-use Rattle.m51_asm.proofs.Common.{option_map, slice_get, add-zero, arith, eqb-true, ltb-false, or_parts, Kind}
-use Rattle.m51_asm.proofs.Common.{is_absolute, BodyTree, LineTree, Giving, PassOneState, definitions_in, found_in}
-use Rattle.m51_asm.proofs.Common.{TextSegment, Assignment, body_of, defined_of, body_at, is_absolute_of, bank_by, Fits}
-use Rattle.m51_asm.proofs.Common.{kind_end, is_misplaced, brief, or_kept, located_value, value_in, text_segment}
-use Rattle.m51_asm.proofs.Common.{size_in, expression_given, given_or, IsAt, AreLineFacts}
+use Rattle.m51_asm.proofs
+use Rattle.m51_asm.specs
+use proofs.Common.{◌≡◌, ℕ, suc, ◌+◌, ◌-◌, ◌<◌, ◌≤◌, ◌==◌, ◌||◌, min, nat_lt, Bool, true, false, cond, List, [], ◌∷◌}
+use proofs.Common.{map, Option, Some, None, refl, ap, sym, subst, ◌∙◌, option_map, slice_get, arith, ltb-false}
+use proofs.Common.{or_parts, Kind, BodyTree, LineTree, Giving, PassOneState, definitions_in, TextSegment, Assignment}
+use proofs.Common.{body_of, body_at, Fits, kind_end, is_misplaced, brief, located_value, value_in, text_segment}
+use proofs.Common.{size_in, expression_given, given_or, IsAt, AreLineFacts}
 use Rattle.std.proofs.Common.{◌^◌}
 use Rattle.m51_stmt.specs.Statement.{Segment}
-use Rattle.m51_asm.specs.declared.counts.Counts.{Counts}
-use Rattle.m51_asm.specs.declared.told.LineFacts.{LineFacts}
-use Rattle.m51_asm.specs.Definitions.{definition_of}
-use Rattle.m51_asm.specs.Assignment.{above}
-use Rattle.m51_asm.specs.Fitting.{last_absolute, size_at, filled, bank_before, externals_before}
-use Rattle.m51_asm.specs.Repeats.{is_repeated}
-use Rattle.m51_asm.specs.PlacedFaults.{is_past, is_numbered_by, segments_before, is_too_many, placed_fault}
-use Rattle.m51_asm.specs.ValuesAbove.{value_above}
-use Rattle.m51_asm.specs.OpenSegments.{last_with, last_in}
-use Rattle.m51_asm.specs.Filled.{saturated, Sets}
-use Rattle.m51_asm.specs.Operands.{evaluated_fault, given_in, bank_in}
-use Rattle.m51_asm.specs.Placing.{IsCounted, AreCounts, AreSmall, numbers_one, exceeds_end, are_too_many, fault_by}
-use Rattle.m51_asm.proofs.GivenValues.{grown, given}
-use Rattle.m51_asm.proofs.GoodLines.{IsFaultFree, test_none}
-use Rattle.m51_asm.proofs.SegmentRoom.{stays, filled_there}
+use specs.declared.counts.Counts.{Counts}
+use specs.declared.told.LineFacts.{LineFacts}
+use specs.Definitions.{definition_of}
+use specs.Assignment.{above}
+use specs.Fitting.{size_at, filled, bank_before, externals_before}
+use specs.Repeats.{is_repeated}
+use specs.PlacedFaults.{is_past, is_numbered_by, segments_before, is_too_many, placed_fault}
+use specs.ValuesAbove.{value_above}
+use specs.OpenSegments.{last_with, last_id}
+use specs.SegmentTable.{saturated, with_entry}
+use specs.Operands.{evaluated_fault, given_in, bank_in}
+use specs.Placing.{AreSegmentsAt, IsCounted, AreCounts, AreSmall, numbers_one, exceeds_end, are_too_many, fault_by}
+use proofs.GivenValues.{grown, given}
+use proofs.GoodLines.{IsFaultFree, test_none}
+use proofs.SegmentsAt.{more_segments}
+use Rattle.std.proofs.lemmas.Option.{slice_get_within}
 use Rattle.m51_cells.specs.declared.kind.Kind.TheVariants as kind
 
 -- a size past 64 bits is over each limit, as the exact one is
@@ -62,9 +63,7 @@ numbers_same : (lines : List LineTree) (a : Assignment) (k : ℕ) (body : BodyTr
     → numbers_one (a.segment k) (filled lines a (a.segment k).id k) (saturated (size_at lines a k)) body
     ≡ is_numbered_by lines a k body
 numbers_same lines a k (Segment name kind reloc overlayable) = refl
-numbers_same lines a k body =
-    ap (λ b. is_absolute (a.segment k).reloc && (filled lines a (a.segment k).id k == 0 && not b))
-    (small_zero (size_at lines a k) (2 ^ 64 - 1) (omega arith))
+numbers_same lines a k body = cc (small_zero (size_at lines a k) (2 ^ 64 - 1) (omega arith))
 
 pub small_counts : (s : TextSegment) (c : Counts) (misplaced : Bool) (operand : Option ℕ)
     → fault_by (exceeds_end s c.next) misplaced (are_too_many c.segments c.externals) operand ≡ None → AreSmall c
@@ -90,49 +89,47 @@ small_sum_is above here counted h less =
 module _ {lines : List LineTree} {a : Assignment} {k : ℕ} {s : PassOneState} {t : LineFacts} (at : IsAt lines a k s)
     (told : AreLineFacts lines a k t) where
   -- what is counted
-  pub counted : {c : Counts} {body : BodyTree} → body ≡ body_at lines k
-      → AreCounts (size_in s.filled) s.segments s.externals (text_segment s.segment) (text_segment t.next) t.size body c
+  pub counted : {c : Counts} {segment : TextSegment} {body : BodyTree} → segment ≡ a.segment k → body ≡ body_at lines k
+      → AreCounts (size_in s.segments.table) s.numbered s.externals segment (text_segment t.next) t.size body c
       → IsCounted lines a k c
   unfolding filled segments_before externals_before
-  counted {c = c} is counts =
+  counted {c = c} own is counts =
       let h : AreCounts (λ id. filled lines a id k) (segments_before lines a k) (externals_before lines k) (a.segment k)
       (a.segment (suc k)) (saturated (size_at lines a k)) (body_at lines k) c =
-      coe 0 1 (i. AreCounts (λ id. at.sizes id i) (at.numbered i) (at.declared i) (at.segment i) (told.next i)
-      (told.size i) (is i) c) counts in
+      coe 0 1 (i. AreCounts (λ id. at.segments.table.sizes id i) (at.numbered i) (at.declared i)
+      (own i) (told.next i) (told.size i) (is i) c) counts in
       record {
         next =
             h.next ∙ given_sum ((a.segment k).id == (a.segment (suc k)).id) (filled lines a (a.segment (suc k)).id k)
             (size_at lines a k);
-        segments =
-            h.segments ∙ ap (λ b. segments_before lines a k + cond b 1 0) (numbers_same lines a k (body_at lines k));
+        segments = cc (h.segments, numbers_same lines a k (body_at lines k));
         externals = h.externals;
       }
 
   -- the fault of a line that repeats nothing
-  pub fault_told : {c : Counts} {body : BodyTree} → Fits lines a → body ≡ body_at lines k → is_repeated lines k ≡ false
-      → IsCounted lines a k c
-      → fault_by (exceeds_end (text_segment t.next) c.next) (is_misplaced (text_segment s.segment) body)
+  pub fault_told : {c : Counts} {segment : TextSegment} {body : BodyTree} → Fits lines a → segment ≡ a.segment k
+      → body ≡ body_at lines k → is_repeated lines k ≡ false → IsCounted lines a k c
+      → fault_by (exceeds_end (text_segment t.next) c.next) (is_misplaced segment body)
       (are_too_many c.segments c.externals) (evaluated_fault t.operand)
       ≡ placed_fault lines a k
   unfolding placed_fault
-  fault_told {c = c} f is once counts =
+  fault_told {c = c} f own is once counts =
       let past : exceeds_end (text_segment t.next) c.next ≡ is_past lines a k =
       (λ i. exceeds_end (told.next i) (counts.next i))
-      ∙ passes_same (a.segment (suc k)) (filled lines a (a.segment (suc k)).id (suc k))
-      ∙ ap (λ p. nat_lt (kind_end (a.segment (suc k)).kind) p
-      || nat_lt 65535 (filled lines a (a.segment (suc k)).id (suc k))) (sym (f.places (suc k))) in
+      ∙ cc (passes_same (a.segment (suc k)) (filled lines a (a.segment (suc k)).id (suc k)), f.places (suc k)) in
       let many : are_too_many c.segments c.externals ≡ is_too_many lines a k =
-      (λ i. are_too_many (counts.segments i) (counts.externals i))
-      ∙ ap (λ b. nat_lt 254 (segments_before lines a (suc k)) || b)
-      (small_over 255 (externals_before lines (suc k)) (2 ^ 64 - 1) (omega arith)) in
-      (λ i. fault_by (past i) (is_misplaced (at.segment i) (is i)) (many i) (told.operand.fault_is i))
+      cc (
+        counts.segments,
+        counts.externals,
+        small_over 255 (externals_before lines (suc k)) (2 ^ 64 - 1) (omega arith),
+      ) in
+      (λ i. fault_by (past i) (is_misplaced (own i) (is i)) (many i) (told.operand.fault_is i))
       ∙ sym (rw once refl)
 
   -- the bank after a line without a fault
   pub bank_after : IsFaultFree lines a k → bank_in s.bank t.operand ≡ bank_before lines a (suc k)
   unfolding bank_before
-  bank_after free =
-      told.operand.bank_is free.operand s.bank ∙ ap (λ b. bank_by (above lines a k) b (body_at lines k)) at.selected
+  bank_after free = cc (told.operand.bank_is free.operand s.bank, at.selected)
 
 module _ {lines : List LineTree} {a : Assignment} {k : ℕ} {s : PassOneState} {t : LineFacts} {c : Counts}
     (f : Fits lines a) (line : LineTree) (is : slice_get lines k ≡ Some line) (free : IsFaultFree lines a k)
@@ -144,56 +141,33 @@ module _ {lines : List LineTree} {a : Assignment} {k : ℕ} {s : PassOneState} {
       → value_in n.values name ≡ given_or g (map brief (definitions_in line.stmt)) name (value_in s.values name))
       → (name : List ℕ) → option_map located_value (value_in n.values name) ≡ value_above lines a (suc k) name
   known_next h name =
-      ap (option_map located_value) (h name)
-      ∙ given lines a k g (ap located_value here ∙ told.here) number (externals ∙ at.declared) name
-      (value_in s.values name) line.stmt
-      (expression ∙ told.operand.given_is free.operand ∙ ap (λ l. expression_given (above lines a k) (body_of l)) is)
-      ∙ ap (or_kept lines a k (found_in (definitions_in line.stmt) name)) (at.known name)
-      ∙ ap (λ l. or_kept lines a k (found_in (defined_of l) name) (value_above lines a k name)) (sym is)
-      ∙ sym (grown lines a k name line is free.once)
-
-  -- a line that leaves another segment open gives nothing to its own
-  size_by_test : (id : ℕ) (b : Bool) → ((a.segment (suc k)).id == id) ≡ b
-      → cond b (filled lines a (a.segment (suc k)).id (suc k)) (filled lines a id k) ≡ filled lines a id (suc k)
-  unfolding filled
-  size_by_test id true e = ap (λ x. filled lines a x (suc k)) (eqb-true (a.segment (suc k)).id id e)
-  size_by_test id false e = elim (stays lines a f k) [
-    | inl none ↦ sym (ap (λ n. filled lines a id k + cond ((a.segment k).id == id) n 0) none
-        ∙ nothing (filled lines a id k) ((a.segment k).id == id))
-    | inr same ↦ sym (filled_there lines a k id (ap (λ (x : TextSegment). x.id == id) (sym same) ∙ e))
-  ]
-    where
-      nothing : (n : ℕ) (b : Bool) → n + cond b 0 0 ≡ n
-      nothing n true = add-zero n
-      nothing n false = add-zero n
-
-  sizes_next : Sets s.filled n.filled t.next.id c.next → (id : ℕ) → size_in n.filled id ≡ filled lines a id (suc k)
-  sizes_next h id =
-      h id
-      ∙ (λ i. cond ((told.next i).id == id) (counts.next i) (at.sizes id i))
-      ∙ ap (λ x. cond ((a.segment (suc k)).id == id) x (filled lines a id k))
-      (small_is (filled lines a (a.segment (suc k)).id (suc k)) 65535 (omega arith)
-      (subst (λ x. x ≤ 65535) counts.next small.next))
-      ∙ size_by_test id ((a.segment (suc k)).id == id) refl
-
-  latest_next : ((kind : Kind) → last_in n.last kind ≡ last_with (text_segment t.next) (last_in s.last) kind)
-      → (kind : Kind) → last_in n.last kind ≡ last_absolute a.segment kind (suc k)
-  unfolding last_absolute
-  latest_next h kind = h kind ∙ (λ i. cond (is_absolute_of kind (told.next i)) (Some (told.next i)) (at.latest kind i))
+      let gives = expression ∙ told.operand.given_is free.operand
+      ∙ ap (λ l. expression_given (above lines a k) (body_of l)) is in
+      cc (
+        h name,
+        given lines a k g (ap located_value here ∙ told.here) number (externals ∙ at.declared) name
+            (value_in s.values name) line.stmt gives,
+        at.known name,
+        is,
+        grown lines a k name line is free.once,
+      )
 
   pub at_next : ((name : List ℕ)
       → value_in n.values name ≡ given_or g (map brief (definitions_in line.stmt)) name (value_in s.values name))
-      → Sets s.filled n.filled t.next.id c.next
-      → ((kind : Kind) → last_in n.last kind ≡ last_with (text_segment t.next) (last_in s.last) kind)
-      → n.segment ≡ t.next → n.bank ≡ bank_in s.bank t.operand → n.segments ≡ c.segments → n.externals ≡ c.externals
+      → n.segments.table ≡ with_entry s.segments.table (text_segment t.next) c.next → n.segments.current ≡ t.next.id
+      → ((kind : Kind) → last_id n.segments.last kind ≡ last_with (text_segment t.next) (last_id s.segments.last) kind)
+      → n.bank ≡ bank_in s.bank t.operand → n.numbered ≡ c.segments → n.externals ≡ c.externals
       → IsAt lines a (suc k) n
-  at_next values sizes latest segment selected segments declared = record {
+  at_next values table current latest selected numbered declared = record {
     known = known_next values;
-    sizes = sizes_next sizes;
-    segment = ap text_segment segment ∙ told.next;
-    latest = latest_next latest;
+    segments =
+        more_segments lines a f k (slice_get_within lines k line is) s.segments n.segments t.next c.next at.segments
+        told.next
+        (counts.next ∙ small_is (filled lines a (a.segment (suc k)).id (suc k)) 65535 (omega arith)
+        (subst (λ x. x ≤ 65535) counts.next small.next))
+        table current latest;
     selected = selected ∙ bank_after at told free;
-    numbered = segments ∙ counts.segments;
+    numbered = numbered ∙ counts.segments;
     declared =
         declared ∙ counts.externals
         ∙ small_is (externals_before lines (suc k)) 255 (omega arith)
@@ -206,18 +180,14 @@ nothing_above [] a name = refl
 nothing_above (l ∷ lines) a name = refl
 
 -- before the first line nothing is kept
-pub at_start : (lines : List LineTree) (a : Assignment) → Fits lines a → (s : PassOneState)
-    → ((name : List ℕ) → value_in s.values name ≡ None)
-    → ((id : ℕ) → size_in s.filled id ≡ 0) → text_segment s.segment ≡ a.segment 0
-    → ((kind : Kind) → last_in s.last kind ≡ last_with (text_segment s.segment) (λ k. None) kind)
-    → s.bank ≡ 0 → s.segments ≡ 0 → s.externals ≡ 0 → IsAt lines a 0 s
-unfolding filled last_absolute bank_before segments_before externals_before
-at_start lines a f s values sizes segment latest bank segments externals = record {
+pub at_start : (lines : List LineTree) (a : Assignment) (s : PassOneState)
+    → ((name : List ℕ) → value_in s.values name ≡ None) → AreSegmentsAt lines a 0 s.segments
+    → s.bank ≡ 0 → s.numbered ≡ 0 → s.externals ≡ 0 → IsAt lines a 0 s
+unfolding bank_before segments_before externals_before
+at_start lines a s values segments bank numbered externals = record {
   known = λ name. ap (option_map located_value) (values name) ∙ sym (nothing_above lines a name);
-  sizes = sizes;
-  segment = segment;
-  latest = λ kind. latest kind ∙ ap (λ x. cond (is_absolute_of kind x) (Some x) None) segment;
+  segments = segments;
   selected = bank;
-  numbered = segments;
+  numbered = numbered;
   declared = externals;
 }

@@ -1,31 +1,36 @@
--- The names of the module of a text: the module's own, and those of its externals and segments.
-use Rattle.m51_asm.proofs.Common.{◌≡◌, ◌≢◌, inl, inr, ℕ, suc, ◌+◌, ◌<◌, ◌≤◌, List, [], ◌∷◌, ◌++◌, length, take, filter}
-use Rattle.m51_asm.proofs.Common.{refl, sym, subst, ◌∙◌, arith, flat_map, range_with_len, Kind, is_name_byte, IsWritten}
-use Rattle.m51_asm.proofs.Common.{BodyTree, Each, LineTree, SegmentOf, ExternOf, externals_from, defined_by, Assignment}
-use Rattle.m51_asm.proofs.Common.{body_at, with_front, Kept, object_segments, externals, name_in}
+-- The names of the module of a text: the module's own, those of its externals and segments, and its publics with what
+-- they count from.
+use Rattle.m51_asm.proofs
+use Rattle.m51_asm.specs
+use proofs.Common.{◌≡◌, ◌≢◌, inl, inr, ℕ, suc, ◌+◌, ◌<◌, ◌≤◌, List, [], ◌∷◌, length, refl, sym, subst, ◌∙◌, arith}
+use proofs.Common.{flat_map, range_with_len, Kind, IsWritten, BodyTree, Each, LineTree, SegmentOf, ExternOf}
+use proofs.Common.{externals_from, defined_by, Assignment, body_at, Kept, object_segments, externals, name_in, kept}
+use proofs.Common.{cases_Bool, cases_eq, zero, Option, Ok, Err, ap, eq-eqb, ne_eqb, Base, same_kind, kind_same, Value}
+use proofs.Common.{is_whole, Definition, publics_in, segment_of, segment_number}
 use Rattle.m51_cells.proofs.NameLaws.{name_written}
 use Rattle.m51_module.specs.declared.symbol.External.{External}
-use Rattle.m51_module.specs.Validity.{Differ}
-use Rattle.m51_asm.specs.Naming.{stem_of, folderless, module_name}
-use Rattle.m51_asm.specs.Parts.{externals_by, name_by}
-use Rattle.m51_asm.proofs.Written.{file_named}
-use Rattle.m51_asm.proofs.Members.{In, Every, Pairs, in_map, in_flat, in_range, pairs_map, pairs_weaker, pairs_flat}
-use Rattle.m51_asm.proofs.Members.{pairs_range}
-use Rattle.m51_asm.proofs.GoodLines.{IsClean, IsGood, free, free_text}
-use Rattle.m51_asm.proofs.KeptSegments.{IsNamed, Nameless, DeclaredAt, all_kept}
-use Rattle.m51_asm.proofs.FewSegments.{IsRest, all_lines}
-use Rattle.m51_asm.proofs.DefinedOnce.{Apart, IsOnce, once}
+use Rattle.m51_module.specs.Validity.{Differ, IsPublicBase, IsPublicValid}
+use specs.Naming.{module_name}
+use specs.Parts.{externals_by, name_by, publics_by, publics_before}
+use proofs.Written.{file_named}
+use proofs.Members.{In, Every, Pairs, in_map, in_flat, in_range, pairs_map, pairs_weaker, pairs_flat, pairs_range}
+use proofs.Members.{every_append, pairs_append}
+use proofs.GoodLines.{IsClean, IsGood, free, free_text}
+use proofs.KeptSegments.{IsNamed, Nameless, DeclaredAt, all_kept, has_number}
+use proofs.FewSegments.{IsRest, all_lines}
+use proofs.DefinedOnce.{Apart, IsOnce, once, publics_once}
 use Rattle.m51_stmt.specs.Statement as body
+use Rattle.m51_module.specs.declared.symbol.Public.{Public}
+use specs.PublicNames.{Published, public_of_value, public_valued, public_by, published, if_public, publics_of}
+use Rattle.m51_cells.specs.declared.kind.Base.TheVariants as base
 
 -- the name that a file gives is written
 pub file_written : (file : List ℕ) → IsWritten (module_name file)
 unfolding module_name
-file_written file = name_written (take 31 (with_front (filter is_name_byte (stem_of (folderless file))))) _
-    (file_named (stem_of (folderless file)))
+file_written file = grind (arith, name_written, file_named)
 
 written_by : (other : List ℕ) (b : BodyTree) → IsGood b → IsWritten other → IsWritten (name_by other b)
-written_by other (body.ModuleName name) good is = good
-written_by other b good is = is
+written_by other b good is = grind arith
 
 pub name_is_written : (other : List ℕ) (ls : List LineTree) → ((k : ℕ) → IsGood (body_at ls k)) → IsWritten other
     → IsWritten (name_in other ls)
@@ -40,9 +45,8 @@ flat_from : (lines ls : List LineTree) (n : ℕ) → IsRest lines n ls
     → externals ls ≡ flat_map (given_at lines) (range_with_len n (length ls))
 flat_from lines [] n rest = refl
 flat_from lines (l ∷ ls) n rest =
-    let first = rest 0 n (omega arith) in
-    let more = flat_from lines ls (n + 1) (λ j k e. rest (suc j) k (omega arith)) in
-    (λ i. externals_by (first i) ++ more i)
+    let first = rest 0 n (omega arith) in let more = flat_from lines ls (n + 1) (λ j k e. rest (suc j) k (omega
+    arith)) in cc
 
 externals_flat : (lines : List LineTree) → externals lines ≡ flat_map (given_at lines) (range_with_len 0 (length lines))
 externals_flat lines = flat_from lines lines 0 (all_lines lines)
@@ -78,14 +82,10 @@ abbrev OtherName : External → External → Type 0
 OtherName e f = e.name ≢ f.name
 
 external_pairs : (b : BodyTree) → Pairs Apart (defined_by b) → Pairs OtherName (externals_by b)
-external_pairs (body.Extrn xs) h = pairs_map _ _ _ (extern_pairs xs 0 h)
-external_pairs b h = tt
+external_pairs b h = grind (arith, pairs_map, extern_pairs)
 
 external_written : (b : BodyTree) → IsGood b → (e : External) → In e (externals_by b) → IsWritten e.name
-external_written (body.Extrn xs) good e i =
-    let c = in_map _ _ _ i in
-    subst (λ (x : External). IsWritten x.name) c.is (each_in (λ x. IsWritten x.0) xs good c.from c.there)
-external_written b good e i = absurd i
+external_written b good e i = grind (arith, in_map, each_in)
 
 module _ (lines : List LineTree) (a : Assignment) (c : IsClean lines a) where
   -- a line repeats nothing
@@ -113,7 +113,7 @@ module _ (lines : List LineTree) (a : Assignment) (c : IsClean lines a) where
   names_differ : (s t : Kept) → s.id < t.id → t.id ≤ suc (length lines) → IsNamed lines s.id s.segment
       → IsNamed lines t.id t.segment → Differ s.segment.name t.segment.name
   names_differ s t less low (Nameless e r) named = λ ne. absurd (ne e)
-  names_differ s t less low (DeclaredAt j kj d at_j name_j) (Nameless e r) = λ ne same. ne (same ∙ e)
+  names_differ s t less low (DeclaredAt j kj d at_j name_j) (Nameless e r) = grind arith
   names_differ s t less low (DeclaredAt j kj d at_j name_j) (DeclaredAt k kk f at_k name_k) =
       let in_two = subst (λ b. In (f.name, SegmentOf kk) (defined_by b)) (sym f.is) (inl refl) in
       let in_one = subst (λ b. In (d.name, SegmentOf kj) (defined_by b)) (sym d.is) (inl refl) in
@@ -126,3 +126,114 @@ module _ (lines : List LineTree) (a : Assignment) (c : IsClean lines a) where
       pairs_map _ _ _
       (pairs_weaker _ _ _
       (λ s t i j less. names_differ s t less (all.low t j) (all.every s i).named (all.every t j).named) all.order)
+
+abbrev OtherPublic : Public → Public → Type 0
+OtherPublic p q = p.name ≢ q.name
+
+module _ (lines : List LineTree) (a : Assignment) (c : IsClean lines a) where
+  -- what a public of this name is
+  record IsMade (name : List ℕ) (p : Public) : Type 0 where
+    name_is : p.name ≡ name
+    counts : IsPublicBase (object_segments lines a) p.kind p.base
+
+  abbrev Makes : List ℕ → Published → Type 0
+  Makes name (Ok p) = IsMade name p
+  Makes name (Err n) = Unit {0}
+
+  of_base : (name : List ℕ) (v : Value) (b : Base) → Makes name (public_of_value lines a name v b)
+  of_base name v base.None = record { name_is = refl; counts = tt }
+  of_base name v (base.External external) = tt
+  of_base name v (base.Segment id) = elim (cases_Bool (is_whole v.part)) [
+    | inr part ↦ rw part tt
+    | inl part ↦ rw part (elim (cases_Bool (same_kind v.class (segment_of lines a id).kind)) [
+      | inr same ↦ rw same tt
+      | inl same ↦ rw same (elim (cases_eq (segment_number lines a id) 0) [
+        | inl none ↦ rw (eq-eqb _ _ none) (record { name_is = refl; counts = tt })
+        | inr ne ↦
+            let all = all_kept lines a (free_text lines a c) in
+            let n = has_number (kept lines a) all.order id ne in
+            rw (ne_eqb _ _ ne) (record {
+              name_is = refl;
+              counts = (
+                n.0.segment,
+                n.3,
+                (all.every n.0 n.1).kind_is ∙ ap (λ i. (segment_of lines a i).kind) n.2 ∙ sym (kind_same _ _ same),
+              );
+            })
+      ])
+    ])
+  ]
+
+  of_value : (name : List ℕ) (v : Option Value) → Makes name (public_valued lines a name v)
+  of_value name b = grind (arith, of_base)
+
+  of_definition : (name : List ℕ) (v : Option Value) (d : Option (ℕ × Definition))
+      → Makes name (public_by lines a name v d)
+  of_definition name v d = grind (arith, of_value)
+
+  made : (k : ℕ) (name : List ℕ) → Makes name (published lines a k name)
+  unfolding published
+  made k name = grind (arith, of_definition)
+
+  -- a public of one of these names
+  abbrev IsAmong : List (List ℕ) → Public → Type 0
+  IsAmong names p = (name : List ℕ) × In name names × IsMade name p
+
+  -- publics of these names, no two of one name
+  record AreOf (names : List (List ℕ)) (ps : List Public) : Type 0 where
+    each : Every (IsAmong names) ps
+    order : Pairs OtherPublic ps
+
+  with_name : (name : List ℕ) (names : List (List ℕ)) (ps : List Public) (r : Published)
+      → Every (λ y. y ≢ name) names → Makes name r → AreOf names ps
+      → AreOf (name ∷ names) (if_public r ps)
+  with_name name names ps b others m h = grind arith
+
+  of_names : (k : ℕ) (names : List (List ℕ)) → Pairs (λ x y. y ≢ x) names → AreOf names (publics_of lines a k names)
+  of_names k [] h = record { each = λ p i. absurd i; order = tt }
+  of_names k (name ∷ names) h =
+      with_name name names (publics_of lines a k names) (published lines a k name) h.0 (made k name)
+      (of_names k names h.1)
+
+  of_line : (k : ℕ) (b : BodyTree) → Pairs (λ x y. y ≢ x) (publics_in b) → AreOf (publics_in b) (publics_by lines a k b)
+  of_line k (body.Public names) h = of_names k names h
+  of_line k b h = record { each = λ p i. absurd i; order = tt }
+
+  -- a public of the first k lines
+  abbrev IsPublicOf : ℕ → Public → Type 0
+  IsPublicOf k p = (line : ℕ) × (line < k) × IsAmong (publics_in (body_at lines line)) p
+
+  record AreAbove (k : ℕ) (ps : List Public) : Type 0 where
+    each : Every (IsPublicOf k) ps
+    order : Pairs OtherPublic ps
+
+  are_above : (k : ℕ) → k ≤ length lines → AreAbove k (publics_before lines a k)
+  unfolding publics_before
+  are_above zero within = record { each = λ p i. absurd i; order = tt }
+  are_above (suc k) within =
+      let o = publics_once lines k [] (publics_in (body_at lines k)) (once_at lines a c k (omega arith)).publics in
+      let before = are_above k (omega arith) in
+      let here = of_line k (body_at lines k) o.within in
+      record {
+        each = every_append _ _ _ (λ p i. let r = before.each p i in (r.0, omega arith, r.2))
+            (λ p i. (k, omega arith, here.each p i));
+        order = pairs_append _ _ _ before.order here.order (λ p q i j e.
+            let u = before.each p i in
+            let v = here.each q j in
+            o.above v.0 v.1 u.0 u.1 u.2.0 u.2.1 (sym v.2.name_is ∙ sym e ∙ u.2.2.name_is));
+      }
+
+  pub publics_differ : Pairs OtherPublic (publics_before lines a (length lines))
+  publics_differ = (are_above (length lines) (omega arith)).order
+
+  public_written : (b : BodyTree) → IsGood b → (name : List ℕ) → In name (publics_in b) → IsWritten name
+  public_written b good name i = grind (arith, each_in)
+
+  pub publics_valid : Every (IsPublicValid (object_segments lines a)) (publics_before lines a (length lines))
+  publics_valid p i =
+      let r = (are_above (length lines) (omega arith)).each p i in
+      let among = r.2 in
+      record {
+        name = subst IsWritten (sym among.2.name_is) (public_written _ (c.good r.0) among.0 among.1);
+        base = among.2.counts;
+      }

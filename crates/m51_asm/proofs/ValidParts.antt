@@ -1,35 +1,111 @@
--- The module that a text without faults gives is valid.
-use Rattle.m51_asm.proofs.Common.{refl, kept, ◌≡◌, inl, inr, ℕ, ◌+◌, ◌%◌, ◌<◌, Bool, true, cond, List, [], ◌∷◌, length}
-use Rattle.m51_asm.proofs.Common.{ap, subst, ◌∙◌, arith, list_any, length-map, Segment, IsValid, SourceFile, LineTree}
-use Rattle.m51_asm.proofs.Common.{Lines, text_of, AreFree, Fits, content_faults, Assignment, Kept, object_segments}
-use Rattle.m51_asm.proofs.Common.{suc, ◌≤◌, min, Option, Some, None, sym, Fault, Row}
-use Rattle.m51_asm.proofs.Common.{rows_from, first_fault, content_or_faults}
-use Rattle.std.proofs.lemmas.Bool.{or_left, or_right}
+-- The module that a text without faults gives is valid, and so is that of each answer.
+use Rattle.m51_asm.proofs
+use Rattle.m51_asm.specs
+use proofs.Common.{kept, cases_eq, ◌≡◌, ◌⊎◌, inl, inr, ℕ, zero, suc, ◌≤◌, true, List, length, Option, Some, None}
+use proofs.Common.{option_map, refl, subst, arith, Base, Field, Segment, numbered, Value, Meanings, Linked, Reference}
+use proofs.Common.{linked_is, LineTree, Assignment, here_at, object_segments, segment_number, externals, pieces, fixups}
+use proofs.Common.{◌+◌, ◌%◌, ◌<◌, Bool, cond, [], ◌∷◌, list_any, length-map, IsValid, SourceFile, Lines, text_of}
+use proofs.Common.{AreFree, Fits, content_faults, Kept, min, sym, Fault, Row, rows_from, first_fault, content_or_faults}
+use Rattle.std.proofs.lemmas.Option.{slice_get_cases}
+use Rattle.m51_module.specs.declared.symbol.External.{External}
+use Rattle.m51_module.specs.Validity.{IsTarget, IsFixupValid, IsVersion, IsSegmentValid}
+use Rattle.m51_encode.specs.Bases.{is_linked}
+use Rattle.m51_encode.specs.FieldValues.{field_of}
+use Rattle.m51_encode.proofs.BitNumbers.{references_have_bits}
+use specs.ObjectMeanings.{final, object_base, object_value}
+use proofs.Members.{Every, In, in_map, every_all, pairs_all}
+use proofs.GoodLines.{IsClean, free_text, clean_where, clean}
+use proofs.KeptSegments.{all_kept, has_number}
+use proofs.FewSegments.{externals_count, few_segments, few_externals}
+use proofs.GivenContents.{given}
+use proofs.BasedNames.{IsBased, IfSomeBased, AreBased, value_based, IsDeclaredBase, name_good, place_good}
+use proofs.ValidPieces.{of_text, held, fixups_ordered, few_fixups, pieces_valid, pieces_ordered}
+use Rattle.m51_cells.specs.declared.kind.Base.TheVariants as base
+use Rattle.std.proofs.lemmas.Bool.{or_right}
 use Rattle.m51_module.specs.declared.symbol.Public.{Public}
-use Rattle.m51_module.specs.Validity.{IsVersion, IsSegmentValid}
-use Rattle.m51_asm.specs.Naming.{module_name}
-use Rattle.m51_asm.specs.Parts.{publics_before, is_selected, version_of, parts}
-use Rattle.m51_asm.specs.ValidTexts.{PartsAreValid, IsRowOfText, CanBeGiven, AnswersAreValid}
-use Rattle.m51_asm.proofs.Members.{In, Every, in_map, every_all, pairs_all}
-use Rattle.m51_asm.proofs.GoodLines.{IsClean, clean_where, clean, free_text}
-use Rattle.m51_asm.proofs.KeptSegments.{all_kept}
-use Rattle.m51_asm.proofs.ValidNames.{file_written, name_is_written, externals_written, externals_differ}
-use Rattle.m51_asm.proofs.ValidNames.{segments_differ}
-use Rattle.m51_asm.proofs.ValidPublics.{publics_differ, publics_valid}
-use Rattle.m51_asm.proofs.FewSegments.{few_segments, few_externals}
-use Rattle.m51_asm.proofs.ValidPieces.{pieces_valid, pieces_ordered}
-use Rattle.m51_asm.proofs.ValidFixups.{fixups_ordered, few_fixups}
-use Rattle.m51_asm.proofs.ValidTargets.{fixups_valid}
+use specs.Naming.{module_name}
+use specs.Parts.{publics_before, is_selected, version_of, parts}
+use specs.ValidTexts.{PartsAreValid, IsRowOfText, CanBeGiven, AnswersAreValid}
+use proofs.ValidNames.{file_written, name_is_written, externals_written, externals_differ, segments_differ}
+use proofs.ValidNames.{publics_differ, publics_valid}
 use Rattle.std.proofs.Common.{All}
 use Rattle.std.proofs.lemmas.List.Elements.{All-nil, All-cons, All-head, All-tail}
 use Rattle.m51_module.specs.declared.parts.ModuleParts.{ModuleParts}
 use Rattle.m51_text.specs.Answer.{TextTree, Faults as TextFaults}
 use Rattle.m51_text.specs.Laws.{IsLineOf}
 use Rattle.m51_text.proofs.Numbered.{lines_are_of_files}
-use Rattle.m51_asm.specs.PlacedFaults.{placed_fault}
-use Rattle.m51_asm.specs.Answer.{AnswerTree, Gives, Faults as AnswerFaults, placed_or_fault, IsAnswerOf}
-use Rattle.m51_asm.specs.Answer.{answer_of_lines}
-use Rattle.m51_asm.proofs.AnAssignment.{fitting, fits}
+use specs.PlacedFaults.{placed_fault}
+use specs.Answer.{AnswerTree, Gives, Faults as AnswerFaults, placed_or_fault, IsAnswerOf, answer_of_lines}
+use proofs.AnAssignment.{fitting, fits}
+
+-- what is left to the linker has a base that is linked
+field_linked : (names : Meanings) (at : Field) (next : ℕ) (v : Value) (r : Reference)
+    → field_of names at next v ≡ Some (Linked r) → is_linked names v.base ≡ true
+unfolding field_of
+field_linked names at next v r h = grind arith
+
+-- an external of that number
+numbered_there : (es : List External) (e : ℕ) → 1 ≤ e → e ≤ length es → (x : External) × (numbered es e ≡ Some x)
+numbered_there es zero some most = absurd (omega arith)
+numbered_there es (suc k) some most =
+    elim (slice_get_cases es k).1 [ inl p ↦ (p.0, p.2) | inr p ↦ absurd (omega arith) ]
+
+module _ (lines : List LineTree) (a : Assignment) (c : IsClean lines a) where
+  abbrev targets : List Segment
+  targets = object_segments lines a
+
+  abbrev number : ℕ → ℕ
+  number id = segment_number lines a id
+
+  -- a base of an object: the segment exists, or has the number 0
+  abbrev IsThere : Base → Type 0
+  IsThere base.None = Unit {0}
+  IsThere (base.Segment n) = (n ≡ 0) ⊎ IsTarget targets (externals lines) (base.Segment n)
+  IsThere (base.External e) = IsTarget targets (externals lines) (base.External e)
+
+  base_there : (b : Base) → IsDeclaredBase lines a b → IsThere (object_base number b)
+  base_there base.None h = tt
+  base_there (base.Segment id) h = elim (cases_eq (number id) 0) [
+    | inl e ↦ inl e
+    | inr ne ↦
+        let n = has_number (kept lines a) (all_kept lines a (free_text lines a c)).order id ne in
+        inr (n.0.segment, n.3)
+  ]
+  base_there (base.External e) h = numbered_there _ e h.0 (omega (arith, externals_count lines))
+
+  object_there : (v : Value) → IsBased (IsDeclaredBase lines a) v → IsBased IsThere (object_value number v)
+  object_there v h = record { base_is = base_there v.base h.base_is; bit_is = h.bit_is }
+
+  option_there : (o : Option Value) → IfSomeBased (IsDeclaredBase lines a) o
+      → IfSomeBased IsThere (option_map (object_value number) o)
+  option_there b h = grind (arith, object_there)
+
+  final_there : (k : ℕ) → AreBased IsThere (final lines a k)
+  unfolding final
+  final_there k = record {
+    value = λ name. option_there (a.value k name) (name_good lines a c.fits k name);
+    here = object_there (here_at a k) (place_good lines a c.fits k);
+  }
+
+  linked_there : (k : ℕ) (b : Base) → IsThere b → is_linked (final lines a k) b ≡ true
+      → IsTarget targets (externals lines) b
+  unfolding final
+  linked_there k b h l = grind arith
+
+  pub fixups_valid : Every (IsFixupValid targets (externals lines) (pieces lines a)) (fixups lines a)
+  fixups_valid f i =
+      let t = of_text lines a c f i in
+      let line = t.2.0 in
+      let o = t.2.2 in
+      let l = (given lines a c line o.below).content.linked o.reference o.there in
+      let based = (value_based IsThere tt (final lines a line) (final_there line) l.tree).holds l.value l.is in
+      record {
+        bit = rw (← o.is) (references_have_bits _ _ _ _ _ based.bit_is l.from);
+        target = rw (← o.is)
+            (subst (λ (x : Reference). IsTarget targets (externals lines) x.base) (linked_is _ _ _ _ _ l.from)
+            (linked_there line l.value.base based.base_is (field_linked _ _ _ _ _ l.from)));
+        held = held lines a c f t;
+      }
 
 -- bit 0 of the banks, and those that are selected
 abbrev some_banks : Bool → Bool → Bool → ℕ
@@ -45,8 +121,7 @@ one_or_two b = grind arith
 any_marked : (segments : List Segment) (s : Segment) → In s segments → s.argument ≡ true
     → list_any (λ s. s.argument) segments ≡ true
 any_marked [] s i h = absurd i
-any_marked (x ∷ segments) s (inl e) h =
-    or_left x.argument (list_any (λ s. s.argument) segments) (ap (λ (y : Segment). y.argument) e ∙ h)
+any_marked (x ∷ segments) s (inl e) h = grind arith
 any_marked (x ∷ segments) s (inr j) h = or_right _ _ (any_marked segments s j h)
 
 version_two : (segments : List Segment) → Every (λ s. s.argument ≡ true → version_of segments ≡ 2) segments
@@ -152,10 +227,10 @@ module _ (source : SourceFile) (includes : List SourceFile) where
     unfolding answer_of_lines
     of_lines = by_place (first_fault (placed_fault lines (fitting lines)) 0 lines) refl
 
-  of_text : (text : TextTree) (m : ModuleParts) (given : List Row) → text_of source includes ≡ text
+  of_answer : (text : TextTree) (m : ModuleParts) (given : List Row) → text_of source includes ≡ text
       → IsAnswerOf source.name text (gives m given) → CanBeGiven source includes m given
-  of_text (TextFaults faults) m given read h = absurd (cc h)
-  of_text (Lines lines) m given read h = subst CanBe (sym (h (fitting lines) (fits lines))) (of_lines lines read)
+  of_answer (TextFaults faults) m given read h = absurd (cc h)
+  of_answer (Lines lines) m given read h = subst CanBe (sym (h (fitting lines) (fits lines))) (of_lines lines read)
 
 pub answers_are_valid : AnswersAreValid
-answers_are_valid source includes m given h = of_text source includes (text_of source includes) m given refl h
+answers_are_valid source includes m given h = of_answer source includes (text_of source includes) m given refl h

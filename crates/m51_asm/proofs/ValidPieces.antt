@@ -1,21 +1,25 @@
--- The pieces of the module of a text: each lies in a segment of program memory, they lie in their order, and they hold
--- what the lines give.
-use Rattle.m51_asm.proofs.Common.{kept, cases_Bool, cases_eq, ◌≡◌, inl, inr, ℕ, suc, ◌+◌, ◌<◌, ◌≤◌, ◌==◌, true, List}
-use Rattle.m51_asm.proofs.Common.{[], ◌∷◌, length, sym, ap, subst, ◌∙◌, arith, eq-eqb, eqb-true, Piece, numbered}
-use Rattle.m51_asm.proofs.Common.{LiesBefore, LineTree, TextSegment, Assignment, Kept, object_segments, segment_of}
-use Rattle.m51_asm.proofs.Common.{segment_number, Run, if_bytes, offset_at, pieces}
-use Rattle.m51_module.specs.Validity.{EarlierSegment, IsPieceValid, IsHeld}
-use Rattle.m51_asm.specs.Fitting.{filled, size_at}
-use Rattle.m51_asm.specs.Pieces.{content_at, runs_from, segment_pieces}
-use Rattle.m51_asm.proofs.Members.{In, Every, Pairs, in_flat, flat_in, pairs_flat, contains_in}
-use Rattle.m51_asm.proofs.CutRuns.{AreRuns, runs_lower, runs_before, run_in, runs_pairs, Covers, Hold, still_held}
-use Rattle.m51_asm.proofs.CutRuns.{IsOfRun, piece_of_run, pieces_in_order, runs_in_order, runs_cut}
-use Rattle.m51_asm.proofs.GoodLines.{IsClean, free_text}
-use Rattle.m51_asm.proofs.KnownSegments.{known}
-use Rattle.m51_asm.proofs.SegmentRoom.{filled_here, filled_up}
-use Rattle.m51_asm.proofs.KeptSegments.{AreKept, all_kept, leads_to, numbers_ascend}
-use Rattle.m51_asm.proofs.GivenContents.{given}
+-- The pieces of the module of a text, each in a segment of program memory, in their order, with what the lines give;
+-- and its fixups: their fields lie in pieces, one after another, and they are not too many.
+use Rattle.m51_asm.proofs
+use Rattle.m51_asm.specs
+use proofs.Common.{kept, cases_Bool, cases_eq, ◌≡◌, inl, inr, ℕ, suc, ◌+◌, ◌<◌, ◌≤◌, ◌==◌, true, List, [], ◌∷◌, length}
+use proofs.Common.{sym, ap, subst, ◌∙◌, arith, eq-eqb, eqb-true, Piece, numbered, LiesBefore, LineTree, TextSegment}
+use proofs.Common.{Assignment, Kept, object_segments, segment_of, segment_number, Run, if_bytes, offset_at, pieces, map}
+use proofs.Common.{refl, length-append, length-map, Fixup, field_len, ReferenceAt, fixups}
+use Rattle.m51_module.specs.Validity.{EarlierSegment, IsPieceValid, IsHeld, FieldBefore, EarlierSegmentOf, BeforeIn}
+use specs.Fitting.{filled, size_at}
+use specs.Pieces.{content_at, runs_from, segment_pieces, fixup_of, line_fixups, fixups_from}
+use proofs.Members.{In, Every, Pairs, in_flat, flat_in, pairs_flat, contains_in, in_map, every_append, pairs_append}
+use proofs.Members.{pairs_map, pairs_weaker}
+use proofs.CutRuns.{AreRuns, runs_lower, runs_before, run_in, runs_pairs, Covers, Hold, still_held, IsOfRun}
+use proofs.CutRuns.{piece_of_run, pieces_in_order, runs_in_order, runs_cut}
+use proofs.GoodLines.{IsClean, free_text}
+use proofs.KnownSegments.{known}
+use proofs.KeptSegments.{filled_here, filled_up, AreKept, all_kept, leads_to, numbers_ascend}
+use proofs.GivenContents.{given, made_most}
 use Rattle.m51_cells.specs.declared.kind.Kind.TheVariants as kind
+use specs.ContentFaults.{made_before}
+use proofs.FewSegments.{sum_of, share, few_in_all}
 
 -- what a line gives to its segment ends where the next begins
 pub ends_by : (lines : List LineTree) (a : Assignment) (k id : ℕ) → ((a.segment k).id == id) ≡ true
@@ -126,7 +130,7 @@ module _ (lines : List LineTree) (a : Assignment) (c : IsClean lines a) where
         segment = s.segment;
         is = ap (numbered (object_segments lines a)) piece.segment_is ∙ leads_to _ all.order s f.1;
         code = is_kept.kind_is ∙ ap (λ i. (segment_of lines a i).kind) (sym code.1)
-            ∙ ap (λ (t : TextSegment). t.kind) (known lines a (free_text lines a c) code.0).same ∙ code.2;
+            ∙ ap (λ (t : TextSegment). t.kind) (known lines a c.fits code.0).same ∙ code.2;
         inside = omega arith;
       }
 
@@ -150,3 +154,109 @@ module _ (lines : List LineTree) (a : Assignment) (c : IsClean lines a) where
         from = p.2.1.from;
         below = p.2.1.below;
       }
+
+  abbrev references : ℕ → List ReferenceAt
+  references k = (content_at lines a k).references
+
+  -- the fixup of a reference of line k
+  abbrev made : Kept → ℕ → ReferenceAt → Fixup
+  made s k = fixup_of (object_segments lines a) (number s) (offset_at lines a k)
+
+  -- a fixup of a line in a segment of the module
+  pub record IsOfLine (s : Kept) (line : ℕ) (f : Fixup) : Type 0 where
+    pub below : line < length lines
+    pub here : (a.segment line).id ≡ s.id
+    pub reference : ReferenceAt
+    pub there : In reference (references line)
+    pub is : made s line reference ≡ f
+
+  -- a fixup of a line from line k on
+  abbrev pub IsFrom : Kept → ℕ → Fixup → Type 0
+  IsFrom s k f = (line : ℕ) × (k ≤ line) × IsOfLine s line f
+
+  -- how many fixups the lines before line k give to a segment
+  abbrev given_to : Kept → ℕ → ℕ
+  given_to s k = share (λ j. (a.segment j).id) (λ j. length (references j)) s.id k
+
+  -- the fixups that the lines from line k on give to a segment
+  record AreFixups (s : Kept) (k : ℕ) (fs : List Fixup) : Type 0 where
+    each : Every (IsFrom s k) fs
+    order : Pairs FieldBefore fs
+    count : given_to s k + length fs ≡ given_to s (length lines)
+
+  -- a field of a line lies before those of later lines
+  lies_before : (s : Kept) (k : ℕ) → k < length lines → (a.segment k).id ≡ s.id → (f g : Fixup)
+      → In f (line_fixups lines a (number s) k) → IsFrom s (suc k) g → FieldBefore f g
+  lies_before s k below here f g i o =
+      let r = in_map _ _ _ i in
+      let inside = (given lines a c k below).content.inside r.from r.there in
+      let end = line_ends k s.id below (eq-eqb _ _ here) in
+      let up = filled_up lines a s.id (suc k) o.0 o.1 in
+      let at = ap (λ i. filled lines a i o.0) o.2.here in
+      rw (← r.is, ← o.2.is) (BeforeIn refl (omega arith))
+
+  are_fixups : (s : Kept) (k : ℕ) (ls : List LineTree) → k + length ls ≡ length lines
+      → AreFixups s k (fixups_from lines a s k ls)
+  unfolding sum_of
+  are_fixups s k [] e = grind arith
+  are_fixups s k (l ∷ ls) e =
+      let fs = fixups_from lines a s (suc k) ls in
+      let h = are_fixups s (suc k) ls (omega arith) in
+      let below : k < length lines = omega arith in
+      let later : Every (IsFrom s k) fs = λ f i. let o = h.each f i in (o.0, omega arith, o.2) in
+      elim (cases_Bool ((a.segment k).id == s.id)) [
+        | inr test ↦
+            rw test (record { each = later; order = h.order; count = omega (arith, rw test at h.count) })
+        | inl test ↦
+            let here = eqb-true _ _ test in
+            let len = length-append (map (made s k) (references k)) fs in
+            let mapped = length-map (references k) (made s k) in
+            rw test (record {
+              each = every_append (IsFrom s k) (line_fixups lines a (number s) k) fs (λ f i.
+                  let r = in_map _ _ _ i in (
+                    k,
+                    omega arith,
+                    record { below = below; here = here; reference = r.from; there = r.there; is = r.is },
+                  )) later;
+              order = pairs_append _ _ _ (pairs_map _ _ _ (pairs_weaker _ _ _
+                  (λ r q i j e. BeforeIn refl (omega arith)) (given lines a c k below).content.order)) h.order
+                  (λ f g i j. lies_before s k below here f g i (h.each g j));
+              count = omega (arith, rw test at h.count);
+            })
+      ]
+
+  fixups_in : (s : Kept) → AreFixups s 0 (fixups_from lines a s 0 lines)
+  fixups_in s = are_fixups s 0 lines (omega arith)
+
+  -- a fixup of the module
+  abbrev pub IsOfText : Fixup → Type 0
+  IsOfText f = (s : Kept) × In s (kept lines a) × IsFrom s 0 f
+
+  pub of_text : (f : Fixup) → In f (fixups lines a) → IsOfText f
+  of_text f i = let r = in_flat _ _ _ i in (r.0, r.1, (fixups_in r.0).each f r.2)
+
+  -- pieces hold each byte of a fixup's field
+  pub held : (f : Fixup) → IsOfText f → (k : ℕ) → k < field_len f.form
+      → IsHeld (pieces lines a) f.segment (f.offset + k)
+  held f t k less =
+      let o = t.2.2 in
+      let short = rw (← o.is) at less in
+      let line = t.2.0 in
+      let inside = (given lines a c line o.below).content.inside o.reference o.there in
+      rw (← o.is) (line_held t.0 t.1 line (offset_at lines a line + o.reference.0 + k) o.below o.here
+      (omega arith))
+
+  pub fixups_ordered : Pairs FieldBefore (fixups lines a)
+  fixups_ordered = pairs_flat _ _ _ _ (numbers_ascend _ all.order)
+      (λ s i. (fixups_in s).order)
+      (λ s t i j less f g in_f in_g.
+      EarlierSegmentOf (rw (← ((fixups_in s).each f in_f).2.is, ← ((fixups_in t).each g in_g).2.is) less))
+
+  pub few_fixups : length (fixups lines a) ≤ 65535
+  unfolding sum_of
+  few_fixups =
+      let few = few_in_all (λ j. (a.segment j).id) (λ j. length (references j)) (made_before lines a) (length lines)
+      (λ k below. (given lines a c k below).few) (λ s. fixups_from lines a s 0 lines)
+      (kept lines a) all.order
+      (λ s i. omega (arith, (fixups_in s).count)) in
+      omega (arith, made_most lines a c (length lines) (omega arith))

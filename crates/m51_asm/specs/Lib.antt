@@ -25,7 +25,7 @@ pub mod Values
 pub mod ValuesAt
 pub mod NamesAt
 pub mod OpenSegments
-pub mod Filled
+pub mod SegmentTable
 pub mod GivenValues
 pub mod Operands
 pub mod Placing

@@ -1,5 +1,5 @@
 -- What names and the place of a line mean by what is kept, and the form of a JMP or CALL that follows from it.
-use Rattle.std.specs.Prelude.{◌≡◌, ℕ, Bool, false, if◌then◌else◌, List, map, Option, Some, slice_get, option_map}
+use Rattle.std.specs.Prelude.{◌≡◌, ℕ, Bool, false, if◌then◌else◌, List, Option, Some, slice_get, option_map}
 use Rattle.m51_cells.specs.Kinds.{is_absolute}
 use Rattle.m51_expr.specs.declared.located.Located.{Located}
 use Rattle.m51_expr.specs.declared.located.Origin.TheVariants as origin
@@ -7,12 +7,14 @@ use Rattle.m51_expr.specs.declared.value.Part.TheVariants.{Whole}
 use Rattle.m51_expr.specs.declared.value.Value.{Value}
 use Rattle.m51_expr.specs.Located.{located_value}
 use Rattle.m51_expr.specs.Meanings.{Meanings}
-use Rattle.m51_text.specs.Answer.{LineTree, line_tree}
+use Rattle.m51_text.specs.Answer.{LineTree}
 use Rattle.m51_asm.specs.declared.names_at.NamesAt.{NamesAt}
+use Rattle.m51_asm.specs.declared.segment_table.SegmentEntry.{SegmentEntry}
 use Rattle.m51_asm.specs.Definitions.{definition_of}
 use Rattle.m51_asm.specs.Assignment.{Assignment, is_bitaddressable, segment_reloc, here_at, above}
 use Rattle.m51_asm.specs.Fitting.{mod51, bank_before, form_by, Fits}
 use Rattle.m51_asm.specs.Repeats.{is_repeated}
+use Rattle.m51_asm.specs.SegmentTable.{entry_in}
 use Rattle.m51_asm.specs.Table.{Table, first_in, first_definition}
 use Rattle.m51_asm.specs.Values.{Valuation, value_in}
 use Rattle.m51_asm.specs.ValuesAbove.{value_above}
@@ -36,24 +38,25 @@ with_label names label = record {
 }
 
 -- what names and the place of a line mean, by the values that are kept of names and of those that SET defines
-abbrev pub kept_meanings : List LineTree → Table → Valuation → Valuation → Bool → ℕ → Located ℕ → Meanings
-kept_meanings lines table kept set mod51 bank here = record {
+abbrev pub kept_meanings : List SegmentEntry → Table → Valuation → Valuation → Bool → ℕ → Located ℕ → Meanings
+kept_meanings segments table kept set mod51 bank here = record {
   value = λ name. value_at table kept set mod51 bank name;
   here = located_value here;
-  fixed = λ id. is_absolute (segment_reloc lines id);
-  bitaddressable = λ id. is_bitaddressable (segment_reloc lines id);
+  fixed = λ id. is_absolute (entry_in segments id).reloc;
+  bitaddressable = λ id. is_bitaddressable (entry_in segments id).reloc;
 }
 
 -- what names and the place of a line mean to the code, in both passes
 abbrev pub names_at : NamesAt → Meanings
 names_at n =
     with_label
-    (kept_meanings (map line_tree n.text.lines.now) n.text.names.now n.kept.now n.set.now n.text.mod51 n.bank n.here)
+    (kept_meanings n.segments.now n.text.names.now n.kept.now n.set.now n.text.mod51 n.bank n.here)
     n.label
 
 -- what is kept is what the lines above line k give under the assignment
-pub record IsKeptOf (lines : List LineTree) (a : Assignment) (k : ℕ) (table : Table) (values : Valuation)
-    (predefines : Bool) (bank : ℕ) (here : Located ℕ) : Type 0 where
+pub record IsKeptOf (lines : List LineTree) (a : Assignment) (k : ℕ) (segments : List SegmentEntry) (table : Table)
+    (values : Valuation) (predefines : Bool) (bank : ℕ) (here : Located ℕ) : Type 0 where
+  pub types : (id : ℕ) → (entry_in segments id).reloc ≡ segment_reloc lines id
   pub names : (name : List ℕ) → first_in table name ≡ option_map first_definition (definition_of lines name)
   pub known : (name : List ℕ) → option_map located_value (value_in values name) ≡ value_above lines a k name
   pub predefined : predefines ≡ mod51 lines
@@ -64,9 +67,10 @@ pub record IsKeptOf (lines : List LineTree) (a : Assignment) (k : ℕ) (table : 
 abbrev pub KeptMeans : Type 0
 KeptMeans =
     (lines : List LineTree) (a : Assignment) → Fits lines a
-    → (k : ℕ) (table : Table) (values : Valuation) (predefines : Bool) (bank : ℕ) (here : Located ℕ)
-    → IsKeptOf lines a k table values predefines bank here
-    → kept_meanings lines table values values predefines bank here ≡ above lines a k
+    → (k : ℕ) (segments : List SegmentEntry) (table : Table) (values : Valuation) (predefines : Bool) (bank : ℕ)
+    (here : Located ℕ)
+    → IsKeptOf lines a k segments table values predefines bank here
+    → kept_meanings segments table values values predefines bank here ≡ above lines a k
 
 -- The form of a JMP or CALL of a line that repeats nothing follows from the lines above and the line's own label.
 abbrev pub FormIsTold : Type 0

@@ -1,5 +1,5 @@
 -- The segments of the module of a text and the numbers of ids, as the code makes them line by line.
-use Rattle.std.specs.Prelude.{◌≡◌, ℕ, zero, suc, ◌+◌, ◌==◌, if◌then◌else◌, List, [], ◌∷◌, map, length, slice_get}
+use Rattle.std.specs.Prelude.{◌≡◌, ℕ, zero, suc, List, [], ◌∷◌, map, length, slice_get}
 use Rattle.std.specs.Prelude.{unwrap_or, Option, Some, None}
 use Rattle.m51_module.specs.declared.segment.Segment.{Segment}
 use Rattle.m51_stmt.specs.Statement.{BodyTree, Segment as Declares}
@@ -17,11 +17,11 @@ abbrev pub segment_filled : TextSegment → ℕ → Option Segment
 segment_filled s zero = None
 segment_filled s (suc more) = Some (absolute_of s (suc more)).segment
 
--- the segment of the module that line k declares or begins, by the segment that it leaves open and the sizes of all
-abbrev pub segment_added : (ℕ → ℕ) → ℕ → TextSegment → BodyTree → Option Segment
-segment_added size k next (Declares name kind reloc overlayable) =
-    Some (relocatable (k + 2) name kind reloc overlayable (size (k + 2))).segment
-segment_added size k next body = if next.id == k + 2 then segment_filled next (size next.id) else None
+-- the segment of the module that a line declares or begins, by what is kept of its id
+abbrev pub segment_added : TextSegment → ℕ → BodyTree → Option Segment
+segment_added s size (Declares name kind reloc overlayable) =
+    Some (relocatable s.id name kind reloc overlayable size).segment
+segment_added s size body = segment_filled s size
 
 -- the segment as a list
 abbrev pub as_list : Option Segment → List Segment

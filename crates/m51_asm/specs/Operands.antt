@@ -2,7 +2,7 @@
 use Rattle.std.specs.Prelude.{◌≡◌, ℕ, Option, Some, None}
 use Rattle.m51_expr.specs.declared.value.Value.{Value}
 use Rattle.m51_expr.specs.Meanings.{Meanings}
-use Rattle.m51_stmt.specs.Statement.{BodyTree, Ds, Dbit, Org, Select}
+use Rattle.m51_stmt.specs.Statement.{BodyTree, Ds, Dbit, Org, Rseg, Select}
 use Rattle.m51_asm.specs.declared.operands.Evaluated.{Evaluated}
 use Rattle.m51_asm.specs.declared.operands.Evaluated.TheVariants as operand
 use Rattle.m51_asm.specs.Assignment.{number_or_zero}
@@ -16,6 +16,16 @@ evaluated_fault o = None
 abbrev pub number_in : Evaluated → ℕ
 number_in (operand.Number number) = number
 number_in o = 0
+
+-- the id of the segment of RSEG
+abbrev pub segment_named : Evaluated → Option ℕ
+segment_named (operand.Segment id) = Some id
+segment_named o = None
+
+-- that id, where the line is an RSEG
+abbrev pub if_rseg : Option ℕ → BodyTree → Option ℕ
+if_rseg named (Rseg name) = named
+if_rseg named body = None
 
 -- the value that the line gives its name
 abbrev pub given_in : Evaluated → Option Value

@@ -1,7 +1,7 @@
 -- The state after the lines above a line, and what follows for the line from it. The facts are those of the loop over
 -- the lines of a text, by the assignment that fits it.
 use Rattle.std.specs.Prelude.{◌≡◌, ℕ, suc, ◌+◌, ◌%◌, ◌==◌, ◌&&◌, ◌||◌, ◌≤◌, not, Bool, true, nat_lt, if◌then◌else◌}
-use Rattle.std.specs.Prelude.{List}
+use Rattle.std.specs.Prelude.{List, length}
 use Rattle.std.specs.Prelude.{Option}
 use Rattle.std.specs.Prelude.{Some, None, option_map, is_some}
 use Rattle.m51_cells.specs.declared.fault.TheConstants.{BAD_FORM, PAST_THE_END, TOO_MANY}
@@ -13,16 +13,21 @@ use Rattle.m51_expr.specs.declared.value.Part.TheVariants.{Whole}
 use Rattle.m51_expr.specs.declared.value.Value.{Value}
 use Rattle.m51_expr.specs.Meanings.{Meanings}
 use Rattle.m51_isa.specs.declared.generics.Jump.{Jump}
+use Rattle.m51_isa.specs.declared.instr.Instr.{Instr}
+use Rattle.m51_isa.specs.Table.{decoded}
+use Rattle.m51_emit.specs.Lines.{row_by}
 use Rattle.m51_stmt.specs.Statement.{BodyTree, Segment}
 use Rattle.m51_text.specs.Answer.{LineTree}
 use Rattle.m51_asm.specs.declared.placing.PassOneState.{PassOneState}
 use Rattle.m51_asm.specs.declared.counts.Counts.{Counts}
+use Rattle.m51_asm.specs.declared.segment_table.SegmentEntry.{SegmentEntry}
+use Rattle.m51_asm.specs.declared.segments.SegmentsAbove.{SegmentsAbove}
 use Rattle.m51_asm.specs.declared.stepping.LinePlace.{LinePlace}
 use Rattle.m51_asm.specs.declared.stepping.LineOutcome.{LineOutcome}
 use Rattle.m51_asm.specs.declared.stepping.LineOutcome.TheVariants as outcome
 use Rattle.m51_asm.specs.declared.told.LineFacts.{LineFacts}
 use Rattle.m51_asm.specs.Definitions.{definition_of}
-use Rattle.m51_asm.specs.Assignment.{TextSegment, Assignment, body_at, here_at, above}
+use Rattle.m51_asm.specs.Assignment.{TextSegment, Assignment, body_at, segment_reloc, here_at, above}
 use Rattle.m51_asm.specs.Fitting.{last_absolute, size_at, size_by, filled, bank_by, bank_before, externals_before}
 use Rattle.m51_asm.specs.Fitting.{given_to, externals_in}
 use Rattle.m51_asm.specs.PlacedFaults.{kind_end, segments_before, operand_fault, placed_fault}
@@ -30,9 +35,9 @@ use Rattle.m51_asm.specs.Table.{Table, first_in, first_definition}
 use Rattle.m51_asm.specs.ValuesAbove.{value_above}
 use Rattle.m51_expr.specs.Located.{located_value}
 use Rattle.m51_asm.specs.Values.{value_in}
-use Rattle.m51_asm.specs.OpenSegments.{text_segment, last_in, open_behind}
+use Rattle.m51_asm.specs.OpenSegments.{text_segment, last_id, open_behind}
 use Rattle.m51_asm.specs.LineFaults.{operand_fault_by}
-use Rattle.m51_asm.specs.Filled.{size_in, saturated}
+use Rattle.m51_asm.specs.SegmentTable.{HasDeclared, entry_in, segment_in, size_in, saturated}
 use Rattle.m51_asm.specs.GivenValues.{expression_given}
 use Rattle.m51_asm.specs.Operands.{operand_number, IsOperand}
 
@@ -40,14 +45,27 @@ use Rattle.m51_asm.specs.Operands.{operand_number, IsOperand}
 abbrev pub IsTableOf : List LineTree → Table → Type 0
 IsTableOf lines table = (name : List ℕ) → first_in table name ≡ option_map first_definition (definition_of lines name)
 
+-- the table has the segments down to line k, and what the lines above it give to each
+pub record IsSegmentTableAt (lines : List LineTree) (a : Assignment) (k : ℕ) (entries : List SegmentEntry)
+    : Type 0 where
+  pub counted : length entries ≡ length lines + 2
+  pub sizes : (id : ℕ) → size_in entries id ≡ filled lines a id k
+  pub types : (id : ℕ) → (entry_in entries id).reloc ≡ segment_reloc lines id
+  pub declared : HasDeclared lines entries
+  pub begun : (j : ℕ) → j ≤ k → segment_in entries (a.segment j).id ≡ a.segment j
+
+-- what is kept of segments is what the lines above line k make of them
+pub record AreSegmentsAt (lines : List LineTree) (a : Assignment) (k : ℕ) (s : SegmentsAbove) : Type 0 where
+  pub table : IsSegmentTableAt lines a k s.table
+  pub current : s.current ≡ (a.segment k).id
+  pub latest : (kind : Kind) → last_id s.last kind ≡ option_map (λ t. t.id) (last_absolute a.segment kind k)
+
 -- what is kept is what the lines above line k give
 pub record IsAt (lines : List LineTree) (a : Assignment) (k : ℕ) (s : PassOneState) : Type 0 where
   pub known : (name : List ℕ) → option_map located_value (value_in s.values name) ≡ value_above lines a k name
-  pub sizes : (id : ℕ) → size_in s.filled id ≡ filled lines a id k
-  pub segment : text_segment s.segment ≡ a.segment k
-  pub latest : (kind : Kind) → last_in s.last kind ≡ last_absolute a.segment kind k
+  pub segments : AreSegmentsAt lines a k s.segments
   pub selected : s.bank ≡ bank_before lines a k
-  pub numbered : s.segments ≡ segments_before lines a k
+  pub numbered : s.numbered ≡ segments_before lines a k
   pub declared : s.externals ≡ externals_before lines k
 
 -- the place of a statement, as a value, from the size of its segment before it
@@ -59,21 +77,26 @@ here_of s before = record {
   part = Whole;
 }
 
+-- a row as it is kept, by its bytes
+abbrev pub row_of_code : Option (List ℕ) → Option Instr
+row_of_code (Some bytes) = decoded bytes
+row_of_code None = None
+
 -- these follow for line k from what names mean, its form, the last absolute segments, the segment that its RSEG names,
 -- its own segment, and what it says
 pub record AreFactsFrom (k : ℕ) (names : Meanings) (form : Jump) (last : Kind → Option TextSegment)
     (named : Option TextSegment) (segment : TextSegment) (body : BodyTree) (t : LineFacts) : Type 0 where
   pub here : located_value t.here ≡ names.here
-  pub form_is : t.form ≡ form
+  pub row : row_of_code t.code ≡ row_by form body
   pub size : t.size ≡ saturated (size_by names form body)
   pub next : text_segment t.next ≡ open_behind k names last named segment body
   pub operand : IsOperand (operand_fault_by names (is_some named) body) (operand_number names body)
       (expression_given names body) (λ bank. bank_by names bank body) t.operand
 
--- these are the place, the form and the size of line k, the segment that it leaves open, and its operand
+-- these are the place, the row and the size of line k, the segment that it leaves open, and its operand
 pub record AreLineFacts (lines : List LineTree) (a : Assignment) (k : ℕ) (t : LineFacts) : Type 0 where
   pub here : located_value t.here ≡ here_at a k
-  pub form : t.form ≡ a.form k
+  pub row : row_of_code t.code ≡ row_by (a.form k) (body_at lines k)
   pub size : t.size ≡ saturated (size_at lines a k)
   pub next : text_segment t.next ≡ a.segment (suc k)
   pub operand : IsOperand (operand_fault lines (above lines a k) k (body_at lines k))
@@ -122,13 +145,12 @@ fault_by past misplaced many operand =
     else if many then Some TOO_MANY
     else operand
 
--- the place of line k: its segment, the one that it leaves open, the size of its own before it, its form, the banks
--- before and after it, and the value of its expression where that defines a name
+-- the place of line k: its segment, the size of that before it, its row, the banks before and after it, and the value
+-- of its expression where that defines a name
 pub record IsPlaceOf (lines : List LineTree) (a : Assignment) (k : ℕ) (p : LinePlace) : Type 0 where
-  pub segment : text_segment p.segment ≡ a.segment k
-  pub next : text_segment p.next ≡ a.segment (suc k)
+  pub segment : p.segment ≡ (a.segment k).id
   pub offset : p.offset ≡ filled lines a (a.segment k).id k
-  pub form : p.form ≡ a.form k
+  pub row : row_of_code p.code ≡ row_by (a.form k) (body_at lines k)
   pub bank : p.bank ≡ bank_before lines a k
   pub selected : p.selected ≡ bank_before lines a (suc k)
   pub given : option_map located_value p.given ≡ expression_given (above lines a k) (body_at lines k)

@@ -1,11 +1,9 @@
 -- What PUBLIC makes of names, by what is kept for pass 2.
-use Rattle.std.specs.Prelude.{ℕ, suc, List, [], ◌∷◌, map, option_map, slice_get, Option, Some, None, Ok, Err}
+use Rattle.std.specs.Prelude.{ℕ, List, [], ◌∷◌, option_map, Option, Some, None, Ok, Err}
 use Rattle.m51_cells.specs.declared.kind.Base.{Base}
 use Rattle.m51_cells.specs.declared.kind.Base.TheVariants as base
 use Rattle.m51_module.specs.declared.symbol.Public.{Public}
 use Rattle.m51_expr.specs.declared.value.Value.{Value}
-use Rattle.m51_stmt.specs.Statement.{BodyTree, Segment as Declares}
-use Rattle.m51_text.specs.Answer.{LineTree, line_tree}
 use Rattle.m51_emit.specs.declared.publics.Definer.{Definer}
 use Rattle.m51_emit.specs.declared.publics.Definer.TheVariants as by
 use Rattle.m51_emit.specs.Outcomes.{or_next}
@@ -14,14 +12,12 @@ use Rattle.m51_asm.specs.declared.definitions.How.{How}
 use Rattle.m51_asm.specs.declared.definitions.How.TheVariants as how
 use Rattle.m51_asm.specs.declared.names.FirstDefinition.{FirstDefinition}
 use Rattle.m51_asm.specs.declared.object_names.ObjectNames.{ObjectNames}
-use Rattle.m51_asm.specs.declared.object_names.PlacedText.{PlacedText}
-use Rattle.m51_asm.specs.declared.stepping.LinePlace.{LinePlace}
-use Rattle.m51_asm.specs.Assignment.{TextSegment, opening, body_at}
+use Rattle.m51_asm.specs.Assignment.{TextSegment, opening}
 use Rattle.m51_asm.specs.ObjectMeanings.{object_value}
-use Rattle.m51_asm.specs.OpenSegments.{text_segment}
 use Rattle.m51_asm.specs.Table.{first_in}
 use Rattle.m51_asm.specs.Numbering.{number_at}
 use Rattle.m51_asm.specs.NamesAt.{names_at}
+use Rattle.m51_asm.specs.SegmentTable.{segment_in}
 
 abbrev pub definer_how : How → Definer
 definer_how (how.Segment kind) = by.Segment
@@ -34,21 +30,6 @@ abbrev pub definer_of : Option FirstDefinition → Definer
 definer_of (Some first) = definer_how first.how
 definer_of None = by.Other
 
--- the segment of the id that a line declares, or else the one that is open after it
-abbrev pub declared_as : ℕ → TextSegment → BodyTree → TextSegment
-declared_as id after (Declares name kind reloc overlayable) = record { id = id; kind = kind; reloc = reloc; base = 0 }
-declared_as id after body = after
-
-abbrev pub next_of : TextSegment → Option LinePlace → TextSegment
-next_of end (Some place) = text_segment place.next
-next_of end None = end
-
--- the segment of an id, where these are the places of the lines, and this one is open after the last
-abbrev pub segment_by_id : List LineTree → List LinePlace → TextSegment → ℕ → TextSegment
-segment_by_id lines places end (suc (suc k)) =
-    declared_as (suc (suc k)) (next_of end (slice_get places k)) (body_at lines k)
-segment_by_id lines places end id = opening
-
 abbrev pub counted_from : (ℕ → TextSegment) → Base → TextSegment
 counted_from segments (base.Segment id) = segments id
 counted_from segments b = opening
@@ -58,19 +39,15 @@ abbrev pub counted_by : (ℕ → TextSegment) → Option Value → TextSegment
 counted_by segments (Some v) = counted_from segments v.base
 counted_by segments None = opening
 
--- the segments of a text by their ids
-abbrev pub segment_in : PlacedText → ℕ → TextSegment
-segment_in t id = segment_by_id (map line_tree t.text.lines.now) t.places.now (text_segment t.end.now.segment) id
-
 -- what a name becomes, whose value counts from this segment
 abbrev pub published_from : List ℕ → Definer → TextSegment → Option Value → Published
 published_from name definer s value = public_by name definer s.kind s.base value
 
 -- what a name of PUBLIC becomes
-abbrev pub published_by : PlacedText → ObjectNames → List ℕ → Published
-published_by t n name =
-    published_from name (definer_of (first_in t.text.names.now name))
-    (counted_by (segment_in t) ((names_at n.names).value name))
+abbrev pub published_by : ObjectNames → List ℕ → Published
+published_by n name =
+    published_from name (definer_of (first_in n.names.text.names.now name))
+    (counted_by (segment_in n.names.segments.now) ((names_at n.names).value name))
     (option_map (object_value (number_at n.numbering.now.numbers)) ((names_at n.names).value name))
 
 -- the publics of these names

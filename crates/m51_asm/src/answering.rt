@@ -91,7 +91,7 @@ pub(crate) fn answer_placed(
         IsAnswerOf file.now (Lines (map line_tree named.now.lines.now)) (tree_of assembled)) }
 {
     let lines = named.lines;
-    let numbering = number_segments(alloc, lines, places, end)?;
+    let numbering = number_segments(alloc, lines, &end.segments.table)?;
     let text = PlacedText {
         text: *named,
         places,

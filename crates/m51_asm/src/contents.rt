@@ -1,7 +1,7 @@
 //! Pass 2 over the lines of a text: what each gives, and the faults of their content.
 ghost use Rattle.std.specs.Prelude.{◌≡◌, ◌++◌, ℕ, suc, Some, List, [], length, map, slice_get, OnOk, IfOk};
 ghost use Rattle.m51_text.specs.Answer.{LineTree, line_tree};
-ghost use Rattle.m51_asm.specs.Assignment.{Assignment};
+ghost use Rattle.m51_asm.specs.Assignment.{Assignment, here_at};
 ghost use Rattle.m51_asm.specs.ContentFaults.{if_fault};
 ghost use Rattle.m51_asm.specs.Fitting.{Fits};
 ghost use Rattle.m51_asm.specs.Placing.{IsPlaceOf};
@@ -12,6 +12,7 @@ ghost use Rattle.m51_asm.specs.Contents.{nothing_given, IsGivenTo};
 ghost use Rattle.m51_asm.specs.Gathering.{IsText, gathered_before};
 
 use crate::gathering::{gather_line, nothing_gathered};
+use crate::instruction_rows::row_of_code;
 use crate::names_at::NamesAt;
 use crate::object_names::{ObjectNames, PlacedText};
 use crate::outcome::fault_of_line;
@@ -19,7 +20,6 @@ use crate::placing::here_of;
 use crate::publishing::{or_next, publish};
 use crate::repeats::publics_in;
 use crate::setting::take_set;
-use crate::sizes::row_by;
 use crate::stepping::LinePlace;
 use crate::valuation::Values;
 use m51_cells::{ListOf, NoMemory};
@@ -58,13 +58,12 @@ fn push_fault(faults: &mut Faults, line: &Line, fault: Option<u8>) -> Result<(),
     Ok(())
 }
 
-// The row of a line.
-fn row_at(line: &Line, place: &LinePlace, content: &EmittedContent) -> Row
-    ensures { (lines : List LineTree) (a : Assignment) (k : ℕ) → Fits lines a → IsPlaceOf lines a k place.now
+// The row of a line, by the number of its place.
+fn row_at(line: &Line, here: u16, content: &EmittedContent) -> Row
+    ensures { (a : Assignment) (k : ℕ) → here ≡ (here_at a k).number
         → result ≡ listing_row (line_tree line.now) (place_of a k (line_tree line.now)) content.now }
 {
-    let here = here_of(place.segment, place.offset);
-    let at = place_of(&line.stmt, u64::from(here.number));
+    let at = place_of(&line.stmt, u64::from(here));
     row_of(line.file, line.line, at, content)
 }
 
@@ -95,9 +94,11 @@ fn give_line(
         → (content ≡ content_at lines a k) × IsGivenTo lines a (suc k) contents.new) }
     ensures faults { OnOk result (contents.new.faults ≡ [] → contents.old.faults ≡ []) }
 {
-    let here = here_of(place.segment, place.offset);
+    let segments = &text.end.segments.table;
+    let here = here_of(segments.segment(place.segment), place.offset);
     let names_at = NamesAt {
         text: text.text,
+        segments,
         kept: &text.end.values,
         set: &contents.set,
         bank: place.bank,
@@ -109,12 +110,14 @@ fn give_line(
         numbering: text.numbering,
     };
     let body = &line.stmt.body;
-    let row = row_by(place.form, body);
+    let row = row_of_code(place.code);
     let told = line_content(alloc, &names, row, body, contents.made)?;
-    let unpublished = publish(text, &names, &mut contents.publics, publics_in(body))?;
+    let unpublished = publish(&names, &mut contents.publics, publics_in(body))?;
     contents.made = told.made;
     push_fault(&mut contents.faults, line, or_next(told.fault, unpublished))?;
-    contents.rows.push(row_at(line, place, &told.content))?;
+    contents
+        .rows
+        .push(row_at(line, here.number, &told.content))?;
     take_set(alloc, &mut contents.set, line, place)?;
     Ok(told.content)
 }

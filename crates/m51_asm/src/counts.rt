@@ -5,10 +5,10 @@ ghost use Rattle.m51_stmt.specs.Statement.{body_tree};
 ghost use Rattle.m51_asm.specs.Fitting.{given_to, externals_in};
 ghost use Rattle.m51_asm.specs.PlacedFaults.{kind_end, is_misplaced};
 ghost use Rattle.m51_asm.specs.OpenSegments.{text_segment};
-ghost use Rattle.m51_asm.specs.Filled.{size_in};
+ghost use Rattle.m51_asm.specs.SegmentTable.{size_in};
 ghost use Rattle.m51_asm.specs.Placing.{numbers_one, AreCounts, exceeds_end, are_too_many, fault_by};
 
-use crate::filled::Filled;
+use crate::placing::PassOneState;
 use crate::segments::OpenSegment;
 use m51_cells::{
     BAD_FORM, Kind, MOST_EXTERNALS, MOST_MODULE_SEGMENTS, PAST_THE_END, TOO_MANY, is_absolute,
@@ -67,25 +67,24 @@ fn externals_in(body: &Body) -> u64
     }
 }
 
-/// The counts after a line of this size, from the counts of segments and externals above it. A sum past 64 bits, which
-/// is a fault in any case, counts as the greatest number of 64 bits.
+/// The counts after a line of this segment and size that leaves `next` open, from the state above it. A sum past 64
+/// bits, which is a fault in any case, counts as the greatest number of 64 bits.
 pub(crate) fn count(
-    filled: &Filled,
-    segments: u8,
-    externals: u8,
+    above: &PassOneState,
     segment: OpenSegment,
     next: OpenSegment,
     size: u64,
     body: &Body,
 ) -> Counts
-    ensures { AreCounts (size_in filled.now) segments externals (text_segment segment) (text_segment next) size
-        (body_tree body.now) result }
+    ensures { AreCounts (size_in above.now.segments.table) above.now.numbered above.now.externals (text_segment segment)
+        (text_segment next) size (body_tree body.now) result }
 {
-    let one = one_if(numbers_one(segment, filled.of(segment.id), size, body));
+    let table = &above.segments.table;
+    let one = one_if(numbers_one(segment, table.size(segment.id), size, body));
     Counts {
-        next: u64::from(filled.of(next.id)).saturating_add(given_to(next.id, segment, size)),
-        segments: u64::from(segments) + u64::from(one),
-        externals: u64::from(externals).saturating_add(externals_in(body)),
+        next: u64::from(table.size(next.id)).saturating_add(given_to(next.id, segment, size)),
+        segments: u64::from(above.numbered) + u64::from(one),
+        externals: u64::from(above.externals).saturating_add(externals_in(body)),
     }
 }
 

@@ -63,13 +63,13 @@ pub(crate) fn gather_line(
     requires inside { LieInside (length content.now.bytes) content.now.references }
     ensures { OnOk result (is_clean ≡ true → gathered.new.items
         ≡ changed_element (λ g. with_line text.now.numbering.now.segments g (place.now.offset, content.now))
-        (number_at text.now.numbering.now.numbers place.now.segment.id) gathered.old.items) }
+        (number_at text.now.numbering.now.numbers place.now.segment) gathered.old.items) }
 {
     if !is_clean {
         return Ok(());
     }
     let segments = text.numbering.segments.as_slice();
-    let number = number_at(text.numbering.numbers.as_slice(), place.segment.id);
+    let number = number_at(text.numbering.numbers.as_slice(), place.segment);
     let at = place.offset as usize;
     add_line(alloc, gathered, segments, number, at, content)
 }

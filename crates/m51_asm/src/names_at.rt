@@ -9,7 +9,8 @@ ghost use Rattle.m51_asm.specs.Values.{value_in};
 ghost use Rattle.m51_asm.specs.ValuesAt.{is_label, value_at};
 
 use crate::names::{FirstDefinition, TextNames, sets};
-use crate::segments::{is_bitaddressable, segment_reloc};
+use crate::segment_table::SegmentTable;
+use crate::segments::is_bitaddressable;
 use crate::valuation::Values;
 use m51_cells::{Name, is_absolute};
 use m51_expr::{Located, Origin, Part, Places, Value};
@@ -28,6 +29,7 @@ pub(crate) struct NamedText<'a> {
 #[derive(Clone, Copy)]
 pub(crate) struct NamesAt<'a> {
     pub(crate) text: NamedText<'a>,
+    pub(crate) segments: &'a SegmentTable,
     /// The values of the names that SET does not define.
     pub(crate) kept: &'a Values,
     /// The values of those that it defines.
@@ -132,10 +134,10 @@ impl<'a> Places<u32> for NamesAt<'a> {
     }
 
     fn fixed(&self, id: u32) -> bool {
-        is_absolute(segment_reloc(self.text.lines, id))
+        is_absolute(self.segments.reloc(id))
     }
 
     fn bitaddressable(&self, id: u32) -> bool {
-        is_bitaddressable(segment_reloc(self.text.lines, id))
+        is_bitaddressable(self.segments.reloc(id))
     }
 }

@@ -1,21 +1,18 @@
 //! The segments of the module of a text, and their numbers.
-ghost use Rattle.std.specs.Prelude.{◌≡◌, ◌<◌, ◌+◌, ◌==◌, ◌++◌, ◌∷◌, [], None, if◌then◌else◌};
-ghost use Rattle.std.specs.Prelude.{◌≤◌, length, map, IfOk, OnOk};
+ghost use Rattle.std.specs.Prelude.{◌≡◌, ◌+◌, ◌++◌, ◌∷◌, [], ◌≤◌, length, map, IfOk, OnOk};
 ghost use Rattle.m51_stmt.specs.Statement.{body_tree};
 ghost use Rattle.m51_text.specs.Answer.{line_tree};
 ghost use Rattle.m51_asm.specs.Assignment.{Assignment};
 ghost use Rattle.m51_asm.specs.Fitting.{Fits};
 ghost use Rattle.m51_asm.specs.ObjectSegments.{relocatable, absolute_of};
 ghost use Rattle.m51_asm.specs.OpenSegments.{text_segment};
-ghost use Rattle.m51_asm.specs.Filled.{size_in};
+ghost use Rattle.m51_asm.specs.FirstFault.{AreFree};
 ghost use Rattle.m51_asm.specs.Gathering.{IsText};
-ghost use Rattle.m51_asm.specs.Passing.{IsPlaced};
+ghost use Rattle.m51_asm.specs.Placing.{IsSegmentTableAt};
 ghost use Rattle.m51_asm.specs.Numbering.{number_at, segment_filled, segment_added, as_list, next_number, IsNumbering};
 
-use crate::filled::Filled;
-use crate::placing::PassOneState;
+use crate::segment_table::SegmentTable;
 use crate::segments::{OPENING, OpenSegment};
-use crate::stepping::LinePlace;
 use m51_cells::{Bytes, Kind, ListOf, Name, NoMemory, Reloc, same_kind};
 use m51_module::{Segment, Segments, is_argument_name};
 use m51_stmt::Body;
@@ -81,29 +78,15 @@ fn segment_filled(segment: OpenSegment, size: u16) -> Option<Segment>
     }
 }
 
-// The segment that line k begins, if it is absolute and has a byte or a bit.
-fn segment_begun(filled: &Filled, k: usize, next: OpenSegment) -> Option<Segment>
-    requires { k < 65536 }
-    ensures { result
-        ≡ (if next.id == k + 2 then segment_filled (text_segment next) (size_in filled.now next.id) else None) }
-{
-    if next.id == k as u32 + 2 {
-        segment_filled(next, filled.of(next.id))
-    } else {
-        None
-    }
-}
-
-// The segment of the module that line k declares or begins.
-fn segment_added(filled: &Filled, k: usize, next: OpenSegment, body: &Body) -> Option<Segment>
-    requires { k < 65536 }
-    ensures { result ≡ segment_added (size_in filled.now) k (text_segment next) (body_tree body.now) }
+// The segment of the module that a line declares or begins, by what is kept of its id.
+fn segment_added(segment: OpenSegment, size: u16, body: &Body) -> Option<Segment>
+    ensures { result ≡ segment_added (text_segment segment) size (body_tree body.now) }
 {
     match body {
         Body::Segment(name, kind, reloc, overlay) => {
-            Some(relocatable(name, *kind, *reloc, *overlay, filled.of(k as u32 + 2)))
+            Some(relocatable(name, *kind, *reloc, *overlay, size))
         }
-        _ => segment_begun(filled, k, next),
+        _ => segment_filled(segment, size),
     }
 }
 
@@ -131,25 +114,25 @@ fn add(
 pub(crate) fn number_segments(
     alloc: Global,
     lines: &[Line],
-    places: &[LinePlace],
-    end: &PassOneState,
+    table: &SegmentTable,
 ) -> Result<Numbering, NoMemory>
     requires text { IsText (map line_tree lines.now) }
     requires few { length lines.now ≤ 65536 }
-    requires counted { length places.now ≡ length lines.now }
-    requires placed { (a : Assignment) → Fits (map line_tree lines.now) a
-        → IsPlaced (map line_tree lines.now) a places.now end.now }
+    requires free { let lines = map line_tree lines.now in
+        (a : Assignment) → Fits lines a → AreFree lines a (length lines) }
+    requires table { let lines = map line_tree lines.now in
+        (a : Assignment) → Fits lines a → IsSegmentTableAt lines a (length lines) table.now }
     ensures { IfOk result (λ n. (a : Assignment) → Fits (map line_tree lines.now) a
         → IsNumbering (map line_tree lines.now) a n) }
 {
-    let filled = &end.filled;
     let mut segments = ListOf::new(alloc);
     let mut numbers = ListOf::new(alloc);
     numbers.push(0)?;
-    let first = segment_filled(OPENING, filled.of(OPENING.id));
+    let first = segment_filled(OPENING, table.size(OPENING.id));
     add(&mut segments, &mut numbers, first)?;
     for (k, line) in lines.iter().enumerate() {
-        let added = segment_added(filled, k, places[k].next, &line.stmt.body);
+        let id = k as u32 + 2;
+        let added = segment_added(table.segment(id), table.size(id), &line.stmt.body);
         add(&mut segments, &mut numbers, added)?;
     }
     Ok(Numbering { segments, numbers })

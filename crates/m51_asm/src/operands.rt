@@ -1,5 +1,5 @@
 //! The operands of directives, which must use names defined above: each is evaluated once.
-ghost use Rattle.std.specs.Prelude.{◌≡◌, ℕ, ◌&&◌, ◌||◌, nat_lt, None, unwrap_or, option_map};
+ghost use Rattle.std.specs.Prelude.{◌≡◌, ℕ, ◌&&◌, ◌||◌, nat_lt, None, is_some, unwrap_or, option_map};
 ghost use Rattle.m51_cells.specs.Kinds.{same_kind};
 ghost use Rattle.m51_expr.specs.Tree.{tree_of};
 ghost use Rattle.m51_expr.specs.Evaluation.{value_of};
@@ -10,7 +10,8 @@ ghost use Rattle.m51_asm.specs.PlacedFaults.{is_short, is_address, fault_in, add
 ghost use Rattle.m51_asm.specs.GivenValues.{expression_given};
 ghost use Rattle.m51_expr.specs.Located.{origin_base, located_value, located};
 ghost use Rattle.m51_asm.specs.LineFaults.{has_class, segment_fault_by, operand_fault_by};
-ghost use Rattle.m51_asm.specs.Operands.{evaluated_fault, number_in, given_in, bank_in, operand_number, IsOperand};
+ghost use Rattle.m51_asm.specs.Operands.{evaluated_fault, number_in, segment_named, given_in, bank_in, if_rseg};
+ghost use Rattle.m51_asm.specs.Operands.{operand_number, IsOperand};
 
 use crate::counting::numbered;
 use m51_cells::{Kind, OUT_OF_RANGE, UNKNOWN_NAME, same_kind};
@@ -20,7 +21,7 @@ use m51_stmt::Body;
 /// What the operand of a directive is, by the names defined above its line.
 #[derive(Clone, Copy)]
 pub(crate) enum Evaluated {
-    /// The line has no operand that must use names defined above, or its RSEG names a segment.
+    /// The line has no operand that must use names defined above.
     None,
     /// What EQU, SET or an address statement gives its name.
     Value(Located<u32>),
@@ -28,6 +29,8 @@ pub(crate) enum Evaluated {
     Number(u16),
     /// The bank of USING.
     Bank(u8),
+    /// The segment of RSEG, by its id.
+    Segment(u32),
     /// The operand has a fault of this number.
     Fault(u8),
 }
@@ -50,6 +53,16 @@ impl Evaluated {
         match self {
             Evaluated::Number(number) => number,
             _ => 0,
+        }
+    }
+
+    /// The id of the segment of RSEG.
+    pub(crate) fn segment(self) -> Option<u32>
+        ensures { result ≡ segment_named self }
+    {
+        match self {
+            Evaluated::Segment(id) => Some(id),
+            _ => None,
         }
     }
 
@@ -108,7 +121,8 @@ fn is_address<P: Places<u32>>(names: &P, kind: Kind, value: Located<u32>) -> boo
 }
 
 fn value_operand(value: Result<Located<u32>, ExprError>) -> Evaluated
-    ensures { IsOperand (fault_in (located value)) 0 (value_or_none (located value)) (λ bank. bank) result }
+    ensures segment { segment_named result ≡ None }
+    ensures operand { IsOperand (fault_in (located value)) 0 (value_or_none (located value)) (λ bank. bank) result }
 {
     match value {
         Ok(value) => Evaluated::Value(value),
@@ -132,7 +146,8 @@ fn address_operand<P: Places<u32>>(
     kind: Kind,
     value: Result<Located<u32>, ExprError>,
 ) -> Evaluated
-    ensures { IsOperand (address_fault (P.meanings names.now) kind (located value)) 0
+    ensures segment { segment_named result ≡ None }
+    ensures operand { IsOperand (address_fault (P.meanings names.now) kind (located value)) 0
         (option_map (with_class kind) (value_or_none (located value))) (λ bank. bank) result }
 {
     match value {
@@ -148,7 +163,8 @@ fn address_operand<P: Places<u32>>(
 }
 
 fn number_operand(number: Result<u16, ExprError>) -> Evaluated
-    ensures { IsOperand (fault_in number) (unwrap_or (value_or_none number) 0) None (λ bank. bank) result }
+    ensures segment { segment_named result ≡ None }
+    ensures operand { IsOperand (fault_in number) (unwrap_or (value_or_none number) 0) None (λ bank. bank) result }
 {
     match number {
         Ok(number) => Evaluated::Number(number),
@@ -157,7 +173,8 @@ fn number_operand(number: Result<u16, ExprError>) -> Evaluated
 }
 
 fn bank_operand(number: Result<u16, ExprError>) -> Evaluated
-    ensures { IsOperand (bank_fault number) 0 None (λ bank. unwrap_or (value_or_none number) 0) result }
+    ensures segment { segment_named result ≡ None }
+    ensures operand { IsOperand (bank_fault number) 0 None (λ bank. unwrap_or (value_or_none number) 0) result }
 {
     match number {
         Ok(bank) => {
@@ -171,28 +188,28 @@ fn bank_operand(number: Result<u16, ExprError>) -> Evaluated
     }
 }
 
-// The operand of an RSEG, by whether its name is a segment declared above and whether it has a value there.
-fn segment_operand(is_segment: bool, has_value: bool) -> Evaluated
-    ensures { IsOperand (segment_fault_by is_segment has_value) 0 None (λ bank. bank) result }
+// The operand of an RSEG, by the segment that its name is above and whether it has a value there.
+fn segment_operand(named: Option<u32>, has_value: bool) -> Evaluated
+    ensures operand { IsOperand (segment_fault_by (is_some named) has_value) 0 None (λ bank. bank) result }
+    ensures segment { segment_named result ≡ named }
 {
-    if is_segment {
-        Evaluated::None
-    } else if has_value {
-        Evaluated::Fault(OUT_OF_RANGE)
-    } else {
-        Evaluated::Fault(UNKNOWN_NAME)
+    match named {
+        Some(id) => Evaluated::Segment(id),
+        None if has_value => Evaluated::Fault(OUT_OF_RANGE),
+        None => Evaluated::Fault(UNKNOWN_NAME),
     }
 }
 
-/// The operand of a line that must use names defined above. Whether the name of an RSEG is a segment that is declared
-/// above is an argument.
+/// The operand of a line that must use names defined above. The segment that an RSEG names, if it is declared above, is
+/// an argument.
 pub(crate) fn evaluate_operand<P: Places<u32>>(
     names: &P,
-    is_segment: bool,
+    named: Option<u32>,
     body: &Body,
 ) -> Evaluated
-    ensures { IsOperand
-        (operand_fault_by (P.meanings names.now) is_segment (body_tree body.now))
+    ensures segment { segment_named result ≡ if_rseg named (body_tree body.now) }
+    ensures operand { IsOperand
+        (operand_fault_by (P.meanings names.now) (is_some named) (body_tree body.now))
         (operand_number (P.meanings names.now) (body_tree body.now))
         (expression_given (P.meanings names.now) (body_tree body.now))
         (λ bank. bank_by (P.meanings names.now) bank (body_tree body.now)) result }
@@ -203,7 +220,7 @@ pub(crate) fn evaluate_operand<P: Places<u32>>(
         Body::Ds(e) | Body::Dbit(e) | Body::Org(e) => number_operand(numbered(names, e)),
         Body::Select(_, Some(e)) => number_operand(numbered(names, e)),
         Body::Using(e) => bank_operand(numbered(names, e)),
-        Body::Rseg(name) => segment_operand(is_segment, names.value(name).is_some()),
+        Body::Rseg(name) => segment_operand(named, names.value(name).is_some()),
         _ => Evaluated::None,
     }
 }

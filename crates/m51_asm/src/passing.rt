@@ -47,7 +47,7 @@ pub(crate) fn place_lines(
 {
     let lines = text.lines;
     let mut places = ListOf::of(Vec::with_capacity(alloc, lines.len())?);
-    let mut placing = PassOneState::start(alloc);
+    let mut placing = PassOneState::start(alloc, lines)?;
     for (k, line) in lines.iter().enumerate() {
         if is_reached(repeated, k) {
             return Ok(Passed::Fault(k, DEFINED_TWICE));

@@ -1,5 +1,5 @@
 //! What is kept of the lines above a line, and how it grows with the line.
-ghost use Rattle.std.specs.Prelude.{◌≡◌, ◌<◌, ◌≤◌, ◌+◌, ℕ, suc, None, Some, List, false, map, slice_get, OnOk};
+ghost use Rattle.std.specs.Prelude.{◌≡◌, ◌<◌, ◌≤◌, ◌+◌, ℕ, suc, None, Some, List, false, map, slice_get, OnOk, IfOk};
 ghost use Rattle.m51_stmt.specs.Statement.{body_tree};
 ghost use Rattle.m51_text.specs.Answer.{LineTree, line_tree};
 ghost use Rattle.m51_asm.specs.Assignment.{Assignment, body_at};
@@ -12,11 +12,10 @@ ghost use Rattle.m51_asm.specs.PlacedFaults.{placed_fault};
 
 use crate::counts::Counts;
 use crate::definitions::definitions_in;
-use crate::filled::Filled;
 use crate::forms::form_of;
 use crate::giving::{Giving, take_in};
 use crate::names_at::{NamedText, NamesAt};
-use crate::segments::{LastAbsolute, OPENING, OpenSegment};
+use crate::segments::{OpenSegment, SegmentsAbove};
 use crate::told::{LineFacts, named_by, tell};
 use crate::valuation::Values;
 use m51_cells::NoMemory;
@@ -29,16 +28,11 @@ use std::alloc::Global;
 pub(crate) struct PassOneState {
     /// The values that they give to names.
     pub(crate) values: Values,
-    /// The sizes of the segments.
-    pub(crate) filled: Filled,
-    /// The segment of the line.
-    pub(crate) segment: OpenSegment,
-    /// The last absolute segment of each kind, down to the line.
-    pub(crate) last: LastAbsolute,
+    pub(crate) segments: SegmentsAbove,
     /// The bank of the last USING.
     pub(crate) bank: u8,
     /// How many segments have a number.
-    pub(crate) segments: u8,
+    pub(crate) numbered: u8,
     /// How many externals are declared.
     pub(crate) externals: u8,
 }
@@ -71,9 +65,11 @@ pub(crate) fn told_of(
         → IsAt (map line_tree text.now.lines.now) a k placing.now
         → AreLineFacts (map line_tree text.now.lines.now) a k result }
 {
-    let here = here_of(placing.segment, placing.filled.of(placing.segment.id));
+    let segments = &placing.segments;
+    let here = here_of(segments.current(), segments.table.size(segments.current));
     let names = NamesAt {
         text: *text,
+        segments: &segments.table,
         kept: &placing.values,
         set: &placing.values,
         bank: placing.bank,
@@ -86,28 +82,23 @@ pub(crate) fn told_of(
     };
     let body = &line.stmt.body;
     let form = form_of(&labelled, body);
-    let named = named_by(text.lines, text.names, k, body);
-    let segment = placing.segment;
-    tell(k, &names, form, &placing.last, named, segment, body)
+    let named = named_by(text.names, k, body);
+    tell(k, &names, form, segments, named, body)
 }
 
 impl PassOneState {
-    /// Before the first line.
-    pub(crate) fn start(alloc: Global) -> PassOneState
-        ensures { (lines : List LineTree) (a : Assignment) → Fits lines a → IsAt lines a 0 result }
+    /// Before the first line of a text. The only error is out of memory.
+    pub(crate) fn start(alloc: Global, lines: &[Line]) -> Result<PassOneState, NoMemory>
+        ensures { let lines = map line_tree lines.now in
+            IfOk result (λ start. (a : Assignment) → Fits lines a → IsAt lines a 0 start) }
     {
-        let values = Values::new(alloc);
-        let filled = Filled::new(alloc);
-        let last = LastAbsolute::of_first(OPENING);
-        PassOneState {
-            values,
-            filled,
-            segment: OPENING,
-            last,
+        Ok(PassOneState {
+            values: Values::new(alloc),
+            segments: SegmentsAbove::start(alloc, lines)?,
             bank: 0,
-            segments: 0,
+            numbered: 0,
             externals: 0,
-        }
+        })
     }
 
     /// Takes in line k, which has no fault, by what follows for it from the state before it. The only error is out of
@@ -136,11 +127,9 @@ impl PassOneState {
             externals: self.externals,
         };
         take_in(alloc, &mut self.values, &giving, &defined)?;
-        self.filled.set(told.next.id, counts.next as u16)?;
-        self.segment = told.next;
-        self.last.note(told.next);
+        self.segments.leave_open(told.next, counts.next as u16);
         self.bank = told.operand.bank(self.bank);
-        self.segments = counts.segments as u8;
+        self.numbered = counts.segments as u8;
         self.externals = counts.externals as u8;
         Ok(())
     }

@@ -1,21 +1,24 @@
 //! The segments of a text, and the one that a line leaves open.
-ghost use Rattle.std.specs.Prelude.{◌≡◌, ◌<◌, ◌+◌, if◌then◌else◌, map, option_map, unwrap_or, None, Some};
+ghost use Rattle.std.specs.Prelude.{◌≡◌, ◌<◌, ℕ, if◌then◌else◌, map, option_map, unwrap_or, Option, None, Some, IfOk};
 ghost use Rattle.m51_cells.specs.declared.kind.Kind.{Kind};
 ghost use Rattle.m51_cells.specs.Kinds.{is_absolute, same_kind};
 ghost use Rattle.m51_expr.specs.Meanings.{Meanings};
 ghost use Rattle.m51_stmt.specs.Statement.{body_tree};
 ghost use Rattle.m51_text.specs.Answer.{line_tree};
-ghost use Rattle.m51_asm.specs.Assignment.{absolute, body_at, reloc_by, segment_reloc, is_bitaddressable};
-ghost use Rattle.m51_asm.specs.Fitting.{is_absolute_of, declared_in};
-ghost use Rattle.m51_asm.specs.OpenSegments.{text_segment, declared_how, declared_first, last_with, last_in};
+ghost use Rattle.m51_asm.specs.Assignment.{absolute, opening, is_bitaddressable};
+ghost use Rattle.m51_asm.specs.OpenSegments.{text_segment, declared_first, last_with, last_id, current_in, last_in};
 ghost use Rattle.m51_asm.specs.OpenSegments.{open_behind};
-ghost use Rattle.m51_asm.specs.Operands.{operand_number};
+ghost use Rattle.m51_asm.specs.Operands.{number_in, segment_named, if_rseg, operand_number};
+ghost use Rattle.m51_asm.specs.SegmentTable.{declared_entries, segment_in, with_entry};
 
 use crate::definitions::How;
 use crate::names::FirstDefinition;
-use m51_cells::{Kind, Reloc, is_absolute};
+use crate::operands::Evaluated;
+use crate::segment_table::SegmentTable;
+use m51_cells::{Kind, NoMemory, Reloc, is_absolute};
 use m51_stmt::Body;
 use m51_text::Line;
+use std::alloc::Global;
 
 /// Whether a type is BITADDRESSABLE.
 pub(crate) fn is_bitaddressable(reloc: Reloc) -> bool
@@ -24,37 +27,6 @@ pub(crate) fn is_bitaddressable(reloc: Reloc) -> bool
     match reloc {
         Reloc::Bitaddressable => true,
         _ => false,
-    }
-}
-
-// The type of the segment that a line declares, if it declares one.
-fn reloc_by(body: &Body) -> Reloc
-    ensures { result ≡ reloc_by (body_tree body.now) }
-{
-    match body {
-        Body::Segment(_, _, reloc, _) => *reloc,
-        _ => Reloc::Abs,
-    }
-}
-
-// The type of the segment that line k declares, if it declares one.
-fn reloc_at(lines: &[Line], k: usize) -> Reloc
-    ensures { result ≡ reloc_by (body_at (map line_tree lines.now) k) }
-{
-    match lines.get(k) {
-        Some(line) => reloc_by(&line.stmt.body),
-        None => Reloc::Abs,
-    }
-}
-
-/// The type of a segment.
-pub(crate) fn segment_reloc(lines: &[Line], id: u32) -> Reloc
-    ensures { result ≡ segment_reloc (map line_tree lines.now) id }
-{
-    if id < 2 {
-        Reloc::Abs
-    } else {
-        reloc_at(lines, id as usize - 2)
     }
 }
 
@@ -88,112 +60,45 @@ fn absolute(id: u32, kind: Kind, base: u16) -> OpenSegment
     }
 }
 
-fn declared_how(lines: &[Line], line: usize, how: How) -> Option<OpenSegment>
-    requires { line < 65536 }
-    ensures { option_map text_segment result ≡ declared_how (map line_tree lines.now) line how }
-{
-    match how {
-        How::Segment(kind) => Some(OpenSegment {
-            id: line as u32 + 2,
-            kind,
-            reloc: reloc_at(lines, line),
-            base: 0,
-        }),
-        _ => None,
-    }
-}
-
-/// The segment that a SEGMENT above line k declares under a name of this first definition, if one does.
-pub(crate) fn declared_first(
-    lines: &[Line],
-    k: usize,
-    first: Option<FirstDefinition>,
-) -> Option<OpenSegment>
+/// The id of the segment that a SEGMENT above line k declares under a name of this first definition, if one does.
+pub(crate) fn declared_first(k: usize, first: Option<FirstDefinition>) -> Option<u32>
     requires { k < 65536 }
-    ensures { option_map text_segment result ≡ declared_first (map line_tree lines.now) k first }
+    ensures { result ≡ declared_first k first }
 {
     match first {
-        Some(first) => {
-            if first.line < k {
-                declared_how(lines, first.line, first.how)
-            } else {
-                None
-            }
-        }
+        Some(first) => match first.how {
+            How::Segment(_) if first.line < k => Some(first.line as u32 + 2),
+            _ => None,
+        },
         None => None,
     }
 }
 
-fn or_segment(segment: Option<OpenSegment>, other: OpenSegment) -> OpenSegment
-    ensures { text_segment result ≡ unwrap_or (option_map text_segment segment) (text_segment other) }
-{
-    match segment {
-        Some(segment) => segment,
-        None => other,
-    }
-}
-
-/// The segment that line k leaves open. The last absolute one of the kind of a CSEG or the like, the segment that RSEG
-/// names, and the number of the operand of AT or ORG are arguments.
-pub(crate) fn open_behind(
-    k: usize,
-    last: &LastAbsolute,
-    named: Option<OpenSegment>,
-    segment: OpenSegment,
-    number: u16,
-    body: &Body,
-) -> OpenSegment
-    requires { k < 65536 }
-    ensures { (names : Meanings) → number ≡ operand_number names (body_tree body.now)
-        → text_segment result ≡ open_behind k names (last_in last.now) (option_map text_segment named)
-        (text_segment segment) (body_tree body.now) }
-{
-    match body {
-        Body::Rseg(_) => or_segment(named, segment),
-        Body::Select(kind, Some(_)) => absolute(k as u32 + 2, *kind, number),
-        Body::Select(kind, None) => or_segment(last.of(*kind), absolute(k as u32 + 2, *kind, 0)),
-        Body::Org(_) => {
-            if is_absolute(segment.reloc) {
-                absolute(k as u32 + 2, segment.kind, number)
-            } else {
-                segment
-            }
-        }
-        _ => segment,
-    }
-}
-
-/// The last absolute segment of each kind.
+/// The last absolute segment of each kind, by its id.
 #[derive(Clone, Copy)]
 pub(crate) struct LastAbsolute {
-    code: Option<OpenSegment>,
-    xdata: Option<OpenSegment>,
-    direct: Option<OpenSegment>,
-    idata: Option<OpenSegment>,
-    bits: Option<OpenSegment>,
-    number: Option<OpenSegment>,
+    code: Option<u32>,
+    xdata: Option<u32>,
+    direct: Option<u32>,
+    idata: Option<u32>,
+    bits: Option<u32>,
+    number: Option<u32>,
 }
 
-impl LastAbsolute {
-    /// This one only.
-    pub(crate) fn of_first(segment: OpenSegment) -> LastAbsolute
-        ensures { (kind : Kind) → last_in result kind ≡ last_with (text_segment segment) (λ k. None) kind }
-    {
-        let mut last = LastAbsolute {
-            code: None,
-            xdata: None,
-            direct: None,
-            idata: None,
-            bits: None,
-            number: None,
-        };
-        last.note(segment);
-        last
-    }
+// The opening segment only.
+const OPENING_ONLY: LastAbsolute = LastAbsolute {
+    code: Some(OPENING.id),
+    xdata: None,
+    direct: None,
+    idata: None,
+    bits: None,
+    number: None,
+};
 
-    /// The last one of a kind.
-    pub(crate) fn of(&self, kind: Kind) -> Option<OpenSegment>
-        ensures { option_map text_segment result ≡ last_in self.now kind }
+impl LastAbsolute {
+    // The last one of a kind.
+    fn of(&self, kind: Kind) -> Option<u32>
+        ensures { result ≡ last_id self.now kind }
     {
         match kind {
             Kind::Code => self.code,
@@ -207,25 +112,112 @@ impl LastAbsolute {
 
     // Sets the segment of its kind.
     fn set(&mut self, segment: OpenSegment)
-        ensures { (kind : Kind) → last_in self.new kind
-            ≡ (if same_kind segment.kind kind then Some (text_segment segment) else last_in self.old kind) }
+        ensures { (kind : Kind) → last_id self.new kind
+            ≡ (if same_kind segment.kind kind then Some segment.id else last_id self.old kind) }
     {
         match segment.kind {
-            Kind::Code => self.code = Some(segment),
-            Kind::Xdata => self.xdata = Some(segment),
-            Kind::Direct => self.direct = Some(segment),
-            Kind::Idata => self.idata = Some(segment),
-            Kind::Bits => self.bits = Some(segment),
-            Kind::Number => self.number = Some(segment),
+            Kind::Code => self.code = Some(segment.id),
+            Kind::Xdata => self.xdata = Some(segment.id),
+            Kind::Direct => self.direct = Some(segment.id),
+            Kind::Idata => self.idata = Some(segment.id),
+            Kind::Bits => self.bits = Some(segment.id),
+            Kind::Number => self.number = Some(segment.id),
         }
     }
 
-    /// Notes one more segment, which may be absolute.
-    pub(crate) fn note(&mut self, segment: OpenSegment)
-        ensures { (kind : Kind) → last_in self.new kind ≡ last_with (text_segment segment) (last_in self.old) kind }
+    // Notes one more segment, which may be absolute.
+    fn note(&mut self, segment: OpenSegment)
+        ensures { (kind : Kind) → last_id self.new kind ≡ last_with (text_segment segment) (last_id self.old) kind }
     {
         if is_absolute(segment.reloc) {
             self.set(segment);
         }
+    }
+}
+
+/// The segments of a text, by the lines above a line.
+#[derive(Drop)]
+pub(crate) struct SegmentsAbove {
+    pub(crate) table: SegmentTable,
+    /// The id of the segment of the line.
+    pub(crate) current: u32,
+    /// Those down to the line.
+    pub(crate) last: LastAbsolute,
+}
+
+impl SegmentsAbove {
+    /// Before the first line of a text. The only error is out of memory.
+    pub(crate) fn start(alloc: Global, lines: &[Line]) -> Result<SegmentsAbove, NoMemory>
+        ensures table { IfOk result (λ s. s.table ≡ declared_entries (map line_tree lines.now)) }
+        ensures current { IfOk result (λ s. s.current ≡ opening.id) }
+        ensures last { IfOk result (λ s. (kind : Kind) → last_id s.last kind
+            ≡ last_with opening (λ k. None) kind) }
+    {
+        Ok(SegmentsAbove {
+            table: SegmentTable::declared(alloc, lines)?,
+            current: OPENING.id,
+            last: OPENING_ONLY,
+        })
+    }
+
+    /// The segment of the line.
+    pub(crate) fn current(&self) -> OpenSegment
+        ensures { text_segment result ≡ current_in self.now }
+    {
+        self.table.segment(self.current)
+    }
+
+    // The segment of this id, or else this one.
+    fn segment_or(&self, id: Option<u32>, other: OpenSegment) -> OpenSegment
+        ensures { text_segment result ≡ unwrap_or (option_map (segment_in self.now.table) id) (text_segment other) }
+    {
+        match id {
+            Some(id) => self.table.segment(id),
+            None => other,
+        }
+    }
+
+    /// Leaves a segment open for the next line, with this size.
+    pub(crate) fn leave_open(&mut self, next: OpenSegment, size: u16)
+        ensures table { self.new.table ≡ with_entry self.old.table (text_segment next) size }
+        ensures current { self.new.current ≡ next.id }
+        ensures last { (kind : Kind) → last_id self.new.last kind
+            ≡ last_with (text_segment next) (last_id self.old.last) kind }
+    {
+        self.table.put(next, size);
+        self.current = next.id;
+        self.last.note(next);
+    }
+}
+
+/// The segment that line k, which has this operand, leaves open.
+pub(crate) fn open_behind(
+    k: usize,
+    segments: &SegmentsAbove,
+    operand: Evaluated,
+    body: &Body,
+) -> OpenSegment
+    requires { k < 65536 }
+    ensures { (names : Meanings) (named : Option ℕ) → number_in operand ≡ operand_number names (body_tree body.now)
+        → segment_named operand ≡ if_rseg named (body_tree body.now)
+        → text_segment result ≡ open_behind k names (last_in segments.now) (option_map (segment_in segments.now.table)
+        named) (current_in segments.now) (body_tree body.now) }
+{
+    let segment = segments.current();
+    let id = k as u32 + 2;
+    match body {
+        Body::Rseg(_) => segments.segment_or(operand.segment(), segment),
+        Body::Select(kind, Some(_)) => absolute(id, *kind, operand.number()),
+        Body::Select(kind, None) => {
+            segments.segment_or(segments.last.of(*kind), absolute(id, *kind, 0))
+        }
+        Body::Org(_) => {
+            if is_absolute(segment.reloc) {
+                absolute(id, segment.kind, operand.number())
+            } else {
+                segment
+            }
+        }
+        _ => segment,
     }
 }

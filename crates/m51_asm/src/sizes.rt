@@ -7,13 +7,12 @@ ghost use Rattle.m51_isa.specs.declared.generics.Jump.{Jump};
 ghost use Rattle.m51_isa.specs.Table.{length_of};
 ghost use Rattle.m51_emit.specs.Lines.{row_by};
 ghost use Rattle.m51_emit.specs.Sizes.{item_size, items_size};
-ghost use Rattle.m51_asm.specs.Filled.{saturated};
+ghost use Rattle.m51_asm.specs.SegmentTable.{saturated};
 ghost use Rattle.m51_asm.specs.Fitting.{size_by};
 ghost use Rattle.m51_asm.specs.Operands.{operand_number};
 
-use m51_encode::row_of;
 use m51_expr::Item;
-use m51_isa::{Instr, Jump, length};
+use m51_isa::{Instr, length};
 use m51_stmt::Body;
 
 fn item_size(item: &Item) -> usize
@@ -32,16 +31,6 @@ fn items_size(items: &[Item]) -> u64
     match items {
         [first, rest @ ..] => (item_size(first) as u64).saturating_add(items_size(rest)),
         [] => 0,
-    }
-}
-
-/// The row of the instruction of a line, if it has one, with its JMP or CALL in this form.
-pub(crate) fn row_by(form: Jump, body: &Body) -> Option<Instr>
-    ensures { result ≡ row_by form (body_tree body.now) }
-{
-    match body {
-        Body::Code(mnemonic, operands) => row_of(mnemonic, operands.as_slice(), form),
-        _ => None,
     }
 }
 

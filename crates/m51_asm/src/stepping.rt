@@ -17,7 +17,6 @@ use crate::segments::OpenSegment;
 use crate::told::LineFacts;
 use m51_cells::NoMemory;
 use m51_expr::Located;
-use m51_isa::Jump;
 use m51_stmt::Body;
 use m51_text::Line;
 use std::alloc::Global;
@@ -25,13 +24,12 @@ use std::alloc::Global;
 /// Where a line is.
 #[derive(Clone, Copy)]
 pub(crate) struct LinePlace {
-    pub(crate) segment: OpenSegment,
-    /// The segment that it leaves open.
-    pub(crate) next: OpenSegment,
+    /// The id of its segment.
+    pub(crate) segment: u32,
     /// The size of the segment above the line.
     pub(crate) offset: u16,
-    /// The form of its JMP or CALL.
-    pub(crate) form: Jump,
+    /// The row of its instruction, by its bytes.
+    pub(crate) code: Option<[u8; 3]>,
     /// The bank of the last USING above.
     pub(crate) bank: u8,
     /// The bank after it.
@@ -85,26 +83,18 @@ pub(crate) fn step(
         → IsLineOutcome (map line_tree text.now.lines.now) a k placing.new step) }
 {
     let told = told_of(text, k, placing, line);
-    let segment = placing.segment;
+    let segments = &placing.segments;
+    let segment = segments.current();
     let body = &line.stmt.body;
-    let counts = count(
-        &placing.filled,
-        placing.segments,
-        placing.externals,
-        segment,
-        told.next,
-        told.size,
-        body,
-    );
+    let counts = count(placing, segment, told.next, told.size, body);
     let fault = evaluated_fault(segment, &told, &counts, body);
     match fault {
         Some(number) => Ok(LineOutcome::Fault(number)),
         None => {
             let place = LinePlace {
-                segment,
-                next: told.next,
-                offset: placing.filled.of(segment.id),
-                form: told.form,
+                segment: segment.id,
+                offset: segments.table.size(segment.id),
+                code: told.code,
                 bank: placing.bank,
                 selected: told.operand.bank(placing.bank),
                 given: told.operand.given(),

@@ -1,17 +1,18 @@
--- A disassembled instruction is cut into the words of the instruction that is meant, and has the length of its row
-use Rattle.m51_disasm_proof.proofs.Common.{◌%◌, ◌&&◌, ◌++◌, ◌<◌, ◌||◌, ◌∷◌, ◌≡◌, AreSlots, AtR, Content, Field, Imm}
-use Rattle.m51_disasm_proof.proofs.Common.{Instr, IsSlot, IsSound, Jump, List, Meanings, None, Nop, NotBit, Nothing}
-use Rattle.m51_disasm_proof.proofs.Common.{Option, Plain, R, Slot, Some, SourceLine, Target, Word, [], ap, append-nil}
-use Rattle.m51_disasm_proof.proofs.Common.{append_assoc, arith, body_of, byte_text, codes, common_steps, cond}
-use Rattle.m51_disasm_proof.proofs.Common.{length_in, line_size, list_all, map, meant, name_of, not, operand_of}
-use Rattle.m51_disasm_proof.proofs.Common.{option_map, refl, subst, sym, symbol, text_of, true, word_text, ℕ}
-use Rattle.std.specs.Char.{is_ascii_alphanumeric}
+-- A disassembled instruction is cut into the words of the instruction that is meant, and has the length of its row. The
+-- label of an address is a name.
+use Rattle.m51_disasm_proof.proofs
+use proofs.Common.{◌%◌, ◌&&◌, ◌++◌, ◌<◌, ◌||◌, ◌∷◌, ◌≡◌, AreSlots, AtR, Content, Field, IfSome, Imm, Instr, IsSound}
+use proofs.Common.{Jump, List, Meanings, None, Nop, NotBit, Nothing, Option, Plain, R, Slot, Some, SourceLine, Target}
+use proofs.Common.{[], append-nil, append_assoc, arith, body_of, codes, common_steps, cond, false, label_text}
+use proofs.Common.{length_in, line_size, map, meant, name_of, not, option_map, refl, text_of, texts_are_rows, true, ℕ}
 use Rattle.std.specs.List.{cons_option}
-use Rattle.std.specs.Prelude.{IfSome, is_some, unwrap_or}
-use Rattle.m51_lex.specs.Characters.{is_sign}
+use Rattle.std.specs.Prelude.{is_some}
+use Rattle.std.proofs.Common.{nat_eq, ◌/◌}
+use Rattle.std.specs.Char.{to_ascii_uppercase}
+use Rattle.std.specs.Fmt.{digit_glyph}
+use Rattle.m51_lex.specs.Characters.{is_name_byte, is_sign}
 use Rattle.m51_lex.specs.Number.{number_of}
 use Rattle.m51_lex.specs.declared.token.What.TheVariants as what
-use Rattle.m51_isa.proofs.RowsFilled.{texts_are_rows}
 use Rattle.m51_isa.specs.Arithmetic.{arithmetic}
 use Rattle.m51_isa.specs.Branches.{branches}
 use Rattle.m51_isa.specs.Jumps.{jumps}
@@ -26,9 +27,9 @@ use Rattle.m51_isa.specs.declared.slot.Slot.TheVariants.{ADptr, APc, AtDptr}
 use Rattle.m51_expr.specs.Looks.{has_form}
 use Rattle.m51_expr.specs.Symbol.{arithmetic_word, operator_of, prefix_word, relation_word, word_symbol}
 use Rattle.m51_expr.specs.Tree as tree
-use Rattle.m51_expr.specs.Words.{is_language_word}
+use Rattle.m51_expr.specs.Words.{is_language_word, is_reserved}
 use Rattle.m51_expr.specs.declared.symbol.Symbol.TheVariants as symbols
-use Rattle.m51_stmt.proofs.LineCuts.{IsCutInto, Stands, after_blank, after_word, no_words}
+use Rattle.m51_stmt.proofs.LineCuts.{IsCutInto, Stands, Word, after_blank, after_word, no_words, symbol}
 use Rattle.m51_stmt.proofs.ListWords.{Each, comma_word, list_words}
 use Rattle.m51_stmt.proofs.PrintedBodies.{IsCode, body_words}
 use Rattle.m51_stmt.proofs.PrintedOperands.{IsOperand, operand_words, register_written}
@@ -36,33 +37,73 @@ use Rattle.m51_stmt.proofs.WordCuts.{Ends, name_stands, name_word, number_word, 
 use Rattle.m51_stmt.proofs.WordCuts.{word_stands}
 use Rattle.m51_stmt.specs.Printing.{register_word}
 use Rattle.m51_stmt.specs.Statement as meant
-use Rattle.m51_stmt.specs.Statement.{Code, OperandTree}
+use Rattle.m51_stmt.specs.Statement.{BodyTree, Code, Empty, OperandTree}
 use Rattle.m51_encode.specs.Coding.{Line, instruction_line, length_of, line, line_row, look_in}
 use Rattle.m51_asm.specs.Fitting.{size_by}
-use Rattle.m51_disasm.specs.Texts.{data_text, digit_text, operand_after, operand_text, plain_text, spelled, target_text}
+use Rattle.m51_disasm.specs.Texts.{byte_text, data_text, digit_text, operand_after, operand_text, plain_text, spelled}
+use Rattle.m51_disasm.specs.Texts.{target_text, word_text}
 use Rattle.m51_disasm.specs.declared.line.SourceLine.TheVariants as source
 use Rattle.m51_disasm.specs.declared.line.Target.TheVariants as target
 use Rattle.m51_disasm.specs.declared.statement.Content.TheVariants as content
-use Rattle.m51_disasm_proof.specs.Meaning.{address_operand, data_number, operands_of, target_operand}
-use Rattle.m51_disasm_proof.specs.Sound.{IsAddress, IsContent, IsTarget}
-use Rattle.m51_disasm_proof.proofs.MeantLines.{label_is_free}
+use Rattle.m51_cells.specs.Name as cells
+use Rattle.m51_stmt.proofs.PrintedExterns.{IsFree}
+use Rattle.m51_disasm_proof.specs.Meaning.{address_operand, data_number, operand_of, operands_of, target_operand}
+use Rattle.m51_disasm_proof.specs.Sound.{IsAddress, IsContent, IsSlot, IsTarget}
+
+-- ---- labels
+
+-- a hexadecimal digit in upper case
+record IsGlyph (c : ℕ) : Type 0 where
+  name : cells.is_name_byte c ≡ true
+  upper : to_ascii_uppercase c ≡ c
+  letter : nat_eq 0x4C c ≡ false
+
+glyph : (d : ℕ) → d < 16 → IsGlyph (digit_glyph true d)
+glyph d h = record {
+  name = grind (arith, common_steps);
+  upper = grind (arith, common_steps);
+  letter = grind (arith, common_steps);
+}
+
+module _ (p q r s : ℕ) (a : IsGlyph p) (b : IsGlyph q) (c : IsGlyph r) (d : IsGlyph s) where
+  abbrev label : List ℕ
+  label = 0x4C ∷ p ∷ q ∷ r ∷ s ∷ []
+
+  no_word : is_language_word label ≡ false
+  unfolding is_language_word
+  no_word = grind (arith, common_steps)
+
+  free_name : IsFree label
+  unfolding operator_of prefix_word relation_word arithmetic_word is_reserved
+  free_name = record {
+    leaf = record { written = grind (arith, common_steps); leaf = grind (arith, common_steps, no_word) };
+    free = grind (arith, common_steps, no_word);
+  }
+
+-- a statement may define the name of a label, and an expression may have it
+pub label_is_free : (address : ℕ) → address < 65536 → IsFree (label_text address)
+label_is_free address h =
+    free_name _ _ _ _ (glyph (address / 256 / 16) (omega arith)) (glyph (address / 256 % 16) (omega arith))
+    (glyph (address % 256 / 16) (omega arith)) (glyph (address % 256 % 16) (omega arith))
+
+-- ---- words
 
 -- a line of words that continues no name and no number
-pub record IsRest (rest : List ℕ) (ws : List Word) : Type 0 where
-  pub ends : Ends rest
-  pub cut : IsCutInto rest (map symbol ws)
+record IsRest (rest : List ℕ) (ws : List Word) : Type 0 where
+  ends : Ends rest
+  cut : IsCutInto rest (map symbol ws)
 
-pub no_rest : IsRest [] []
+no_rest : IsRest [] []
 no_rest = record { ends = refl; cut = no_words }
 
 -- a text that is cut into words before such a line
-pub record IsFirst (text : List ℕ) (words : List Word → List Word) : Type 0 where
-  pub before : (rest : List ℕ) (ws : List Word) → IsRest rest ws → IsCutInto (text ++ rest) (map symbol (words ws))
+record IsFirst (text : List ℕ) (words : List Word → List Word) : Type 0 where
+  before : (rest : List ℕ) (ws : List Word) → IsRest rest ws → IsCutInto (text ++ rest) (map symbol (words ws))
 
 name_first : {text : List ℕ} → name_of text ≡ Some text → IsFirst text (λ ws. name_word text ∷ ws)
 name_first is = record { before = λ rest ws r. after_word (name_stands is r.ends) r.cut }
 
-pub sign_first : {c : ℕ} {text : List ℕ} {words : List Word → List Word} → is_sign c ≡ true → IsFirst text words
+sign_first : {c : ℕ} {text : List ℕ} {words : List Word → List Word} → is_sign c ≡ true → IsFirst text words
     → IsFirst (c ∷ text) (λ ws. sign_word c ∷ words ws)
 sign_first is first = record { before = λ rest ws r. after_word (sign_stands is) (first.before rest ws r) }
 
@@ -81,15 +122,9 @@ word_first low = record { before = λ rest ws r. after_word (word_stands low r.e
 abbrev pub byte_word : ℕ → Word
 byte_word n = record { what = what.Number n; text = byte_text n }
 
-byte_run : (n : ℕ) → n < 256 → list_all is_ascii_alphanumeric (byte_text n) ≡ true
-byte_run n low = grind (arith, common_steps)
-
-byte_number : (n : ℕ) → n < 256 → number_of (byte_text n) ≡ Some n
-unfolding number_of
-byte_number n low = grind (arith, common_steps)
-
 pub byte_stands : {n : ℕ} {rest : List ℕ} → n < 256 → Ends rest → Stands (byte_word n) rest
-byte_stands {n} low ends = run_stands (byte_run n low) (byte_number n low) ends
+unfolding number_of
+byte_stands low ends = run_stands (grind (arith, common_steps)) (grind (arith, common_steps)) ends
 
 byte_first : (n : ℕ) → IsFirst (byte_text (n % 256)) (λ ws. number_word (n % 256) ∷ ws)
 byte_first n = record { before = λ rest ws r. after_word (byte_stands {n = n % 256} (omega arith) r.ends) r.cut }
@@ -98,19 +133,17 @@ register_text : (n : ℕ) → n < 8 → codes "R" ++ digit_text n ≡ register_w
 register_text n low = grind (arith, common_steps)
 
 register_first : {n : ℕ} → n < 8 → IsFirst (codes "R" ++ digit_text n) (λ ws. name_word (register_word n) ∷ ws)
-register_first {n} low =
-    subst (λ t. IsFirst t (λ ws. name_word (register_word n) ∷ ws)) (sym (register_text n low))
-    (name_first (register_written n low))
+register_first {n} low = rw (register_text n low) (name_first (register_written n low))
 
--- the words of an operand that may be missing, before others
-abbrev pub words_of : Option OperandTree → List Word → List Word
-words_of None ws = ws
-words_of (Some o) ws = operand_words o ws
+-- the words of an operand that may be missing, after those before it and before others
+abbrev words_of : List Word → Option OperandTree → List Word → List Word
+words_of front None ws = ws
+words_of front (Some o) ws = front ++ operand_words o ws
 
 -- the operand that is meant, and its text, cut into its words
 record IsOne (text : List ℕ) (o : Option OperandTree) : Type 0 where
   good : IfSome o IsOperand
-  first : IsFirst text (words_of o)
+  first : IsFirst text (words_of [] o)
 
 target_one : (t : Target) → IsTarget t → IsOne (target_text t) (target_operand t)
 unfolding target_text
@@ -119,20 +152,17 @@ target_one (target.Label address) is =
     let leaf = (label_is_free address is).leaf in record { good = leaf; first = name_first leaf.written }
 target_one (target.Number address) is = record { good = is; first = word_first is }
 
-low_byte : (n : ℕ) → n % 256 < 65536
-low_byte n = omega arith
-
 plain_one : (t : Target) (f : Field) (n : ℕ) → IsAddress t f → IsOne (plain_text t f n) (address_operand t f n)
 unfolding plain_text
-plain_one t field.Direct n is = record { good = low_byte n; first = byte_first n }
-plain_one t field.Bit n is = record { good = low_byte n; first = byte_first n }
+plain_one t field.Direct n is = record { good = omega arith; first = byte_first n }
+plain_one t field.Bit n is = record { good = omega arith; first = byte_first n }
 plain_one t f n is = target_one t is
 
 data_one : (f : Field) (n : ℕ) → n < 65536
     → IsOne (codes "#" ++ data_text f n) (Some (meant.Imm (tree.Number (data_number f n))))
 unfolding data_text
 data_one field.Data16 n low = record { good = low; first = sign_first refl (word_first low) }
-data_one f n low = record { good = low_byte n; first = sign_first refl (byte_first n) }
+data_one f n low = record { good = omega arith; first = sign_first refl (byte_first n) }
 
 slot_one : (t : Target) (s : Slot) → IsSlot t s → IsOne (operand_text t s) (operand_of t s)
 unfolding operand_text
@@ -144,46 +174,33 @@ slot_one t (R n) is = record { good = is; first = register_first is }
 slot_one t (AtR n) is = record { good = is; first = sign_first refl (register_first {n = n} (omega arith)) }
 slot_one t (Imm f) is = data_one f.field f.number is
 slot_one t (Plain f) is = plain_one t f.field f.number is
-slot_one t (NotBit f) is = record { good = low_byte f.number; first = sign_first refl (byte_first f.number) }
+slot_one t (NotBit f) is = record { good = omega arith; first = sign_first refl (byte_first f.number) }
 slot_one t s is = record { good = tt; first = name_first refl }
 
-slot_look : (t : Target) (s : Slot) → IsSlot t s → look_in (operand_of t s) ≡ isa.look_of s
-slot_look t s is = grind (arith, common_steps)
-
-slot_after : (sign : List ℕ) (t : Target) (s : Slot) → IsSlot t s
-    → operand_after sign t s ≡ cond (is_some (operand_of t s)) (sign ++ operand_text t s) []
-unfolding operand_after
-slot_after sign t s is = grind (arith, common_steps)
-
 -- an operand of a row as one of a line
-pub record IsReadSlot (t : Target) (s : Slot) (o : Option OperandTree) : Type 0 where
-  pub good : IfSome o IsOperand
-  pub look : look_in o ≡ isa.look_of s
-  pub first : IsFirst (operand_text t s) (words_of o)
-  pub after : (sign : List ℕ) → operand_after sign t s ≡ cond (is_some o) (sign ++ operand_text t s) []
+record IsReadSlot (t : Target) (s : Slot) (o : Option OperandTree) : Type 0 where
+  one : IsOne (operand_text t s) o
+  look : look_in o ≡ isa.look_of s
+  after : (sign : List ℕ) → operand_after sign t s ≡ cond (is_some o) (sign ++ operand_text t s) []
 
-pub slot_read : (t : Target) (s : Slot) → IsSlot t s → IsReadSlot t s (operand_of t s)
+slot_read : (t : Target) (s : Slot) → IsSlot t s → IsReadSlot t s (operand_of t s)
+unfolding operand_after
 slot_read t s is = record {
-  good = (slot_one t s is).good;
-  look = slot_look t s is;
-  first = (slot_one t s is).first;
-  after = λ sign. slot_after sign t s is;
+  one = slot_one t s is;
+  look = grind (arith, common_steps);
+  after = λ sign. grind (arith, common_steps);
 }
 
 -- the operands that there are
 abbrev given : Option OperandTree → Option OperandTree → Option OperandTree → List OperandTree
 given a b c = cons_option a (cons_option b (cons_option c []))
 
--- the words of an operand after a comma, if there is one
-abbrev comma_words : Option OperandTree → List Word → List Word
-comma_words None ws = ws
-comma_words (Some o) ws = comma_word ∷ operand_words o ws
-
 -- operands of which none follows a missing one
 record AreGiven (m : List ℕ) (a b c : Option OperandTree) : Type 0 where
   form : has_form m (given a b c) ≡ has_row m (look_in a) (look_in b) (look_in c)
   line : (form : Jump) → instruction_line m (given a b c) form ≡ Some (line m form a b c)
-  words : words_of a (comma_words b (comma_words c [])) ≡ list_words operand_words (given a b c)
+  words : words_of [] a (words_of (comma_word ∷ []) b (words_of (comma_word ∷ []) c []))
+      ≡ list_words operand_words (given a b c)
 
 in_order : (m : List ℕ) (a b c : Option OperandTree)
     → ((is_some a || not (is_some b)) && (is_some b || not (is_some c))) ≡ true → AreGiven m a b c
@@ -193,51 +210,35 @@ in_order m (Some a) None (Some c) h = absurd (cc h)
 in_order m (Some a) (Some b) None h = record { form = refl; line = λ form. refl; words = refl }
 in_order m a b c h = record { form = refl; line = λ form. refl; words = refl }
 
--- an operand and the blank before it, before a line of words
-after_blank_first : {t : Target} {s : Slot} {o : Option OperandTree} {rest : List ℕ} {ws : List Word}
-    → IsReadSlot t s o → IsRest rest ws → IsRest (operand_after (codes " ") t s ++ rest) (words_of o ws)
-after_blank_first {o = None} {rest} {ws} r more =
-    subst (λ l. IsRest (l ++ rest) ws) (sym (r.after (codes " "))) more
-after_blank_first {o = Some o} {rest} {ws} r more =
-    subst (λ l. IsRest (l ++ rest) (operand_words o ws)) (sym (r.after (codes " ")))
-    (record { ends = refl; cut = after_blank (r.first.before rest ws more) })
+-- an operand and the sign before it, before a line of words
+after_sign : {t : Target} {s : Slot} {o : Option OperandTree} {rest : List ℕ} {ws : List Word} (sign : ℕ)
+    (front : List Word) → is_name_byte sign ≡ false
+    → ((more : List ℕ) (us : List Word) → IsCutInto more (map symbol us)
+    → IsCutInto (sign ∷ more) (map symbol (front ++ us)))
+    → IsReadSlot t s o → IsRest rest ws → IsRest (operand_after (sign ∷ []) t s ++ rest) (words_of front o ws)
+after_sign {o = None} sign front ends joins r more = rw (r.after (sign ∷ [])) more
+after_sign {o = Some o} {rest} {ws} sign front ends joins r more =
+    rw (r.after (sign ∷ [])) (record { ends = ends; cut = joins _ _ (r.one.first.before rest ws more) })
 
--- the same with a comma
 after_comma : {t : Target} {s : Slot} {o : Option OperandTree} {rest : List ℕ} {ws : List Word}
-    → IsReadSlot t s o → IsRest rest ws → IsRest (operand_after (codes ",") t s ++ rest) (comma_words o ws)
-after_comma {o = None} {rest} {ws} r more =
-    subst (λ l. IsRest (l ++ rest) ws) (sym (r.after (codes ","))) more
-after_comma {o = Some o} {rest} {ws} r more =
-    subst (λ l. IsRest (l ++ rest) (comma_words (Some o) ws)) (sym (r.after (codes ",")))
-    (record { ends = refl; cut = (sign_first refl r.first).before rest ws more })
+    → IsReadSlot t s o → IsRest rest ws
+    → IsRest (operand_after (codes ",") t s ++ rest) (words_of (comma_word ∷ []) o ws)
+after_comma r more = after_sign 0x2C (comma_word ∷ []) refl (λ l us c. after_word (sign_stands refl) c) r more
 
 each_given : {t : Target} {s : Slot} {o : Option OperandTree} → IsReadSlot t s o → (os : List OperandTree)
     → Each IsOperand os → Each IsOperand (cons_option o os)
 each_given {o = None} r os each = each
-each_given {o = Some o} r os each = (r.good, each)
+each_given {o = Some o} r os each = (r.one.good, each)
 
 -- the mnemonic of a row is a word of the language
-mnemonic_written : (i : Instr) → name_of (text_of i).mnemonic ≡ Some (text_of i).mnemonic
-mnemonic_written Nop = refl
-mnemonic_written i = refl
-
-mnemonic_word : (i : Instr) → word_symbol (text_of i).mnemonic ≡ symbols.Word (text_of i).mnemonic
+mnemonic_is : (i : Instr) → let m = (text_of i).mnemonic in (name_of m ≡ Some m) × (word_symbol m ≡ symbols.Word m)
 unfolding operator_of prefix_word relation_word arithmetic_word is_language_word
-mnemonic_word Nop = refl
-mnemonic_word i = refl
-
--- each row is one that the assembler finds
-row_is_found : (i : Instr)
-    → has_row (text_of i).mnemonic (look_of (text_of i).first) (look_of (text_of i).second) (look_of (text_of i).third)
-    ≡ true
-unfolding has_row arithmetic logic moves branches jumps
-row_is_found Nop = refl
-row_is_found i = refl
+mnemonic_is Nop = (refl, refl)
+mnemonic_is i = (refl, refl)
 
 -- the row that is found for the text of a row
 abbrev pub found_row : Instr → Option Instr
-found_row i = search (text_of i).mnemonic (look_of (text_of i).first) (look_of (text_of i).second)
-    (look_of (text_of i).third)
+found_row i = let x = text_of i in search x.mnemonic (look_of x.first) (look_of x.second) (look_of x.third)
 
 -- it has the length of the row
 found_length : (i : Instr) → option_map row_length (found_row i) ≡ Some (row_length i)
@@ -247,26 +248,21 @@ found_length i = refl
 
 -- the line of an instruction of a row
 abbrev pub own_line : Target → Instr → Jump → Line
-own_line t i form = line (text_of i).mnemonic form (operand_of t (text_of i).first) (operand_of t (text_of i).second)
-    (operand_of t (text_of i).third)
-
-given_in_order : (t : Target) (i : Instr) → AreSlots t (text_of i)
-    → ((is_some (operand_of t (text_of i).first) || not (is_some (operand_of t (text_of i).second)))
-    && (is_some (operand_of t (text_of i).second) || not (is_some (operand_of t (text_of i).third)))) ≡ true
-given_in_order t i h = grind (arith, common_steps)
+own_line t i form =
+    let x = text_of i in line x.mnemonic form (operand_of t x.first) (operand_of t x.second) (operand_of t x.third)
 
 module _ (t : Target) (i : Instr) (h : AreSlots t (text_of i)) where
-  abbrev all_given : AreGiven (text_of i).mnemonic (operand_of t (text_of i).first) (operand_of t (text_of i).second)
-      (operand_of t (text_of i).third)
-  all_given = in_order _ _ _ _ (given_in_order t i h)
+  all_given : let x = text_of i in
+      AreGiven x.mnemonic (operand_of t x.first) (operand_of t x.second) (operand_of t x.third)
+  all_given = in_order _ _ _ _ (grind (arith, common_steps))
 
-  abbrev first_read : IsReadSlot t (text_of i).first (operand_of t (text_of i).first)
+  first_read : IsReadSlot t (text_of i).first (operand_of t (text_of i).first)
   first_read = slot_read t (text_of i).first h.first
 
-  abbrev second_read : IsReadSlot t (text_of i).second (operand_of t (text_of i).second)
+  second_read : IsReadSlot t (text_of i).second (operand_of t (text_of i).second)
   second_read = slot_read t (text_of i).second h.second
 
-  abbrev third_read : IsReadSlot t (text_of i).third (operand_of t (text_of i).third)
+  third_read : IsReadSlot t (text_of i).third (operand_of t (text_of i).third)
   third_read = slot_read t (text_of i).third h.third
 
   pub line_is : (form : Jump) → instruction_line (text_of i).mnemonic (operands_of t (text_of i)) form
@@ -274,25 +270,19 @@ module _ (t : Target) (i : Instr) (h : AreSlots t (text_of i)) where
   line_is form = all_given.line form
 
   pub row_is : (form : Jump) → line_row (own_line t i form) ≡ found_row i
-  row_is form =
-      grind (arith, common_steps, first_read.look, second_read.look, third_read.look, texts_are_rows.apart i)
+  row_is form = grind (arith, common_steps, first_read.look, second_read.look, third_read.look, texts_are_rows.apart i)
 
   -- an instruction of a row is one of the grammar
   pub is_code : IsCode (text_of i).mnemonic (operands_of t (text_of i))
+  unfolding has_row
   is_code =
       let last = cons_option (operand_of t (text_of i).third) [] in
       record {
-        written = mnemonic_written i;
-        word = mnemonic_word i;
-        form = grind (
-          arith,
-          common_steps,
-          all_given.form,
-          first_read.look,
-          second_read.look,
-          third_read.look,
-          row_is_found i,
-        );
+        written = (mnemonic_is i).0;
+        word = (mnemonic_is i).1;
+        form =
+            let given = all_given in
+            grind (arith, common_steps, first_read.look, second_read.look, third_read.look, found_length i);
         each = each_given first_read (cons_option (operand_of t (text_of i).second) last)
             (each_given second_read last (each_given third_read [] tt));
       }
@@ -302,28 +292,16 @@ module _ (t : Target) (i : Instr) (h : AreSlots t (text_of i)) where
       (map symbol (body_words (Code (text_of i).mnemonic (operands_of t (text_of i)))))
   unfolding spelled
   code_cut =
-      let m = (text_of i).mnemonic in
-      let a = operand_after (codes " ") t (text_of i).first in
-      let b = operand_after (codes ",") t (text_of i).second in
-      let c = operand_after (codes ",") t (text_of i).third in
-      let rest = after_blank_first first_read (after_comma second_read (after_comma third_read no_rest)) in
-      let said = map symbol (body_words (Code m (operands_of t (text_of i)))) in
-      let joined : m ++ (a ++ (b ++ (c ++ []))) ≡ ((m ++ a) ++ b) ++ c = sym (simp (append_assoc, append-nil)) in
-      subst (λ l. IsCutInto l said) joined
-      (subst (λ ws. IsCutInto (m ++ (a ++ (b ++ (c ++ [])))) (symbol (name_word m) ∷ map symbol ws)) all_given.words
-      (after_word (name_stands (mnemonic_written i) rest.ends) rest.cut))
-
-  -- the length of a disassembled instruction, in whatever form
-  code_length : (form : Jump)
-      → length_of (text_of i).mnemonic (operands_of t (text_of i)) form ≡ Some (row_length i)
-  unfolding length_of
-  code_length form =
-      grind (arith, common_steps, line_is form, row_is form, found_length i)
+      let last = rw append-nil at (after_comma third_read no_rest) in
+      let rest = after_sign 0x20 [] refl (λ l us c. after_blank c) first_read (after_comma second_read last) in
+      simp append_assoc (rw (← all_given.words) (after_word (name_stands (mnemonic_is i).0 rest.ends) rest.cut))
 
 content_size : (names : Meanings) (form : Jump) (t : Target) (c : Content) → IsContent t c
     → size_by names form (body_of t c) ≡ length_in c
+unfolding length_of
 content_size names form t (content.Byte byte) h = refl
-content_size names form t (content.Code i) h = ap (λ n. unwrap_or n 0) (code_length t i h form)
+content_size names form t (content.Code i) h =
+    grind (arith, common_steps, line_is t i h form, row_is t i h form, found_length i)
 
 -- the size of a line of a disassembly
 pub size_is : (names : Meanings) (form : Jump) (l : SourceLine) → IsSound l

@@ -1,6 +1,5 @@
 pub mod Common
 pub mod RowsDecoded
-pub mod MeantLines
 pub mod InstructionsCut
 pub mod StatementsRead
 pub mod TextRead
@@ -8,9 +7,6 @@ pub mod PartsInOrder
 pub mod SoundLines
 pub mod LinesStand
 pub mod PartsPassed
-pub mod OperandsBack
 pub mod StatementsBack
-pub mod LinesGive
 pub mod PartPieces
-pub mod LinesPlaced
 pub mod Reassembled

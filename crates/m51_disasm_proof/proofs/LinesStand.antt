@@ -1,21 +1,81 @@
--- The segment and the place of each line of a disassembly, under each assignment that fits.
-use Rattle.m51_disasm_proof.proofs.Common.{◌+◌, ◌<◌, ◌==◌, ◌∙◌, ◌∷◌, ◌≡◌, ◌≢◌, ◌≤◌, Assignment, IsSpot, LineTree, List}
-use Rattle.m51_disasm_proof.proofs.Common.{Meanings, None, Option, Some, SourceLine, TextSegment, [], above, ap, arith}
-use Rattle.m51_disasm_proof.proofs.Common.{body_at, common_steps, false, label_text, length, line_size, meant, opening}
-use Rattle.m51_disasm_proof.proofs.Common.{refl, runs_from, segment_after, slice_get, suc, take, true, zero, ℕ}
+-- The lines of a disassembly as they are read, and the segment and the place of each under each assignment that fits.
+use Rattle.m51_disasm_proof.proofs
+use proofs.Common.{◌+◌, ◌<◌, ◌==◌, ◌∙◌, ◌∷◌, ◌≡◌, ◌≢◌, ◌≤◌, AllByRecursion, Assignment, IsSound, IsSpot, LineTree, List}
+use proofs.Common.{Meanings, None, Option, Some, SourceLine, TextSegment, [], above, ap, arith, common_steps}
+use proofs.Common.{label_text, length, line_size, meant, opening, option_map, read_from, refl, segment_after, slice_get}
+use proofs.Common.{suc, take, true, value_of, zero, ℕ}
 use Rattle.m51_cells.specs.declared.kind.Kind.{Kind}
 use Rattle.m51_cells.specs.declared.kind.Kind.TheVariants as kind
 use Rattle.m51_cells.specs.declared.kind.Reloc.TheVariants as reloc
-use Rattle.m51_expr.specs.Evaluation.{value_of}
 use Rattle.m51_asm.proofs.DefinedLines.{defined_more}
-use Rattle.m51_asm.specs.Assignment.{body_of}
-use Rattle.m51_asm.specs.Definitions.{definition_from, definition_of}
+use Rattle.m51_asm.specs.Assignment.{body_at, body_of}
+use Rattle.m51_asm.specs.Definitions.{definition_from, definition_of, definitions_in, found_in, label_defined}
 use Rattle.m51_asm.specs.Fitting.{Fits, filled, segment_behind, segment_by, size_at}
 use Rattle.m51_disasm.specs.declared.line.SourceLine.TheVariants as line
+use Rattle.m51_stmt.specs.Statement.{BodyTree, Empty}
+use Rattle.m51_asm.specs.Pieces.{runs_from}
 use Rattle.m51_disasm_proof.specs.Places.{Spot, place_after, spots_from}
-use Rattle.m51_disasm_proof.proofs.InstructionsCut.{size_is}
-use Rattle.m51_disasm_proof.proofs.MeantLines.{AreGood, after_label, defines_label, found_below, label_of, length_read}
-use Rattle.m51_disasm_proof.proofs.MeantLines.{read_at, read_line}
+use proofs.InstructionsCut.{size_is}
+
+-- ---- the lines as they are read
+
+-- line k of a source as it is read
+abbrev pub read_line : ℕ → SourceLine → LineTree
+read_line k l = record { file = 0; line = k + 1; stmt = meant l }
+
+-- these lines, the first of which is line k
+abbrev pub read_at : ℕ → List SourceLine → List LineTree
+read_at k [] = []
+read_at k (l ∷ ls) = read_line k l ∷ read_at (suc k) ls
+
+pub read_is : (k n : ℕ) (ls : List SourceLine) → n ≡ k + 1 → read_from n ls ≡ read_at k ls
+read_is k n [] e = refl
+read_is k n (l ∷ ls) e = (λ i. record { file = 0; line = e i; stmt = meant l }
+    ∷ read_is (suc k) (n + 1) ls (omega arith) i)
+
+length_read : (k : ℕ) (ls : List SourceLine) → length (read_at k ls) ≡ length ls
+length_read k [] = refl
+length_read k (l ∷ ls) = ap suc (length_read (suc k) ls)
+
+-- what holds of all that these lines say, and of nothing
+pub body_read : (P : BodyTree → Type 0) → P Empty → ((l : SourceLine) → P (meant l).body)
+    → (k : ℕ) (ls : List SourceLine) (j : ℕ) → P (body_at (read_at k ls) j)
+body_read P none each k [] j = none
+body_read P none each k (l ∷ ls) zero = each l
+body_read P none each k (l ∷ ls) (suc j) = body_read P none each (suc k) ls j
+
+-- the label of a line
+abbrev pub label_of : SourceLine → Option ℕ
+label_of (line.Statement s) = s.label
+label_of other = None
+
+abbrev pub LiesFrom : ℕ → Option ℕ → Type 0
+LiesFrom low None = Unit {0}
+LiesFrom low (Some address) = (low ≤ address) × (address < 65536)
+
+abbrev pub after_label : ℕ → Option ℕ → ℕ
+after_label low None = low
+after_label low (Some address) = address + 1
+
+-- these lines can be written, and their labels ascend from an address on
+abbrev pub AreGood : ℕ → List SourceLine → Type 0
+AreGood low [] = Unit {0}
+AreGood low (l ∷ ls) = IsSound l × LiesFrom low (label_of l) × AreGood (after_label low (label_of l)) ls
+
+pub are_sound : (low : ℕ) (ls : List SourceLine) → AreGood low ls → AllByRecursion IsSound ls
+are_sound low [] h = tt
+are_sound low (l ∷ ls) h = (h.0, are_sound (after_label low (label_of l)) ls h.2)
+
+-- a line defines only its label
+defines_label : (l : SourceLine) → definitions_in (meant l) ≡ label_defined (option_map label_text (label_of l))
+defines_label = grind (arith, common_steps)
+
+found_below : (address : ℕ) (o : Option ℕ) (low : ℕ) → after_label low o ≤ address → address < 65536
+    → LiesFrom low o → found_in (label_defined (option_map label_text o)) (label_text address) ≡ None
+found_below address None low h small lies = refl
+found_below address (Some other) low h small lies = grind (arith, common_steps)
+
+-- ---- segments and places
 
 -- only CSEG begins a segment
 segment_is : (lines : List LineTree) (k : ℕ) (names : Meanings) (last : Kind → Option TextSegment) (s : TextSegment)
@@ -103,17 +163,14 @@ module _ {lines : List LineTree} {a : Assignment} {k : ℕ} {s : State} {l : Sou
   unfolding segment_behind
   next_segment = grind (arith, common_steps, body_is, segment_is)
 
-  not_open : (id : ℕ) → s.segment.id ≢ id → ((a.segment k).id == id) ≡ false
-  not_open id ne = grind (arith, common_steps)
-
   -- the line gives to no other segment
   pub passes : (id : ℕ) → s.segment.id ≢ id → filled lines a id (suc k) ≡ filled lines a id k
   unfolding filled
-  passes id ne = let closed = not_open id ne in grind (arith, common_steps)
+  passes id ne = grind (arith, common_steps)
 
   pub skips : (id : ℕ) → s.segment.id ≢ id
       → runs_from lines a id k (read_at k (l ∷ ls)) ≡ runs_from lines a id (suc k) (read_at (suc k) ls)
-  skips id ne = let closed = not_open id ne in grind (arith, common_steps)
+  skips id ne = grind (arith, common_steps)
 
   pub is_open : ((a.segment k).id == s.segment.id) ≡ true
   is_open = grind (arith, common_steps)
@@ -127,14 +184,6 @@ module _ {lines : List LineTree} {a : Assignment} {k : ℕ} {s : State} {l : Sou
       let ne : s.segment.id ≢ id = λ e. omega arith in
       let f = h.fresh id le in
       record { filled = passes id ne ∙ f.filled; runs = f.runs ∙ skips id ne }
-
-  given_by : (x : SourceLine) → filled lines a (k + 2) (suc k) ≡ 0
-      → filled lines a s.segment.id (suc k) ≡ s.given + line_size x
-      → filled lines a (segment_after k s.segment x).id (suc k) ≡ given_after s.given x
-  given_by x new old = grind (arith, common_steps)
-
-  known_by : (x : SourceLine) → (segment_after k s.segment x).id < suc k + 2
-  known_by x = grind (arith, common_steps)
 
   labels_next : (address : ℕ) → after_label s.low (label_of l) ≤ address → address < 65536
       → IsNew lines (suc k) ls address
@@ -152,12 +201,15 @@ module _ {lines : List LineTree} {a : Assignment} {k : ℕ} {s : State} {l : Sou
   next = record {
     fits = h.fits;
     says = λ j. grind (arith, common_steps, h.says (suc j));
-    count = (omega arith);
+    count = omega arith;
     good = h.good.2;
     segment = next_segment;
     code = still_code k s.segment l h.code;
-    given = given_by l (fresh_next (k + 2) (omega arith)).filled adds;
-    known = known_by l;
+    given =
+        let new = (fresh_next (k + 2) (omega arith)).filled in
+        let old = adds in
+        grind (arith, common_steps);
+    known = let below = h.known in grind (arith, common_steps);
     fresh = λ id le. fresh_next id (omega arith);
     labels = labels_next;
   }
@@ -179,17 +231,12 @@ at_start ls a f good = record {
   labels = λ address from small. record { above = refl; found = refl };
 }
 
-place_is : (k : ℕ) (s : TextSegment) (given address : ℕ) (l : SourceLine) → address ≡ s.base + given
-    → place_after address l ≡ (segment_after k s l).base + given_after given l
-place_is k s given address l at = grind (arith, common_steps)
-
 -- each line is in its spot
-pub spots_are : {lines : List LineTree} {a : Assignment} (ls : List SourceLine) {k : ℕ} {s : State} (address : ℕ)
-    → LinesFrom lines a k s ls → address ≡ s.segment.base + s.given
-    → (j : ℕ) (spot : Spot) → slice_get (spots_from k s.segment address ls) j ≡ Some spot → IsSpot a (k + j) spot
-spots_are [] address h at j spot e = absurd (cc e)
-spots_are (l ∷ ls) address h at zero spot e =
+pub spots_are : {lines : List LineTree} {a : Assignment} (ls : List SourceLine) {k : ℕ} {s : State} (address n : ℕ)
+    → LinesFrom lines a k s ls → address ≡ s.segment.base + s.given → (j : ℕ) (spot : Spot)
+    → slice_get (spots_from k s.segment address ls) j ≡ Some spot → n ≡ k + j → IsSpot a n spot
+spots_are [] address n h at j spot e is = absurd (cc e)
+spots_are (l ∷ ls) address n h at zero spot e is =
     record { segment = grind (arith, common_steps); address = grind (arith, common_steps) }
-spots_are {a = a} (l ∷ ls) {k} {s} address h at (suc j) spot e =
-    let more = spots_are ls (place_after address l) (next h) (place_is k s.segment s.given address l at) j spot e in
-    record { segment = grind (arith, common_steps); address = grind (arith, common_steps) }
+spots_are (l ∷ ls) address n h at (suc j) spot e is =
+    spots_are ls (place_after address l) n (next h) (grind (arith, common_steps)) j spot e (omega arith)

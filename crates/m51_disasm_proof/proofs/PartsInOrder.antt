@@ -1,24 +1,23 @@
 -- The parts of a sound layout are in order, and none of them reaches into the next.
-use Rattle.m51_disasm_proof.proofs.Common.{◌+◌, ◌-◌, ◌<◌, ◌==◌, ◌∙◌, ◌∷◌, ◌≡◌, ◌≢◌, ◌≤◌, Bool, CodeRange, LayoutParts}
-use Rattle.m51_disasm_proof.proofs.Common.{List, Some, [], ap, arith, common_steps, cond, false, map, refl, slice_get}
-use Rattle.m51_disasm_proof.proofs.Common.{subst, suc, sym, true, zero, ℕ}
-use Rattle.std.proofs.Common.{◌⊎◌, inl, inr}
-use Rattle.std.proofs.lemmas.Bool.{eqb-true}
+use Rattle.m51_disasm_proof.proofs
+use proofs.Common.{◌+◌, ◌-◌, ◌<◌, ◌==◌, ◌∙◌, ◌∷◌, ◌≡◌, ◌≢◌, ◌≤◌, Bool, CodeRange, HaveSizes, LayoutParts, List, Some}
+use proofs.Common.{[], ap, arith, common_steps, map, refl, slice_get, subst, suc, sym, true, zero, ℕ}
+use Rattle.std.proofs.Common.{inl, inr, ◌⊎◌}
+use Rattle.std.proofs.lemmas.Bool.{cond_both, eqb-true}
 use Rattle.std.proofs.lemmas.List.Elements.{All-contains, All-filter, filter_passes}
 use Rattle.std.proofs.str.Laws.{order}
 use Rattle.std.specs.List.{filter}
 use Rattle.m51_cells.specs.Extent.{Meet, extent_of}
 use Rattle.m51_cells.specs.declared.kind.Kind.TheVariants as kind
-use Rattle.m51_module.specs.Cells.{code_cell, extent_at}
+use Rattle.m51_module.specs.Cells.{code_cell}
 use Rattle.m51_module.specs.Conflict.{FirstPlain}
-use Rattle.m51_module.specs.Plan.{IsCodeSegment, IsOverlaid, IsPlaced}
+use Rattle.m51_module.specs.Plan.{IsCodeSegment, IsPlaced}
 use Rattle.m51_module.specs.Sound.{IsSound}
 use Rattle.m51_module.specs.declared.placed.Placed.{Placed}
-use Rattle.m51_asm.proofs.Members.{Every, In, Pairs, at_in, contains_in, every_all, in_append, in_cons, in_first}
-use Rattle.m51_asm.proofs.Members.{in_later, in_map, no_element, pairs_append, pairs_map, pairs_weaker}
+use Rattle.m51_asm.proofs.Members.{In, Pairs, at_in, contains_in, every_all, in_append, in_first, in_later, in_map}
+use Rattle.m51_asm.proofs.Members.{no_element, pairs_append, pairs_map, pairs_weaker}
 use Rattle.m51_disasm.proofs.Placing.{all_inside}
 use Rattle.m51_disasm.specs.Parts.{IsInside, code_ranges, has_bytes, parts_below, placed_range, unit_ranges}
-use Rattle.m51_disasm_proof.specs.Sound.{HaveSizes}
 
 -- these parts lie in program memory, in order from an address on, and none overlaps another
 abbrev pub AreInOrder : ℕ → List CodeRange → Type 0
@@ -44,39 +43,18 @@ in_filter p xs y i =
       All-contains (λ x. In x xs) (filter p xs) y (All-filter p (λ x. In x xs) xs all) there,
     )
 
-pairs_kept : {A : Type 0} (R : A → A → Type 0) (b : Bool) (x : A) (xs : List A) → Every (R x) xs → Pairs R xs
-    → Pairs R (cond b (x ∷ xs) xs)
-pairs_kept R true x xs first more = (first, more)
-pairs_kept R false x xs first more = more
-
 pairs_filter : {A : Type 0} (R : A → A → Type 0) (p : A → Bool) (xs : List A) → Pairs R xs → Pairs R (filter p xs)
 pairs_filter R p [] h = tt
 pairs_filter R p (x ∷ xs) h =
-    pairs_kept R (p x) x (filter p xs) (λ y i. h.0 y (in_filter p xs y i).1) (pairs_filter R p xs h.1)
-
--- of two different elements
-pairs_both : {A : Type 0} (R : A → A → Type 0) (xs : List A) → ((x y : A) → R x y → R y x) → Pairs R xs → (x y : A)
-    → x ≢ y → In x xs → In y xs → R x y
-pairs_both R [] back h x y ne i j = absurd (no_element x i)
-pairs_both R (z ∷ xs) back h x y ne i j = elim (in_cons x z xs i) [
-  | inl e ↦ elim (in_cons y z xs j) [
-    | inl f ↦ absurd (ne (sym e ∙ f))
-    | inr l ↦ subst (λ w. R w y) e (h.0 y l)
-  ]
-  | inr k ↦ elim (in_cons y z xs j) [
-    | inl f ↦ back y x (subst (λ w. R w x) f (h.0 x k))
-    | inr l ↦ pairs_both R xs back h.1 x y ne k l
-  ]
-]
+    let more = pairs_filter R p xs h.1 in
+    cond_both (p x) (x ∷ filter p xs) (filter p xs) (Pairs R)
+    (λ yes. ((λ y i. h.0 y (in_filter p xs y i).1), more)) (λ no. more)
 
 -- ---- two units share no byte
 
 -- one of them ends before the other begins, where both have bytes
 abbrev Apart : CodeRange → CodeRange → Type 0
 Apart p q = 0 < p.size → 0 < q.size → (p.base + p.size ≤ q.base) ⊎ (q.base + q.size ≤ p.base)
-
-apart_back : (p q : CodeRange) → Apart p q → Apart q p
-apart_back p q h some more = elim (h more some) [ inl e ↦ inr e | inr e ↦ inl e ]
 
 -- two extents without a common cell
 no_meeting : (a b m n : ℕ) → (Meet (extent_of kind.Code a m) (extent_of kind.Code b n) → ⊥) → 0 < m → 0 < n
@@ -97,16 +75,12 @@ module _ (l : LayoutParts) (sound : IsSound l) where
   abbrev unit_part : ℕ → CodeRange
   unit_part index = placed_range (slice_get l.placed index)
 
-  plain : (s : ℕ) (p : Placed) → IsPlaced l s p → IsCodeSegment p → IsOverlaid l s → ⊥
-  plain s p placed code over = grind (arith, common_steps)
-
   placed_apart : (s t : ℕ) (p q : Placed) → s ≢ t → IsPlaced l s p → IsPlaced l t q → IsCodeSegment p → IsCodeSegment q
       → Apart (placed_range (Some p)) (placed_range (Some q))
   placed_apart s t p q ne one two code other =
       no_meeting p.base q.base p.size q.size
-      (λ meet. sound.apart s t p q one two ne (FirstPlain (plain s p one code))
-      (subst (λ k. Meet (extent_of k p.base p.size) (extent_at q)) (sym code.kind)
-      (subst (λ k. Meet (extent_of kind.Code p.base p.size) (extent_of k q.base q.size)) (sym other.kind) meet)))
+      (λ meet. sound.apart s t p q one two ne (FirstPlain (λ over. grind (arith, common_steps)))
+      (rw (code.kind, other.kind) meet))
 
   units_apart : Pairs Apart (map unit_part l.units)
   units_apart = pairs_map unit_part Apart l.units
@@ -114,9 +88,7 @@ module _ (l : LayoutParts) (sound : IsSound l) where
       let p = sound.is_code u s one in
       let q = sound.is_code v t two in
       let ne : s ≢ t = λ e. let same = sound.once u v t (one ∙ ap (λ x. Some x) e) two in omega arith in
-      subst (λ o. Apart (placed_range o) (unit_part t)) (sym p.1)
-      (subst (λ o. Apart (placed_range (Some p.0)) (placed_range o)) (sym q.1)
-      (placed_apart s t p.0 q.0 ne p.1 q.1 p.2 q.2))))
+      rw (p.1, q.1) (placed_apart s t p.0 q.0 ne p.1 q.1 p.2 q.2)))
 
   -- ---- in the order of their bases
 
@@ -125,6 +97,22 @@ module _ (l : LayoutParts) (sound : IsSound l) where
 
   all_apart : Pairs Apart all
   all_apart = pairs_filter Apart has_bytes (map unit_part l.units) units_apart
+
+  -- the segment of one of them
+  unit_of : (p : CodeRange) → In p all
+      → (s : ℕ) × (x : Placed) × IsPlaced l s x × IsCodeSegment x × (placed_range (Some x) ≡ p)
+  unit_of p i =
+      let c = in_map unit_part l.units p (in_filter has_bytes (map unit_part l.units) p i).1 in
+      let at = at_in l.units c.from c.there in
+      let code = sound.is_code at.index c.from at.got in
+      (c.from, code.0, code.1, code.2, ap placed_range (sym code.1) ∙ c.is)
+
+  two_apart : (p q : CodeRange) → p ≢ q → In p all → In q all → Apart p q
+  two_apart p q ne i j =
+      let x = unit_of p i in
+      let y = unit_of q j in
+      let other : x.0 ≢ y.0 = λ e. ne (cc (e, x.2, y.2, x.4, y.4)) in
+      rw (← x.4, ← y.4) (placed_apart x.0 y.0 x.1 y.1 other x.2 y.2 x.3 y.3)
 
   inside : (p : CodeRange) → In p all → IsInside p
   inside p i = All-contains IsInside all p (all_inside l sound) (contains_in all p i)
@@ -148,10 +136,7 @@ module _ (l : LayoutParts) (sound : IsSound l) where
   in_turn p q le i j apart =
       let some = (inside p i).some in
       let more = (inside q j).some in
-      elim (apart some more) [
-        | inl e ↦ e
-        | inr e ↦ absurd (omega arith)
-      ]
+      grind (arith, apart some more)
 
   below_ordered : (n : ℕ) → Pairs Before (parts_below all n)
   unfolding parts_below
@@ -165,9 +150,9 @@ module _ (l : LayoutParts) (sound : IsSound l) where
       (λ p q i j.
       let a = below_from n p i in
       let b = at_base n q j in
-      let ne : p ≢ q = λ e. let f : p.base ≡ q.base = ap (λ (x : CodeRange). x.base) e in omega arith in
+      let ne : p ≢ q = λ e. omega (arith, ap (λ (x : CodeRange). x.base) e) in
       in_turn p q (omega arith) a.0 b.0
-      (pairs_both Apart all apart_back all_apart p q ne a.0 b.0))
+      (two_apart p q ne a.0 b.0))
 
   in_order : (low : ℕ) (ps : List CodeRange) → ((p : CodeRange) → In p ps → low ≤ p.base)
       → ((p : CodeRange) → In p ps → IsInside p) → Pairs Before ps → AreInOrder low ps
@@ -188,7 +173,5 @@ module _ (l : LayoutParts) (sound : IsSound l) where
   pub parts_small : HaveSizes l → (p : CodeRange) → In p (code_ranges l) → p.size < 65536
   unfolding code_ranges
   parts_small sizes p i =
-      let c = in_map unit_part l.units p (in_filter has_bytes (map unit_part l.units) p (below_from 0x10000 p i).0).1 in
-      let at = at_in l.units c.from c.there in
-      let code = sound.is_code at.index c.from at.got in
-      subst (λ (q : CodeRange). q.size < 65536) (ap placed_range (sym code.1) ∙ c.is) (sizes c.from code.0 code.1)
+      let x = unit_of p (below_from 0x10000 p i).0 in
+      subst (λ (q : CodeRange). q.size < 65536) x.4 (sizes x.0 x.1 x.2)

@@ -1,20 +1,17 @@
 -- What bytes are decoded as has these bytes, numbers that its fields have room for, and usual operands. At most one
 -- of them leads anywhere: to the target.
-use Rattle.m51_disasm_proof.proofs.Common.{◌%◌, ◌&&◌, ◌+◌, ◌<◌, ◌==◌, ◌||◌, ◌∷◌, ◌≡◌, AtR, Bool, Field, HasRoom, Imm}
-use Rattle.m51_disasm_proof.proofs.Common.{Instr, List, None, Nop, NotBit, Option, Plain, R, Slot, Some, Target, []}
-use Rattle.m51_disasm_proof.proofs.Common.{and_parts, ap, arith, common_steps, cond, encoded, false, field_in, is_among}
-use Rattle.m51_disasm_proof.proofs.Common.{map, nat_lt, not, number_of_slot, option_map, refl, slot_address, subst, sym}
-use Rattle.m51_disasm_proof.proofs.Common.{take, text_of, true, written_target, ℕ}
-use Rattle.std.proofs.Common.{◌*◌, ◌/◌}
-use Rattle.std.proofs.lemmas.Bool.{ltb-true}
+use Rattle.m51_disasm_proof.proofs
+use proofs.Common.{◌%◌, ◌&&◌, ◌+◌, ◌<◌, ◌==◌, ◌||◌, ◌∷◌, ◌≡◌, AtR, Bool, Field, HasRoom, IfSome, Imm, Instr, List, None}
+use proofs.Common.{Nop, NotBit, Option, Plain, R, Slot, Some, Target, Text, [], ap, arith, common_steps, cond, false}
+use proofs.Common.{field_in, is_among, map, not, number_of_slot, option_map, refl, take, text_of, true, written_target}
+use proofs.Common.{ℕ}
+use Rattle.std.proofs.Common.{nat_lt, ◌*◌, ◌/◌}
 use Rattle.std.proofs.lemmas.List.FromFn.{get_or-map-range_with_len}
 use Rattle.std.specs.List.{range_with_len}
 use Rattle.std.specs.Option.{option_or}
-use Rattle.std.specs.Prelude.{IfSome}
-use Rattle.m51_isa.specs.Spelling.{Text}
-use Rattle.m51_isa.specs.Table.{decoded_at, length_of}
+use Rattle.m51_isa.specs.Table.{decoded_at, encoded, length_of}
 use Rattle.m51_isa.specs.declared.slot.Field.TheVariants as field
-use Rattle.m51_disasm.specs.Statements.{address_by, address_of}
+use Rattle.m51_disasm.specs.Statements.{address_by, address_of, slot_address}
 use Rattle.m51_disasm.specs.declared.line.Target.TheVariants as target
 
 -- ---- room in fields
@@ -47,8 +44,8 @@ pub record IsDecoded (bytes : List ℕ) (i : Instr) : Type 0 where
 
 -- ---- all opcodes
 
-pub and_all : (a b c : Bool) → (a && (b && c)) ≡ true → (a ≡ true) × (b ≡ true) × (c ≡ true)
-and_all a b c h = let one = and_parts a (b && c) h in let two = and_parts b c one.1 in (one.0, two.0, two.1)
+pub and_all : (a b c : Bool) → (a && b && c) ≡ true → (a ≡ true) × (b ≡ true) × (c ≡ true)
+and_all a b c h = grind (arith, common_steps)
 
 abbrev is_fit : Slot → Bool
 is_fit (R n) = nat_lt n 8
@@ -56,7 +53,7 @@ is_fit (AtR n) = nat_lt n 2
 is_fit s = true
 
 abbrev all_fit : Text → Bool
-all_fit t = is_fit t.first && (is_fit t.second && is_fit t.third)
+all_fit t = is_fit t.first && is_fit t.second && is_fit t.third
 
 module _ (second third : ℕ) where
   -- the number in a field that begins at a byte
@@ -103,35 +100,22 @@ module _ (second third : ℕ) where
 
   one_is : (first : ℕ) → first < 256 → decoded_as of_row first ≡ decoded_as of_bytes first
   one_is first f =
-      grind (
-        arith,
-        common_steps,
-        all_are,
-        get_or-map-range_with_len (decoded_as of_row) 0 256 first first None f,
-        get_or-map-range_with_len (decoded_as of_bytes) 0 256 first first None f,
-      )
+      let row = get_or-map-range_with_len (decoded_as of_row) 0 256 first first None f in
+      let bytes = get_or-map-range_with_len (decoded_as of_bytes) 0 256 first first None f in
+      grind (arith, common_steps, all_are)
 
 module _ (first second third : ℕ) (f : first < 256) (s : second < 256) (t : third < 256) where
   written_is : (b c : Bool) → written_by second third first b c ≡ first ∷ second ∷ third ∷ []
   written_is b c = grind (arith, common_steps)
 
   field_fits : (at : Field) (byte : ℕ) → FitsIn at (in_field second third first at byte)
-  field_fits field.Data16 byte = omega arith
-  field_fits field.Addr16 byte = omega arith
-  field_fits field.Addr11 byte = omega arith
-  field_fits at byte = one_of (byte == 1)
-    where
-      one_of : (b : Bool) → cond b second third < 256
-      one_of true = s
-      one_of false = t
+  field_fits at byte = grind (arith, common_steps)
 
   slot_fits : (x : Slot) → is_fit x ≡ true → number_of_slot x ≡ in_slot second third first x → FitsSlot x
-  slot_fits (R n) fit e = ltb-true n 8 fit
-  slot_fits (AtR n) fit e = ltb-true n 2 fit
-  slot_fits (Imm x) fit e = subst (FitsIn x.field) (sym e) (field_fits x.field x.byte)
-  slot_fits (Plain x) fit e = subst (FitsIn x.field) (sym e) (field_fits x.field x.byte)
-  slot_fits (NotBit x) fit e = subst (FitsIn x.field) (sym e) (field_fits x.field x.byte)
-  slot_fits x fit e = tt
+  slot_fits (Imm x) fit e = rw e (field_fits x.field x.byte)
+  slot_fits (Plain x) fit e = rw e (field_fits x.field x.byte)
+  slot_fits (NotBit x) fit e = rw e (field_fits x.field x.byte)
+  slot_fits x fit e = grind (arith, common_steps)
 
   by_row : (o : Option Instr)
       → option_map (of_row second third first) o ≡ option_map (of_bytes second third first) o
@@ -174,9 +158,9 @@ pub rows_usual : (i : Instr) → (is_usual (text_of i).first ≡ true) × (is_us
 rows_usual i = grind (arith, common_steps)
 
 -- a target that is written as a label or as a number
-pub data LeadsTo (address : ℕ) (t : Target) : Type 0 where
-  ByLabel : t ≡ target.Label address → LeadsTo address t
-  ByNumber : t ≡ target.Number address → LeadsTo address t
+pub record LeadsTo (address : ℕ) (t : Target) : Type 0 where
+  pub label : Bool
+  pub is : t ≡ cond label (target.Label address) (target.Number address)
 
 -- the address to which an operand leads, if there is one, is that of the target
 abbrev pub IsLed : Target → Option ℕ → Type 0
@@ -200,16 +184,11 @@ unfolding address_by
 one_leads next Nop = refl
 one_leads next i = refl
 
-written_as : (address : ℕ) (b : Bool) → LeadsTo address (cond b (target.Label address) (target.Number address))
-written_as address true = ByLabel refl
-written_as address false = ByNumber refl
-
 nowhere : (t : Target) → IsLed t None
 nowhere t address e = absurd (cc e)
 
 leads_to : (begin : List ℕ) (o : Option ℕ) → IsLed (written_target begin o) o
-leads_to begin o address e =
-    subst (λ x. LeadsTo address (written_target begin x)) (sym e) (written_as address (is_among begin address))
+leads_to begin o address e = rw e (record { label = is_among begin address; is = refl })
 
 by_option : (begin : List ℕ) (a b c : Option ℕ) → at_most_one a b c ≡ true
     → let t = written_target begin (option_or a (option_or b c)) in IsLed t a × IsLed t b × IsLed t c

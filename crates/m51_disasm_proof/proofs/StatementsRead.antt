@@ -1,10 +1,9 @@
 -- Each line of a disassembly is short, and is read as the statement that is meant.
-use Rattle.m51_disasm_proof.proofs.Common.{◌%◌, ◌&&◌, ◌++◌, ◌+◌, ◌<◌, ◌∙◌, ◌∷◌, ◌≡◌, ◌≤◌, AtR, Content, Field, Imm}
-use Rattle.m51_disasm_proof.proofs.Common.{Instr, IsSlot, IsSound, List, None, Nop, NotBit, Nothing, Ok, Option, Plain}
-use Rattle.m51_disasm_proof.proofs.Common.{R, Slot, Some, SourceLine, Target, Word, [], ap, append-nil, append_assoc}
-use Rattle.m51_disasm_proof.proofs.Common.{arith, body_of, byte_text, codes, common_steps, false, is_character}
-use Rattle.m51_disasm_proof.proofs.Common.{label_text, length, length-append, list_all, map, meant, name_of, option_map}
-use Rattle.m51_disasm_proof.proofs.Common.{refl, subst, sym, symbol, text_of, true, word_text, ℕ}
+use Rattle.m51_disasm_proof.proofs
+use proofs.Common.{◌%◌, ◌&&◌, ◌++◌, ◌+◌, ◌<◌, ◌∙◌, ◌∷◌, ◌≡◌, ◌≤◌, Content, Field, Imm, Instr, IsSound, List, None, Nop}
+use proofs.Common.{NotBit, Nothing, Ok, Option, Plain, Slot, Some, SourceLine, Target, [], ap, append-nil, append_assoc}
+use proofs.Common.{arith, body_of, codes, common_steps, false, label_text, length, length-append, list_all, map, meant}
+use proofs.Common.{name_of, option_map, refl, text_of, true, ℕ}
 use Rattle.std.proofs.lemmas.List.Folds.{list_all-append}
 use Rattle.m51_cells.proofs.NameLaws.{named_is_name}
 use Rattle.m51_cells.specs.declared.kind.Kind.TheVariants as kind
@@ -12,7 +11,7 @@ use Rattle.m51_isa.specs.declared.slot.Field.TheVariants as field
 use Rattle.m51_expr.specs.Tree as tree
 use Rattle.m51_expr.specs.declared.symbol.Symbol.TheVariants as symbols
 use Rattle.m51_stmt.proofs.Derives.{statement_reads}
-use Rattle.m51_stmt.proofs.LineCuts.{IsCutInto, Stands, after_blank, after_word, no_words, words_read}
+use Rattle.m51_stmt.proofs.LineCuts.{IsCutInto, Stands, Word, after_blank, after_word, no_words, symbol, words_read}
 use Rattle.m51_stmt.proofs.PrintedBodies.{IsBody, body_said, body_words}
 use Rattle.m51_stmt.proofs.PrintedParts.{name_symbol}
 use Rattle.m51_stmt.proofs.PrintedStatements.{labelled, name_line}
@@ -23,15 +22,15 @@ use Rattle.m51_stmt.specs.Grammar as grammar
 use Rattle.m51_stmt.specs.Lines.{any_line, statement, token_line}
 use Rattle.m51_stmt.specs.Statement as body
 use Rattle.m51_stmt.specs.Statement.{BodyTree}
-use Rattle.m51_disasm.specs.Texts.{content_text, data_text, label_front, line_text, operand_after, operand_text}
-use Rattle.m51_disasm.specs.Texts.{plain_text, spelled, statement_text, target_text}
+use Rattle.m51_disasm.specs.Texts.{byte_text, content_text, data_text, label_front, line_text, operand_after}
+use Rattle.m51_disasm.specs.Texts.{operand_text, plain_text, spelled, statement_text, target_text, word_text}
 use Rattle.m51_disasm.specs.declared.line.SourceLine.TheVariants as line
 use Rattle.m51_disasm.specs.declared.line.Target.TheVariants as target
 use Rattle.m51_disasm.specs.declared.statement.Content.TheVariants as content
+use Rattle.m51_text.specs.Said.{is_character}
 use Rattle.m51_disasm_proof.specs.Meaning.{without_label}
-use Rattle.m51_disasm_proof.specs.Sound.{IsAddress, IsContent, IsLabel, IsTarget}
-use Rattle.m51_disasm_proof.proofs.InstructionsCut.{byte_stands, code_cut, is_code}
-use Rattle.m51_disasm_proof.proofs.MeantLines.{label_is_free}
+use Rattle.m51_disasm_proof.specs.Sound.{IsAddress, IsContent, IsLabel, IsSlot, IsTarget}
+use proofs.InstructionsCut.{byte_stands, code_cut, is_code, label_is_free}
 
 -- a text of at most this number of bytes, all of which are allowed in a line
 pub record IsShort (most : ℕ) (text : List ℕ) : Type 0 where
@@ -75,13 +74,11 @@ sign_short c is = record { few = omega arith; allowed = ap (λ b. b && true) is 
 
 operand_short : (t : Target) (s : Slot) → IsSlot t s → IsShort 7 (operand_text t s)
 unfolding operand_text
-operand_short t (R n) is = record { few = omega arith; allowed = grind (arith, common_steps) }
-operand_short t (AtR n) is = record { few = omega arith; allowed = grind (arith, common_steps) }
 operand_short t (Imm f) is = joined (sign_short 0x23 refl) (data_short f.field f.number is)
-operand_short t (Plain f) is = let short = plain_short t f.field f.number is in
-    record { few = omega arith; allowed = short.allowed }
+operand_short t (Plain f) is =
+    let short = plain_short t f.field f.number is in record { few = omega arith; allowed = short.allowed }
 operand_short t (NotBit f) is = joined (sign_short 0x2F refl) (byte_short (f.number % 256) (omega arith))
-operand_short t s is = record { few = omega arith; allowed = refl }
+operand_short t s is = record { few = omega arith; allowed = grind (arith, common_steps) }
 
 after_short : (c : ℕ) (t : Target) (s : Slot) → is_character c ≡ true → IsSlot t s
     → IsShort 8 (operand_after (c ∷ []) t s)
@@ -95,8 +92,7 @@ mnemonic_short i = record { few = omega arith; allowed = refl }
 
 content_short : (t : Target) (c : Content) → IsContent t c → IsShort 29 (content_text t c)
 unfolding content_text spelled
-content_short t (content.Byte byte) is = let short = byte_short byte is in
-    record { few = omega arith; allowed = short.allowed }
+content_short t (content.Byte byte) is = record { few = omega arith; allowed = (byte_short byte is).allowed }
 content_short t (content.Code i) is =
     joined (joined (joined (mnemonic_short i) (after_short 0x20 t (text_of i).first refl is.first))
     (after_short 0x2C t (text_of i).second refl is.second)) (after_short 0x2C t (text_of i).third refl is.third)
@@ -110,33 +106,24 @@ front_short (Some address) is = joined {n = 2} (label_short address is) (record 
 pub line_short : (l : SourceLine) → IsSound l → IsShort 37 (line_text l)
 unfolding line_text statement_text
 line_short line.Nomod51 is = record { few = omega arith; allowed = refl }
-line_short (line.Segment base) is = let short = word_short base is in
-    record { few = omega arith; allowed = short.allowed }
-line_short (line.Statement s) is =
-    joined (front_short s.label is.label) (content_short s.target s.content is.content)
+line_short (line.Segment base) is = record { few = omega arith; allowed = (word_short base is).allowed }
+line_short (line.Statement s) is = joined (front_short s.label is.label) (content_short s.target s.content is.content)
 line_short line.End is = record { few = omega arith; allowed = refl }
 
--- a text that begins with a name
-record Begins (line : List ℕ) : Type 0 where
-  name : List ℕ
-  rest : List ℕ
-  is : line ≡ name ++ rest
-  written : name_of name ≡ Some name
-
-begun_line : (line : List ℕ) → Begins line → any_line line ≡ token_line line
-begun_line line b = subst (λ l. any_line l ≡ token_line l) (sym b.is)
-    (name_line b.name b.rest (named_is_name b.name b.name b.written))
+-- a line that begins with a name is one of tokens
+named_line : (name rest : List ℕ) → name_of name ≡ Some name → any_line (name ++ rest) ≡ token_line (name ++ rest)
+named_line name rest is = name_line name rest (named_is_name name name is)
 
 -- what a line says after its label: its words are those of a body of the grammar
 record IsReadBody (text : List ℕ) (b : BodyTree) : Type 0 where
-  begins : Begins text
+  tokens : any_line text ≡ token_line text
   good : (at : ℕ) → IsBody at b
   cut : IsCutInto text (map symbol (body_words b))
 
 -- without a label
 bare_read : {text : List ℕ} {b : BodyTree} → IsReadBody text b → any_line text ≡ Ok (without_label b)
 bare_read {text} {b} r =
-    begun_line text r.begins
+    r.tokens
     ∙ words_read (without_label b) r.cut
     (statement_reads (map symbol (body_words b)) (without_label b)
     (grammar.Bare (body_said false 0 (λ _. refl) b (r.good 0))))
@@ -147,10 +134,7 @@ labelled_read address {text} {b} h r =
     let name = label_text address in
     let free = label_is_free address h in
     let said = map symbol (body_words b) in
-    let begins : Begins (name ++ (codes ": " ++ text)) =
-    record { name = name; rest = codes ": " ++ text; is = refl; written = free.leaf.written } in
-    ap any_line (append_assoc name (codes ": ") text)
-    ∙ begun_line (name ++ (codes ": " ++ text)) begins
+    ap any_line (append_assoc name (codes ": ") text) ∙ named_line name (codes ": " ++ text) free.leaf.written
     ∙ words_read (labelled name b)
     (after_word (name_stands free.leaf.written refl) (after_word (sign_stands {c = 0x3A} refl) (after_blank r.cut)))
     (ap (λ s. statement (s ∷ symbols.Colon ∷ said)) (name_symbol name free.leaf)
@@ -159,32 +143,20 @@ labelled_read address {text} {b} h r =
 
 -- a word at the end of a line
 last_word : {w : Word} → Stands w [] → IsCutInto w.text (symbol w ∷ [])
-last_word {w} is = subst (λ l. IsCutInto l (symbol w ∷ [])) (append-nil w.text) (after_word is no_words)
+last_word is = rw append-nil at (after_word is no_words)
 
 content_read : (t : Target) (c : Content) → IsContent t c → IsReadBody (content_text t c) (body_of t c)
 unfolding content_text spelled
-content_read t (content.Byte byte) h =
-    let few : byte < 65536 = omega arith in
-    record {
-      begins = record { name = codes "DB"; rest = 32 ∷ byte_text byte; is = refl; written = refl };
-      good = λ at. (few, tt);
-      cut = after_word (name_stands {text = codes "DB"} refl refl) (after_blank (last_word (byte_stands h refl)));
-    }
-content_read t (content.Code i) h =
-    let m = (text_of i).mnemonic in
-    let a = operand_after (codes " ") t (text_of i).first in
-    let b = operand_after (codes ",") t (text_of i).second in
-    let c = operand_after (codes ",") t (text_of i).third in
-    record {
-      begins = record {
-        name = m;
-        rest = a ++ (b ++ c);
-        is = simp append_assoc;
-        written = (is_code t i h).written;
-      };
-      good = λ at. is_code t i h;
-      cut = code_cut t i h;
-    }
+content_read t (content.Byte byte) h = record {
+  tokens = named_line (codes "DB") _ refl;
+  good = λ at. (omega arith, tt);
+  cut = after_word (name_stands {text = codes "DB"} refl refl) (after_blank (last_word (byte_stands h refl)));
+}
+content_read t (content.Code i) h = record {
+  tokens = simp append_assoc (named_line (text_of i).mnemonic _ (is_code t i h).written);
+  good = λ at. is_code t i h;
+  cut = code_cut t i h;
+}
 
 statement_read : (label : Option ℕ) (t : Target) (c : Content) → IsLabel label → IsContent t c
     → any_line (label_front label ++ content_text t c)
@@ -196,9 +168,9 @@ statement_read (Some address) t c l h = labelled_read address l (content_read t 
 -- CSEG AT
 segment_read : (base : ℕ) → base < 65536
     → IsReadBody (codes "CSEG AT " ++ word_text base) (body.Select kind.Code (Some (tree.Number base)))
-unfolding directive_of select_of
+unfolding any_line directive_of select_of
 segment_read base h = record {
-  begins = record { name = codes "CSEG"; rest = codes " AT " ++ word_text base; is = refl; written = refl };
+  tokens = refl;
   good = λ at. (refl, h);
   cut = after_word (name_stands {text = codes "CSEG"} refl refl)
       (after_blank (after_word (name_stands {text = codes "AT"} refl refl)
@@ -206,8 +178,9 @@ segment_read base h = record {
 }
 
 end_read : IsReadBody (codes "END") body.End
+unfolding any_line
 end_read = record {
-  begins = record { name = codes "END"; rest = []; is = refl; written = refl };
+  tokens = refl;
   good = λ at. tt;
   cut = last_word (name_stands {text = codes "END"} refl refl);
 }

@@ -1,9 +1,9 @@
-use Rattle.m51_asm.proofs.Common.{◌≡◌, ◌||◌, map, length, refl, ap, sym, ◌∙◌, add-one, arith, length-map, line_tree}
-use Rattle.m51_asm.proofs.Common.{body_of}
+use Rattle.m51_asm.proofs
+use proofs.Common.{◌||◌, map, refl, ap, sym, ◌∙◌, add-one, arith, length-map, line_tree, body_of}
 use Rattle.m51_asm.specs.Parts.{is_selected}
-use Rattle.m51_asm.proofs.AnsweredLines.{read_at}
-use Rattle.m51_asm.proofs.SelectedBanks.{selected_more}
-use Rattle.m51_asm.proofs.banks.is_selected.Goals as goal
+use proofs.AnsweredLines.{read_at}
+use proofs.ToldLines.{selected_more}
+use proofs.banks.is_selected.Goals as goal
 
 pub loop-k-init : goal.loop-k-init
 unfolding is_selected
@@ -18,7 +18,4 @@ loop-k-preserved c = λ a places.
     (c.loop-k.invariant a places) r.1.selected (ap body_of (sym r.0)))
 
 pub returns : goal.returns
-returns c = λ a places.
-    let same : c.loop-k.k ≡ length (map line_tree c.args.lines.now) =
-    omega (arith, length-map c.args.lines.now line_tree) in
-    c.loop-k.invariant a places ∙ ap (is_selected (map line_tree c.args.lines.now) a c.args.bank) same
+returns c = grind (arith, length-map)

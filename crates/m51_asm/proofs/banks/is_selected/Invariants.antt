@@ -1,6 +1,7 @@
-use Rattle.m51_asm.proofs.Common.{◌≡◌, map, line_tree, Assignment, ArePlaces}
+use Rattle.m51_asm.proofs
+use proofs.Common.{◌≡◌, map, line_tree, Assignment, ArePlaces}
 use Rattle.m51_asm.specs.Parts.{is_selected}
-use Rattle.m51_asm.proofs.banks.is_selected.Given as goal
+use proofs.banks.is_selected.Given as goal
 
 -- whether one of the lines so far selects it
 abbrev pub invariant-loop-k : goal.invariant-loop-k

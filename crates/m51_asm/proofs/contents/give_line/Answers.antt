@@ -1,28 +1,34 @@
-use Rattle.m51_asm.proofs.Common.{◌++◌, [], ap, sym, ◌∙◌, line_tree, or_next, if_fault, AreNamesAt, fault_among}
+use Rattle.m51_asm.proofs
+use Rattle.m51_asm.specs
+use proofs.Common.{◌≡◌, ◌++◌, [], ap, ◌∙◌, line_tree, located_value, here_at, here_of, or_next, body_of, if_fault}
+use proofs.Common.{AreNamesAt, fault_among, arith}
 use Rattle.m51_emit.specs.Lines.{row_by}
-use Rattle.m51_asm.specs.ObjectNames.{object_names}
-use Rattle.m51_asm.specs.Publishing.{published_by, publics_among}
-use Rattle.m51_asm.proofs.FinalNames.{names_of, names_are}
-use Rattle.m51_asm.proofs.PublishedNames.{published_is}
-use Rattle.m51_asm.proofs.GivenLines.{next_given, content_is, unfaulted}
-use Rattle.m51_asm.proofs.contents.give_line.Goals as goal
+use specs.ObjectNames.{object_names}
+use specs.Publishing.{published_by, publics_among}
+use proofs.ToldLines.{place_is, names_of, object_names_are}
+use proofs.PublishedNames.{published_is}
+use proofs.GivenLines.{next_given, content_is, unfaulted}
+use proofs.contents.give_line.Goals as goal
 
 pub returns-clause-given : goal.returns-clause-given
 returns-clause-given c = λ lines a k ready is stands h.
     let t = c.args.text.now in
     let line = line_tree c.args.line.now in
     let n = names_of t c.args.contents.now.set c.args.place.now.bank c.here_of-here.result in
+    let here : located_value c.here_of-here.result ≡ here_at a k =
+    c.here_of-here.ensures ∙ ap (λ s. here_of s c.args.place.now.offset) c.segment.ensures
+    ∙ place_is lines a k line is t ready c.args.place.now stands in
     let names : AreNamesAt lines a k n =
-    names_are lines a k t ready c.args.contents.now.set h.sets c.args.place.now stands c.here_of-here.result
-    c.here_of-here.ensures in
-    let of = published_by t n in
+    object_names_are lines a k t ready c.args.contents.now.set h.sets c.args.place.now stands c.here_of-here.result
+    here in
+    let of = published_by n in
     let told = c.in_ok-told.ensures (a.form k)
-    (c.row_by-row.ensures ∙ ap (λ form. row_by form line.stmt.body) stands.form) in
+    (c.row_of_code-row.ensures ∙ stands.row ∙ ap (λ l. row_by (a.form k) (body_of l)) is) in
     let content = ap (λ l. l.content) told in (
       content_is lines a k line is (object_names n) names.meanings
           c.in_ok-told.told.content content,
       next_given lines a k line is c.args.contents.now _ h (object_names n) names.meanings of
-          (λ i name. published_is lines a t ready k n names name i) c.row_at.result c.in_ok-told.told.content
+          (λ i name. published_is lines a t ready k _ _ _ names name i) c.row_at.result c.in_ok-told.told.content
           (c.in_ok-take_set.ensures lines a k is stands h.sets)
           (ap (λ l. l.made) told)
           (c.in_ok-unpublished.ensures.publics ∙ ap (λ ns. c.args.contents.now.publics ++ publics_among of ns)
@@ -32,11 +38,9 @@ returns-clause-given c = λ lines a k ready is stands h.
           (c.or_next.ensures ∙ (λ i. or_next ((ap (λ l. l.fault) told) i)
           ((c.in_ok-unpublished.ensures.fault ∙ ap (fault_among of) c.publics_in.ensures) i))))
           c.in_ok-push.ensures.ok
-          (c.row_at.ensures lines a k ready.fits stands)
+          (c.row_at.ensures a k (ap (λ v. v.number) here))
           content,
     )
 
 pub returns-clause-faults : goal.returns-clause-faults
-returns-clause-faults c = λ none.
-    (unfaulted (line_tree c.args.line.now) c.or_next.result c.args.contents.now.faults
-    (sym c.in_ok-push_fault.ensures ∙ none)).0
+returns-clause-faults c = grind (arith, unfaulted)

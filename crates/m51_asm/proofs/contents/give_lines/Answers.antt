@@ -1,15 +1,15 @@
-use Rattle.m51_asm.proofs.Common.{◌≤◌, ◌≡◌, ◌==◌, map, length, ap, sym, subst, ◌∙◌, add-one, arith, length-map}
-use Rattle.m51_asm.proofs.Common.{line_tree, TextSegment, IsGivenTo, nothing_gathered, gathered_before, number_at}
+use Rattle.m51_asm.proofs
+use proofs.Common.{◌≤◌, ◌≡◌, ◌==◌, map, length, ap, sym, subst, ◌∙◌, add-one, arith, length-map, line_tree, IsGivenTo}
+use proofs.Common.{nothing_gathered, number_at}
 use Rattle.m51_text.proofs.Telling.{is_nothing}
 use Rattle.m51_emit.specs.Within.{LieInside}
 use Rattle.m51_emit.specs.declared.content.EmittedContent.{EmittedContent}
-use Rattle.m51_asm.proofs.AnAssignment.{fitting, fits}
+use proofs.AnAssignment.{fitting, fits}
 use Rattle.std.proofs.lemmas.Option.{slice_get_within}
-use Rattle.m51_asm.proofs.AnsweredLines.{read_at}
-use Rattle.m51_asm.proofs.GivenLines.{first_given}
-use Rattle.m51_asm.proofs.GatheredLines.{placed_text, segments_few, first_gathered, next_gathered, given_fits}
-use Rattle.m51_asm.proofs.GatheredLines.{line_lies}
-use Rattle.m51_asm.proofs.contents.give_lines.Goals as goal
+use proofs.AnsweredLines.{read_at}
+use proofs.GivenLines.{first_given}
+use proofs.GatheredLines.{placed_text, segments_few, first_gathered, next_gathered, given_fits, line_lies}
+use proofs.contents.give_lines.Goals as goal
 
 pub nothing_gathered-requires : goal.nothing_gathered-requires
 nothing_gathered-requires c =
@@ -79,8 +79,7 @@ loop-k-preserved c =
           c.index-lines-k.is _ in
           next_gathered lines a (placed_text lines a t c.requires.text ready) k _ _
           c.in_ok-content.content t.numbering.now.segments c.loop-k.gathered.items _ ready.numbered.segments
-          (ap (λ (s : TextSegment). number_at t.numbering.now.numbers s.id) r.1.segment
-          ∙ ready.numbered.each (a.segment k).id)
+          (ap (number_at t.numbering.now.numbers) r.1.segment ∙ ready.numbered.each (a.segment k).id)
           r.1.offset (c.in_ok-content.ensures.given lines a k ready r.0 r.1 (c.loop-k.invariant.0 a f)).0
           (c.loop-k.invariant.1 (c.in_ok-content.ensures.faults none) a f)
           (c.in_ok-gather_line.ensures (c.is_empty-is_clean.ensures ∙ ap (λ fs. length fs == 0) none)),
@@ -93,7 +92,4 @@ returns-clause-given c = λ a f.
     subst (λ n. IsGivenTo lines a n c.loop-k.contents) same (c.loop-k.invariant.0 a f)
 
 pub returns-clause-gathered : goal.returns-clause-gathered
-returns-clause-gathered c = λ none a f.
-    let lines = map line_tree c.args.text.now.text.lines.now in
-    let same : c.loop-k.k ≡ length lines = omega (arith, length-map c.args.text.now.text.lines.now line_tree) in
-    c.loop-k.invariant.1 none a f ∙ ap (gathered_before lines a) same
+returns-clause-gathered c = grind (arith, length-map)

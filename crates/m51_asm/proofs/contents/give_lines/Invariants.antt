@@ -1,5 +1,6 @@
-use Rattle.m51_asm.proofs.Common.{◌≡◌, [], map, line_tree, Assignment, Fits, IsGivenTo, gathered_before}
-use Rattle.m51_asm.proofs.contents.give_lines.Given as goal
+use Rattle.m51_asm.proofs
+use proofs.Common.{◌≡◌, [], map, line_tree, Assignment, Fits, IsGivenTo, gathered_before}
+use proofs.contents.give_lines.Given as goal
 
 -- what the lines so far give, and where none of them has a fault, what they give to each segment
 abbrev pub invariant-loop-k : goal.invariant-loop-k

@@ -1,5 +1,6 @@
-use Rattle.m51_asm.proofs.Common.{◌≡◌, nothing_gathered}
-use Rattle.m51_asm.proofs.gathering.nothing_gathered.Given as goal
+use Rattle.m51_asm.proofs
+use proofs.Common.{◌≡◌, nothing_gathered}
+use proofs.gathering.nothing_gathered.Given as goal
 
 -- the segments so far
 abbrev pub invariant-loop-index : goal.invariant-loop-index

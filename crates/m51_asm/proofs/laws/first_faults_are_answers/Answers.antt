@@ -1,5 +1,6 @@
-use Rattle.m51_asm.proofs.AnsweredLines.{fault_answer, content_answer}
-use Rattle.m51_asm.proofs.laws.first_faults_are_answers.Goals as goal
+use Rattle.m51_asm.proofs
+use proofs.AnsweredLines.{fault_answer, content_answer}
+use proofs.laws.first_faults_are_answers.Goals as goal
 
 pub returns-clause-fault : goal.returns-clause-fault
 returns-clause-fault c = fault_answer

@@ -1,5 +1,6 @@
-use Rattle.m51_asm.proofs.Common.{◌≡◌, ◌++◌, drop, map, line_tree, externals}
-use Rattle.m51_asm.proofs.naming_lines.externals.Given as goal
+use Rattle.m51_asm.proofs
+use proofs.Common.{◌≡◌, ◌++◌, drop, map, line_tree, externals}
+use proofs.naming_lines.externals.Given as goal
 
 -- what is pushed, before what the lines that are left give, is the whole
 abbrev pub invariant-loop-line : goal.invariant-loop-line

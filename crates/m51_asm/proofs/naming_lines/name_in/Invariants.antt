@@ -1,5 +1,6 @@
-use Rattle.m51_asm.proofs.Common.{◌≡◌, drop, map, line_tree, name_in}
-use Rattle.m51_asm.proofs.naming_lines.name_in.Given as goal
+use Rattle.m51_asm.proofs
+use proofs.Common.{◌≡◌, drop, map, line_tree, name_in}
+use proofs.naming_lines.name_in.Given as goal
 
 -- the lines so far give no name
 abbrev pub invariant-loop-line : goal.invariant-loop-line

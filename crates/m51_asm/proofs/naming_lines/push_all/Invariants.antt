@@ -1,5 +1,6 @@
-use Rattle.m51_asm.proofs.Common.{◌≡◌, ◌++◌, drop, map, external}
-use Rattle.m51_asm.proofs.naming_lines.push_all.Given as goal
+use Rattle.m51_asm.proofs
+use proofs.Common.{◌≡◌, ◌++◌, drop, map, external}
+use proofs.naming_lines.push_all.Given as goal
 
 -- what is pushed, before what is left, is the whole
 abbrev pub invariant-loop-name : goal.invariant-loop-name

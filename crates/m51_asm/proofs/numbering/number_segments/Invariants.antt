@@ -1,7 +1,9 @@
-use Rattle.m51_asm.proofs.Common.{◌+◌, map, line_tree, Assignment, Fits}
-use Rattle.m51_asm.specs.ObjectSegments.{kept_before}
-use Rattle.m51_asm.specs.Numbering.{AreNumbered}
-use Rattle.m51_asm.proofs.numbering.number_segments.Given as goal
+use Rattle.m51_asm.proofs
+use Rattle.m51_asm.specs
+use proofs.Common.{◌+◌, map, line_tree, Assignment, Fits}
+use specs.ObjectSegments.{kept_before}
+use specs.Numbering.{AreNumbered}
+use proofs.numbering.number_segments.Given as goal
 
 -- the lines so far are numbered
 abbrev pub invariant-loop-k : goal.invariant-loop-k

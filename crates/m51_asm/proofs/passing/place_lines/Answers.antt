@@ -1,20 +1,12 @@
-use Rattle.m51_asm.proofs.Common.{◌≡◌, ◌<◌, map, length, ap, sym, subst, ◌∙◌, add-one, arith, length-map, line_tree}
-use Rattle.m51_asm.proofs.Common.{ArePlaces, IsPassedTo}
+use Rattle.m51_asm.proofs
+use proofs.Common.{◌≡◌, map, length, sym, subst, ◌∙◌, add-one, arith, length-map, line_tree, IsPassedTo}
 use Rattle.m51_asm.specs.Placing.{IsLineOutcome}
-use Rattle.m51_asm.proofs.AnsweredLines.{line_at}
-use Rattle.m51_asm.proofs.PassedLines.{reached, no_places, passed_more}
-use Rattle.m51_asm.proofs.passing.place_lines.Goals as goal
+use proofs.AnsweredLines.{line_at}
+use proofs.PassedLines.{reached, no_places, passed_more}
+use proofs.passing.place_lines.Goals as goal
 
 pub loop-k-init : goal.loop-k-init
-loop-k-init c = λ a f.
-    let lines = map line_tree c.args.text.now.lines.now in
-    let none = c.of-places.ensures ∙ c.in_ok-with_capacity.ensures.items in
-    record {
-      free = λ j b. absurd (omega (arith, b));
-      counted = ap length none;
-      each = subst (ArePlaces lines a) (sym none) (no_places lines a);
-      at = c.start-placing.ensures lines a f;
-    }
+loop-k-init c = grind (arith, no_places)
 
 pub returns-then-is_reached : goal.returns-then-is_reached
 returns-then-is_reached c = λ a f.
@@ -22,10 +14,11 @@ returns-then-is_reached c = λ a f.
     (c.loop-k.invariant a f).free
     (sym c.is_reached.ensures ∙ c.if-is_reached.true)
 
+pub returns-in-Fault : goal.returns-in-Fault
+returns-in-Fault c = grind (arith, length-map)
+
 pub step-requires-clause-line : goal.step-requires-clause-line
-step-requires-clause-line c =
-    let within : c.loop-k.k < length c.args.text.now.lines.now = omega arith in
-    line_at c.args.text.now.lines.now c.loop-k.k c.index-lines-k.result within c.index-lines-k.is
+step-requires-clause-line c = grind (arith, line_at)
 
 pub loop-k-preserved : goal.loop-k-preserved
 loop-k-preserved c = λ a f.

@@ -1,5 +1,6 @@
-use Rattle.m51_asm.proofs.Common.{map, line_tree, Assignment, Fits, IsPassedTo}
-use Rattle.m51_asm.proofs.passing.place_lines.Given as goal
+use Rattle.m51_asm.proofs
+use proofs.Common.{map, line_tree, Assignment, Fits, IsPassedTo}
+use proofs.passing.place_lines.Given as goal
 
 -- the lines so far are passed
 abbrev pub invariant-loop-k : goal.invariant-loop-k

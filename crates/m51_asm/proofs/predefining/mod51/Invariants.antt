@@ -1,6 +1,7 @@
-use Rattle.m51_asm.proofs.Common.{◌≡◌, drop, map, line_tree, mod51}
+use Rattle.m51_asm.proofs
+use proofs.Common.{◌≡◌, drop, map, line_tree, mod51}
 use Rattle.m51_asm.specs.Fitting.{mod51_after}
-use Rattle.m51_asm.proofs.predefining.mod51.Given as goal
+use proofs.predefining.mod51.Given as goal
 
 -- what the lines that are left make of it is what all make of it
 abbrev pub invariant-loop-line : goal.invariant-loop-line

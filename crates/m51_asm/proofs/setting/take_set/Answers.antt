@@ -1,7 +1,8 @@
-use Rattle.m51_asm.proofs.Common.{subst, line_tree}
+use Rattle.m51_asm.proofs
+use proofs.Common.{subst, line_tree}
 use Rattle.m51_asm.specs.ValuesAt.{PutsIf}
-use Rattle.m51_asm.proofs.TextValues.{set_next}
-use Rattle.m51_asm.proofs.setting.take_set.Goals as goal
+use proofs.ToldLines.{set_next}
+use proofs.setting.take_set.Goals as goal
 
 pub returns : goal.returns
 returns c = λ lines a k is place before.

@@ -1,5 +1,6 @@
-use Rattle.m51_asm.proofs.ValidParts.{parts_are_valid}
-use Rattle.m51_asm.proofs.valid_laws.parts_are_valid.Goals as goal
+use Rattle.m51_asm.proofs
+use proofs.ValidParts.{parts_are_valid}
+use proofs.valid_laws.parts_are_valid.Goals as goal
 
 pub returns : goal.returns
 returns c = parts_are_valid

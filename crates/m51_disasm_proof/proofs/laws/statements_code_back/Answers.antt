@@ -2,5 +2,4 @@ use Rattle.m51_disasm_proof.proofs.StatementsBack.{statement_gives}
 use Rattle.m51_disasm_proof.proofs.laws.statements_code_back.Goals as goal
 
 pub returns : goal.returns
-returns c = λ image end at bytes begin names segment form stands named.
-    statement_gives image bytes begin end at names segment stands form named
+returns c = statement_gives

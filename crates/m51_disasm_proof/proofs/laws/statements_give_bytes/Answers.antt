@@ -1,8 +1,5 @@
-use Rattle.m51_disasm.specs.Parts.{code_ranges}
-use Rattle.m51_disasm_proof.proofs.PartsInOrder.{parts_in_order}
 use Rattle.m51_disasm_proof.proofs.Reassembled.{statement_gives_bytes}
 use Rattle.m51_disasm_proof.proofs.laws.statements_give_bytes.Goals as goal
 
 pub returns : goal.returns
-returns c = λ l image text sound bytes answer a f.
-    statement_gives_bytes image bytes (code_ranges l) (parts_in_order l sound) a f
+returns c = statement_gives_bytes

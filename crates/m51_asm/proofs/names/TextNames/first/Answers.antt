@@ -1,6 +1,7 @@
-use Rattle.m51_asm.proofs.Common.{ap, ◌∙◌, ℕ, Vec, lookup, bytes_eq, first_in}
-use Rattle.m51_asm.proofs.PublicKeys.{lookup_is}
-use Rattle.m51_asm.proofs.names.TextNames.first.Goals as goal
+use Rattle.m51_asm.proofs
+use proofs.Common.{ap, ◌∙◌, ℕ, Vec, lookup, bytes_eq, first_in}
+use proofs.PublicKeys.{lookup_is}
+use proofs.names.TextNames.first.Goals as goal
 
 pub returns : goal.returns
 returns c =

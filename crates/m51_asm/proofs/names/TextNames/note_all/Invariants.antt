@@ -1,6 +1,7 @@
-use Rattle.m51_asm.proofs.Common.{◌≡◌, ◌||◌, drop}
+use Rattle.m51_asm.proofs
+use proofs.Common.{◌≡◌, ◌||◌, drop}
 use Rattle.m51_asm.specs.Table.{all_noted, any_clash}
-use Rattle.m51_asm.proofs.names.TextNames.note_all.Given as goal
+use proofs.names.TextNames.note_all.Given as goal
 
 -- what is found and noted, with what the definitions that are left give, is the whole
 abbrev pub invariant-loop-name : goal.invariant-loop-name

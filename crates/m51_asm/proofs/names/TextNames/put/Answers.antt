@@ -1,7 +1,8 @@
-use Rattle.m51_asm.proofs.Common.{◌≡◌, ◌++◌, ◌∷◌, [], ap, ◌∙◌, None, first_in}
+use Rattle.m51_asm.proofs
+use proofs.Common.{◌≡◌, ◌++◌, ◌∷◌, [], ap, ◌∙◌, None, first_in}
 use Rattle.m51_asm.specs.Table.{entries_of}
-use Rattle.m51_asm.proofs.PublicKeys.{put_last}
-use Rattle.m51_asm.proofs.names.TextNames.put.Goals as goal
+use proofs.PublicKeys.{put_last}
+use proofs.names.TextNames.put.Goals as goal
 
 pub returns : goal.returns
 returns c =

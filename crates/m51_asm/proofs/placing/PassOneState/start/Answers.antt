@@ -1,9 +1,12 @@
-use Rattle.m51_asm.proofs.Common.{ap, sym, refl, value_in, size_in}
-use Rattle.m51_asm.proofs.PlacedLines.{at_start}
-use Rattle.m51_asm.proofs.placing.PassOneState.start.Goals as goal
+use Rattle.m51_asm.proofs
+use proofs.Common.{map, line_tree, ap, refl, value_in}
+use proofs.SegmentsAt.{start_segments}
+use proofs.PlacedLines.{at_start}
+use proofs.placing.PassOneState.start.Goals as goal
 
 pub returns : goal.returns
-returns c = λ lines a f.
-    at_start lines a f _ (λ name. ap (λ v. value_in v name) c.new-values.ensures)
-    (λ id. ap (λ xs. size_in xs id) c.new-filled.ensures)
-    (sym f.first) c.of_first-last.ensures refl refl refl
+returns c = λ a f.
+    let lines = map line_tree c.args.lines.now in
+    at_start lines a _ (λ name. ap (λ v. value_in v name) c.new.ensures)
+    (start_segments lines a f _ c.in_ok-start.ensures.table c.in_ok-start.ensures.current c.in_ok-start.ensures.last)
+    refl refl refl

@@ -1,10 +1,11 @@
-use Rattle.m51_asm.proofs.Common.{◌≡◌, ap, map, refl, ◌∙◌, line_tree, Giving, definitions_in, brief, value_in, given_or}
+use Rattle.m51_asm.proofs
+use proofs.Common.{◌≡◌, ap, map, refl, ◌∙◌, line_tree, Giving, definitions_in, brief, value_in, given_or}
 use Rattle.std.proofs.Common.{rules}
 use Rattle.m51_stmt.specs.Statement.{stmt_tree}
-use Rattle.m51_asm.proofs.GivenValues.{have_numbers}
-use Rattle.m51_asm.proofs.GoodLines.{free}
-use Rattle.m51_asm.proofs.PlacedLines.{at_next}
-use Rattle.m51_asm.proofs.placing.PassOneState.take_in.Goals as goal
+use proofs.GivenValues.{have_numbers}
+use proofs.GoodLines.{free}
+use proofs.PlacedLines.{at_next}
+use proofs.placing.PassOneState.take_in.Goals as goal
 
 pub take_in-requires-clause-numbers : goal.take_in-requires-clause-numbers
 take_in-requires-clause-numbers c =
@@ -26,4 +27,4 @@ returns c = λ lines a f is none at told counts.
     g refl c.given.ensures refl refl _
     (λ name. c.in_ok-take_in.ensures name
     ∙ ap (λ ds. given_or g ds name (value_in c.args.self.now.values name)) defined)
-    c.in_ok-set.ensures c.note.ensures refl c.bank-self.ensures refl refl
+    c.leave_open.ensures.table c.leave_open.ensures.current c.leave_open.ensures.last c.bank-self.ensures refl refl

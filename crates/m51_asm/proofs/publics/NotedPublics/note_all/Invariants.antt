@@ -1,6 +1,7 @@
-use Rattle.m51_asm.proofs.Common.{◌≡◌, ◌||◌, drop}
+use Rattle.m51_asm.proofs
+use proofs.Common.{◌≡◌, ◌||◌, drop}
 use Rattle.m51_asm.specs.Table.{all_public, any_public}
-use Rattle.m51_asm.proofs.publics.NotedPublics.note_all.Given as goal
+use proofs.publics.NotedPublics.note_all.Given as goal
 
 -- what is found and noted, with what the names that are left give, is the whole
 abbrev pub invariant-loop-name : goal.invariant-loop-name

@@ -1,7 +1,8 @@
-use Rattle.m51_asm.proofs.Common.{ap, ◌∙◌, ℕ, Vec, lookup, bytes_eq, value_in}
+use Rattle.m51_asm.proofs
+use proofs.Common.{ap, ◌∙◌, ℕ, Vec, lookup, bytes_eq, value_in}
 use Rattle.m51_asm.specs.Values.{known}
-use Rattle.m51_asm.proofs.GivenValues.{lookup_value}
-use Rattle.m51_asm.proofs.valuation.Values.get.Goals as goal
+use proofs.GivenValues.{lookup_value}
+use proofs.valuation.Values.get.Goals as goal
 
 pub returns : goal.returns
 returns c =

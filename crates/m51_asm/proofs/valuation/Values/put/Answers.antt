@@ -1,7 +1,8 @@
-use Rattle.m51_asm.proofs.Common.{◌≡◌, cond, ap, ◌∙◌, bytes_eq, value_in}
+use Rattle.m51_asm.proofs
+use proofs.Common.{◌≡◌, cond, ap, ◌∙◌, bytes_eq, value_in}
 use Rattle.m51_asm.specs.Values.{valuation_of}
-use Rattle.m51_asm.proofs.GivenValues.{put_value}
-use Rattle.m51_asm.proofs.valuation.Values.put.Goals as goal
+use proofs.GivenValues.{put_value}
+use proofs.valuation.Values.put.Goals as goal
 
 pub returns : goal.returns
 returns c =

@@ -44,6 +44,7 @@ module _ (fault : ℕ → Option ℕ) where
             low up. earlier j (omega arith) up),
       )
 
+-- the fault of the first line that has one by the lines above it is the answer
 pub fault_answer : (file : List ℕ) (lines : List LineTree) (a : Assignment) (k number : ℕ) (line : LineTree)
     → slice_get lines k ≡ Some line
     → IsFirstFault lines a k number → answer_of_lines file lines a ≡ Faults (fault_of_line line number ∷ [])
@@ -52,6 +53,7 @@ fault_answer file lines a k number line is h =
     cc (fault_first (placed_fault lines a) lines 0 k k line number is (omega arith) h.found (λ j low up. h.earlier j
     up))
 
+-- where no line has one, the answer is that of the content
 pub content_answer : (file : List ℕ) (lines : List LineTree) (a : Assignment) → AreFree lines a (length lines)
     → answer_of_lines file lines a ≡ content_or_faults file lines a (content_faults lines a)
 unfolding answer_of_lines
@@ -66,6 +68,7 @@ one_answer file (Lines lines) = record {
   only = λ other h. h (fitting lines) (fits lines);
 }
 
+-- a line that is read in a loop over the lines of a text
 pub line_at : (lines : List Line) (k : ℕ) (line : Line) → k < length lines → line ≡ get_or lines k line
     → slice_get (map line_tree lines) k ≡ Some (line_tree line)
 line_at lines k line within is =

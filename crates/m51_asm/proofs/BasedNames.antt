@@ -173,6 +173,7 @@ module _ (lines : List LineTree) (a : Assignment) (f : Fits lines a) where
   good : {n : ℕ} {k : Kind} {b : Base} → D b → IsBased D (whole n k b)
   good d = record { base_is = d; bit_is = λ i e. absurd (cc e) }
 
+  -- the place of a line counts from a segment of the text
   pub place_good : (k : ℕ) → IsBased D (here_at a k)
   place_good k = good (ap (λ (s : TextSegment). s.id) (known lines a f k).same)
 

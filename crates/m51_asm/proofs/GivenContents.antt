@@ -150,6 +150,7 @@ module _ (lines : List LineTree) (a : Assignment) (c : IsClean lines a) where
   pub given : (k : ℕ) → k < length lines → IsLineGiven lines a k
   given k below = grind (arith, given_at)
 
+  -- no more fixups are made than a module may have
   pub made_most : (k : ℕ) → k ≤ length lines → made_before lines a k ≤ 65535
   unfolding made_before
   made_most zero within = omega arith

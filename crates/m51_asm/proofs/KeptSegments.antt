@@ -36,11 +36,13 @@ pub stays : (lines : List LineTree) (a : Assignment) → Fits lines a → (k : �
 unfolding size_at segment_behind
 stays lines a f k = grind arith
 
+-- what a line gives to its own segment
 pub filled_here : (lines : List LineTree) (a : Assignment) (id k : ℕ) → ((a.segment k).id == id) ≡ true
     → filled lines a id (suc k) ≡ filled lines a id k + size_at lines a k
 unfolding filled
 filled_here lines a id k e = rw e refl
 
+-- a line gives nothing to another segment
 pub filled_there : (lines : List LineTree) (a : Assignment) (k id : ℕ) → ((a.segment k).id == id) ≡ false
     → filled lines a id (suc k) ≡ filled lines a id k
 unfolding filled
@@ -121,6 +123,7 @@ found (x ∷ xs) id ne = elim (cases_eq x.id id) [
       (r.0, inr r.1, r.2)
 ]
 
+-- a number other than 0 leads to a segment of the module
 pub has_number : (xs : List Kept) → Ascend xs → (id : ℕ) → number_in xs id ≢ 0 → IsNumbered xs id
 unfolding number_in
 has_number xs h id ne = grind (arith, found, leads_to)

@@ -32,6 +32,7 @@ pub record Declares (b : BodyTree) (k : Kind) : Type 0 where
 abbrev pub defined_there : ℕ → Definition → Option (ℕ × Definition)
 defined_there line d = Some (line, d)
 
+-- a definition of some lines is of the first of them or of a later one
 pub later_is : (n : ℕ) (f : Option Definition) (later : Option (ℕ × Definition)) (line : ℕ) (d : Definition)
     → or_later n f later ≡ defined_there line d
     → ((n ≡ line) × (f ≡ Some d)) ⊎ (later ≡ defined_there line d)

@@ -137,6 +137,7 @@ none_numbered p q = coe 1 0 (i. AreNumbered [] 1 (p i) (q i)) (record { same = r
     each zero = refl
     each (suc id) = refl
 
+-- the first segment is not too many
 pub few_first : (before : ℕ) (o : Option Segment) → before ≡ 0 → before + length (as_list o) ≤ 254
 few_first before (Some s) h = omega (arith, h)
 few_first before None h = omega (arith, h)
@@ -178,6 +179,7 @@ module _ (lines : List LineTree) (a : Assignment) (f : Fits lines a) (entries : 
         cc (h.sizes (k + 2), nothing_filled lines a (k + 2) (length lines) other, ne_eqb _ _ ne)
   ]
 
+  -- the segments with what one more line adds
   pub kept_more : (o : Option Segment) (body : BodyTree)
       → o ≡ segment_added (segment_in entries (k + 2)) (size_in entries (k + 2)) body → body ≡ body_at lines k
       → kept_before lines a k ++ kept_as (k + 2) o ≡ kept_before lines a (suc k)

@@ -1,10 +1,10 @@
 -- Pass 1 line by line: where it stops, and how one more line is passed.
 use Rattle.m51_asm.proofs
 use Rattle.m51_asm.specs
-use proofs.Common.{◌≡◌, ℕ, zero, suc, ◌<◌, true, List, [], ◌∷◌, ◌++◌, length, Option, Some, None, refl, ap, sym, subst}
-use proofs.Common.{◌∙◌, slice_get, arith, length-append, LineTree, PassOneState, LinePlace, Assignment, IsAt, IsPlaceOf}
-use proofs.Common.{AreFree, IsFirstFault, ArePlaces, IsPassedTo}
-use Rattle.std.proofs.lemmas.Bool.{leb-true}
+use proofs.Common.{◌≡◌, ℕ, zero, suc, ◌<◌, true, false, List, [], ◌∷◌, ◌++◌, length, Option, Some, None, refl, ap, sym}
+use proofs.Common.{subst, ◌∙◌, slice_get, arith, length-append, LineTree, PassOneState, LinePlace, Assignment, IsAt}
+use proofs.Common.{IsPlaceOf, AreFree, IsFirstFault, ArePlaces, IsPassedTo}
+use Rattle.std.proofs.lemmas.Bool.{leb-false, leb-true}
 use Rattle.m51_cells.specs.declared.fault.TheConstants.{DEFINED_TWICE}
 use specs.Repeats.{is_repeated, IsFirstRepeat}
 use specs.PlacedFaults.{placed_fault}
@@ -14,6 +14,12 @@ repeat_is_fault : (lines : List LineTree) (a : Assignment) (k : ℕ) → is_repe
     → placed_fault lines a k ≡ Some DEFINED_TWICE
 unfolding placed_fault
 repeat_is_fault lines a k h = rw h refl
+
+-- a line above the first one that repeats does not
+pub not_reached : (lines : List LineTree) (repeated : Option ℕ) (k : ℕ) → IsFirstRepeat lines repeated
+    → k < length lines → is_reached repeated k ≡ false → is_repeated lines k ≡ false
+not_reached lines None k h b e = h k b
+not_reached lines (Some first) k h b e = h.1 k (leb-false first k e)
 
 -- where no line above has a fault, a line that is not above the first one that repeats is that one
 pub reached : (lines : List LineTree) (a : Assignment) (repeated : Option ℕ) (k : ℕ) → IsFirstRepeat lines repeated

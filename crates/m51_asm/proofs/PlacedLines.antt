@@ -65,6 +65,7 @@ numbers_same : (lines : List LineTree) (a : Assignment) (k : ℕ) (body : BodyTr
 numbers_same lines a k (Segment name kind reloc overlayable) = refl
 numbers_same lines a k body = cc (small_zero (size_at lines a k) (2 ^ 64 - 1) (omega arith))
 
+-- the counts after a line without a fault are within their limits
 pub small_counts : (s : TextSegment) (c : Counts) (misplaced : Bool) (operand : Option ℕ)
     → fault_by (exceeds_end s c.next) misplaced (are_too_many c.segments c.externals) operand ≡ None → AreSmall c
 small_counts s c misplaced operand h =
@@ -152,6 +153,7 @@ module _ {lines : List LineTree} {a : Assignment} {k : ℕ} {s : PassOneState} {
         grown lines a k name line is free.once,
       )
 
+  -- the state after a line
   pub at_next : ((name : List ℕ)
       → value_in n.values name ≡ given_or g (map brief (definitions_in line.stmt)) name (value_in s.values name))
       → n.segments.table ≡ with_entry s.segments.table (text_segment t.next) c.next → n.segments.current ≡ t.next.id

@@ -61,6 +61,7 @@ module _ (lines : List LineTree) (a : Assignment) (t : PlacedText) (h : IsAssign
       from base.None is = refl
       from (base.External external) is = refl
 
+  -- what PUBLIC makes of a name
   pub published_is : (k : ℕ) (set : Valuation) (bank : ℕ) (here : Located ℕ)
       → AreNamesAt lines a k (names_of t set bank here) → (name : List ℕ)
       → published_by (names_of t set bank here) name ≡ published lines a k name
@@ -82,6 +83,7 @@ module _ (lines : List LineTree) (a : Assignment) (k made : ℕ) where
   one_fault (Ok p) names h = h
   one_fault (Err number) names h = refl
 
+  -- the first fault among the names of a PUBLIC
   pub publics_fault : (names : List (List ℕ))
       → fault_among (published lines a k) names
       ≡ leftmost_fault made (map (λ name. public_outcome (published lines a k name)) names)

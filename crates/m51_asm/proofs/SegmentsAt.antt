@@ -1,11 +1,11 @@
 -- The table of the segments of a text: before the first line, as it grows with a line, and after the last one.
 use Rattle.m51_asm.proofs
 use Rattle.m51_asm.specs
-use proofs.Common.{◌≡◌, ◌≢◌, ℕ, zero, suc, ◌+◌, ◌-◌, ◌<◌, ◌≤◌, ◌==◌, nat_lt, Bool, cond, List, length}
-use proofs.Common.{Option, Some, None, option_map, slice_get, refl, ap, sym, subst, ◌∙◌, inl, inr, arith, ne_eqb}
-use proofs.Common.{ltb-true, ltb-false, cases_eq, cases_Bool, length-map, Kind, BodyTree, LineTree, TextSegment}
-use proofs.Common.{Assignment, opening, body_of, body_at, segment_reloc, Fits, segment_by, is_absolute_of, declared_or}
-use proofs.Common.{segment_of, text_segment, above}
+use proofs.Common.{◌≡◌, ◌≢◌, ℕ, zero, suc, ◌+◌, ◌-◌, ◌<◌, ◌≤◌, ◌==◌, nat_lt, Bool, cond, List, length, Option, Some}
+use proofs.Common.{None, option_map, slice_get, refl, ap, sym, subst, ◌∙◌, inl, inr, arith, ne_eqb, ltb-true, ltb-false}
+use proofs.Common.{cases_eq, cases_Bool, length-map, Kind, BodyTree, LineTree, TextSegment, Assignment, opening}
+use proofs.Common.{body_of, body_at, segment_reloc, Fits, segment_by, is_absolute_of, declared_or, segment_of}
+use proofs.Common.{text_segment, above}
 use Rattle.std.specs.Prelude.{unwrap_or}
 use Rattle.std.proofs.lemmas.List.{get_or-set_same, get_or-set_other, length-set}
 use Rattle.std.proofs.lemmas.Option.{unwrap_or-slice_get, slice_get-map, slice_get_past}
@@ -70,6 +70,7 @@ module _ (lines : List LineTree) (a : Assignment) (f : Fits lines a) where
       types (suc zero) = refl
       types (suc (suc k)) = ap (λ e. e.reloc) (declared_at lines k) ∙ type_of (body_at lines k)
 
+  -- the state before the first line
   pub start_segments : (s : SegmentsAbove) → s.table ≡ declared_entries lines → s.current ≡ opening.id
       → ((kind : Kind) → last_id s.last kind ≡ last_with opening (λ k. None) kind) → AreSegmentsAt lines a 0 s
   unfolding last_absolute
@@ -143,6 +144,7 @@ module _ (lines : List LineTree) (a : Assignment) (f : Fits lines a) where
       ];
     }
 
+  -- the state after a line that leaves this segment open
   pub more_segments : (k : ℕ) → k < length lines → (s n : SegmentsAbove) (next : OpenSegment) (size : ℕ)
       → AreSegmentsAt lines a k s → text_segment next ≡ a.segment (suc k)
       → size ≡ filled lines a (a.segment (suc k)).id (suc k) → n.table ≡ with_entry s.table (text_segment next) size

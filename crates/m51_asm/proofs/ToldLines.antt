@@ -36,12 +36,14 @@ use specs.declared.object_names.ObjectNames.{ObjectNames}
 use specs.ObjectMeanings.{object_meanings, final}
 use Rattle.std.proofs.lemmas.Option.{slice_get_within}
 
+-- whether a bank is selected, with one more line
 pub selected_more : (lines : List LineTree) (a : Assignment) (k bank after : ℕ) (body : BodyTree) (before : Bool)
     → before ≡ is_selected lines a bank k → after ≡ bank_before lines a (suc k) → body ≡ body_at lines k
     → (before || selects after bank body) ≡ is_selected lines a bank (suc k)
 unfolding is_selected bank_before
 selected_more lines a k bank after body before h selected is = grind arith
 
+-- the segment that a line leaves open
 pub behind : (lines : List LineTree) (a : Assignment) (k : ℕ)
     → open_behind k (above lines a k) (λ kind. last_absolute a.segment kind k)
     (named_by (λ name. declared lines name k) (body_at lines k)) (a.segment k) (body_at lines k)
@@ -63,11 +65,13 @@ module _ (lines : List LineTree) (segments : List SegmentEntry) (h : HasDeclared
       if_above false e = refl
   told_by k (Some (line, definition)) is = grind arith
 
+  -- the segment that a name of RSEG names
   pub told : (k : ℕ)
       → option_map (segment_in segments) (declared_first k (option_map first_definition (definition_of lines name)))
       ≡ declared lines name k
   told k = told_by k (definition_of lines name) refl
 
+-- the fault of an operand, by the segment that RSEG names
 pub operand_told : (lines : List LineTree) (names : Meanings) (k : ℕ) (body : BodyTree)
     → operand_fault_by names (is_some (named_by (λ name. declared lines name k) body)) body
     ≡ operand_fault lines names k body
@@ -105,6 +109,7 @@ module _ (lines : List LineTree) (a : Assignment) (f : Fits lines a) (k : ℕ) (
               (at.segments.table.sizes s.segments.current ∙ ap (λ id. filled lines a id k) at.segments.current);
         })
 
+    -- what follows for a line from the state above it
     pub told_line : (line : LineTree) → slice_get lines k ≡ Some line → is_repeated lines k ≡ false
         → (table : Table) → IsTableOf lines table → (m : Meanings) → m ≡ above lines a k
         → (named : Option ℕ)

@@ -2,7 +2,7 @@ use Rattle.m51_asm.proofs
 use proofs.Common.{◌≡◌, map, length, sym, subst, ◌∙◌, add-one, arith, length-map, line_tree, IsPassedTo}
 use Rattle.m51_asm.specs.Placing.{IsLineOutcome}
 use proofs.AnsweredLines.{line_at}
-use proofs.PassedLines.{reached, no_places, passed_more}
+use proofs.PassedLines.{not_reached, reached, no_places, passed_more}
 use proofs.passing.place_lines.Goals as goal
 
 pub loop-k-init : goal.loop-k-init
@@ -16,6 +16,11 @@ returns-then-is_reached c = λ a f.
 
 pub returns-in-Fault : goal.returns-in-Fault
 returns-in-Fault c = grind (arith, length-map)
+
+pub step-requires-clause-once : goal.step-requires-clause-once
+step-requires-clause-once c =
+    not_reached (map line_tree c.args.text.now.lines.now) c.args.repeated c.loop-k.k c.requires.repeated
+    (omega (arith, length-map c.args.text.now.lines.now line_tree)) (sym c.is_reached.ensures ∙ c.if-is_reached.false)
 
 pub step-requires-clause-line : goal.step-requires-clause-line
 step-requires-clause-line c = grind (arith, line_at)

@@ -1,7 +1,7 @@
--- Decimal addition by ADD and DA.
-use Rattle.std.specs.Prelude.{◌≡◌, ℕ, ◌+◌, ◌*◌, ◌/◌, ◌%◌, ◌<◌, Bool, false, nat_le}
+-- Decimal addition by ADD or ADDC, and DA.
+use Rattle.std.specs.Prelude.{◌≡◌, ℕ, ◌+◌, ◌*◌, ◌/◌, ◌%◌, ◌<◌, Bool, nat_le}
 use Rattle.m51_alu.specs.declared.sum.Sum.{Sum}
-use Rattle.m51_alu.specs.Arithmetic.{adjusted, sum_of}
+use Rattle.m51_alu.specs.Arithmetic.{adjusted, bit_of, sum_of}
 
 -- two decimal digits in a byte
 abbrev pub digits_of : ℕ → ℕ
@@ -11,8 +11,9 @@ digits_of n = n / 10 * 16 + n % 10
 abbrev pub decimal : Sum → ℕ × Bool
 decimal s = adjusted s.value s.cy s.ac
 
--- ADD and then DA add numbers below a hundred
+-- ADD or ADDC and then DA add numbers below a hundred and a carry
 abbrev pub DecimalSum : Type 0
 DecimalSum =
-    (x y : ℕ) → x < 100 → y < 100
-    → decimal (sum_of (digits_of x) (digits_of y) false) ≡ (digits_of ((x + y) % 100), nat_le 100 (x + y))
+    (x y : ℕ) (carry : Bool) → x < 100 → y < 100
+    → decimal (sum_of (digits_of x) (digits_of y) carry)
+    ≡ (digits_of ((x + y + bit_of carry) % 100), nat_le 100 (x + y + bit_of carry))

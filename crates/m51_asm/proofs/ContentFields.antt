@@ -8,7 +8,8 @@ use proofs.Common.{EmittedContent}
 use Rattle.std.specs.List.{list_all}
 use Rattle.m51_isa.specs.declared.slot.FieldSlot.{FieldSlot}
 use Rattle.m51_isa.specs.Spelling.{field_in, text_of}
-use proofs.Members.{In, Every, Pairs, pairs_weaker}
+use Rattle.m51_cells.proofs.Members.{In, Pairs, every_of}
+use proofs.Members.{pairs_within}
 use Rattle.std.specs.Option.{option_or}
 use Rattle.m51_expr.specs.Evaluation.{value_of}
 use Rattle.m51_expr.specs.Operand.{OperandTree}
@@ -84,9 +85,9 @@ FieldAfter r q = end_of_field r ≤ q.0
 
 -- the references of content lie in its bytes, one after another
 pub record IsContent (names : Meanings) (c : EmittedContent) : Type 0 where
-  pub inside : Every (λ r. end_of_field r ≤ length c.bytes) c.references
+  pub inside : (r : ReferenceAt) → In r c.references → end_of_field r ≤ length c.bytes
   pub order : Pairs FieldAfter c.references
-  pub linked : Every (λ r. IsLinkedBy names r.1) c.references
+  pub linked : (r : ReferenceAt) → In r c.references → IsLinkedBy names r.1
 
 -- what holds of each of these references at its byte
 abbrev EachAt : (ℕ → Reference → Type 0) → ℕ → List (Option Reference) → Type 0
@@ -94,8 +95,8 @@ EachAt P n [] = Unit {0}
 EachAt P n (o ∷ os) = ((r : Reference) → o ≡ Some r → P n r) × EachAt P (suc n) os
 
 record ArePlaced (P : ℕ → Reference → Type 0) (n : ℕ) (ps : List ReferenceAt) : Type 0 where
-  from : Every (λ p. n ≤ p.0) ps
-  each : Every (λ p. P p.0 p.1) ps
+  from : (p : ReferenceAt) → In p ps → n ≤ p.0
+  each : (p : ReferenceAt) → In p ps → P p.0 p.1
   order : Pairs (λ p q. p.0 < q.0) ps
 
 placed : (P : ℕ → Reference → Type 0) (n : ℕ) (os : List (Option Reference)) → EachAt P n os
@@ -113,7 +114,7 @@ placed P n (Some q ∷ os) h =
       ];
       each = λ p i. elim i
           [ inl e ↦ subst (λ (x : ReferenceAt). P x.0 x.1) e (h.0 q refl) | inr j ↦ m.each p j ];
-      order = (λ p i. let f = m.from p i in omega arith, m.order);
+      order = (every_of (λ p. n < p.0) (placed_from (suc n) os) (λ p i. let f = m.from p i in omega arith), m.order);
     }
 
 or_some : (x y : Option Reference) (r : Reference) → option_or x y ≡ Some r → (x ≡ Some r) ⊎ (y ≡ Some r)
@@ -178,7 +179,7 @@ module _ (names : Meanings) (row : Instr) (next : ℕ) where
         let all = placed IsAtByte 0 (references_of a b c) (at_byte 0, (at_byte 1, (at_byte 2, tt))) in
         record {
           inside = λ p i. let l = all.each p i in let end = lie.ends l.slot l.there in omega arith;
-          order = pairs_weaker _ _ _ (λ p q i j less.
+          order = pairs_within _ _ _ (λ p q i j less.
               let l = all.each p i in
               let m = all.each q j in
               let end = lie.orders l.slot m.slot l.there m.there (omega arith) in

@@ -7,8 +7,9 @@ use Rattle.std.proofs.Common.{◌*◌, length-drop}
 use Rattle.std.proofs.lemmas.Bool.{cases_lt}
 use Rattle.m51_module.specs.Validity.{Apart, Touching}
 use Rattle.m51_asm.specs.Pieces.{piece_at}
-use proofs.Members.{In, Pairs, in_map, map_in, in_left, in_right, in_range, range_in, pairs_map, pairs_weaker}
-use proofs.Members.{pairs_range}
+use Rattle.m51_cells.proofs.Members.{In, Pairs, every_of, in_left, in_map, in_range, in_right, map_in, pairs_map}
+use Rattle.m51_cells.proofs.Members.{pairs_range, range_in}
+use proofs.Members.{pairs_within}
 use Rattle.std.proofs.lemmas.Grind.{common_steps}
 
 -- a run that lies between two offsets
@@ -42,7 +43,7 @@ run_in from to (q ∷ more) are r (inr j) = omega (arith, run_in (suc (q.0 + len
 pub runs_pairs : (from to : ℕ) (runs : List Run) → AreRuns from to runs → Pairs IsBefore runs
 runs_pairs from to [] are = tt
 runs_pairs from to (q ∷ more) are = (
-  λ r i. (run_in _ _ _ are.1 r i).0,
+  every_of (IsBefore q) more (λ r i. (run_in _ _ _ are.1 r i).0),
   runs_pairs (suc (q.0 + length q.1)) to more are.1,
 )
 
@@ -88,8 +89,8 @@ of_run segment r i h =
 pub piece_of_run : (segment : ℕ) (r : Run) (p : Piece) → In p (pieces_of_run segment r) → IsOfRun segment r p
 piece_of_run segment r p h =
     let c = in_map _ _ _ h in
-    let i = in_range _ _ _ c.there in
-    subst (IsOfRun segment r) c.is (of_run _ _ _ (omega arith))
+    let i = in_range _ _ _ c.1 in
+    subst (IsOfRun segment r) c.2 (of_run _ _ _ (omega arith))
 
 lie_so : (segment : ℕ) (r : Run) (i j : ℕ) → i < j → j < count r
     → LiesBefore (piece_at segment r i) (piece_at segment r j)
@@ -108,7 +109,7 @@ pub pieces_in_order : (segment : ℕ) (r : Run) → Pairs LiesBefore (pieces_of_
 pieces_in_order segment r =
     let all = range_with_len 0 (count r) in
     pairs_map _ _ _
-    (pairs_weaker _ _ _
+    (pairs_within _ _ _
     (λ i j from to less. let k = in_range _ _ _ to in lie_so segment r i j less (omega arith))
     (pairs_range (count r) 0))
 

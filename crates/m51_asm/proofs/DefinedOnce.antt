@@ -7,7 +7,7 @@ use proofs.Common.{LineTree, Definition, Defined, label_defined, defined_by, fou
 use proofs.Common.{body_of, body_at, defined_of, is_set, clashes, or_here, repeats_from, publics_in, publics_again}
 use specs.Definitions.{definition_of}
 use specs.Repeats.{repeats_a_name, has_public, is_repeated}
-use proofs.Members.{In, Pairs, in_left, in_right}
+use Rattle.m51_cells.proofs.Members.{In, Pairs, every_of, in_left, in_right}
 
 -- what holds of each of these elements, and of each with those before it, among them and before them
 pub record Follow {A : Type 0} (P : A → Type 0) (R : A → A → Type 0) (before xs : List A) : Type 0 where
@@ -20,10 +20,10 @@ follow_none = record { above = λ x i. absurd i; within = tt; after = λ x i. ab
 
 follow_one : {A : Type 0} {P : A → Type 0} {R : A → A → Type 0} {before xs : List A} (x : A) → P x
     → ((y : A) → In y before → R y x) → Follow P R (before ++ x ∷ []) xs → Follow P R before (x ∷ xs)
-follow_one {P = P} {R = R} {before = before} x p r h = record {
+follow_one {P = P} {R = R} {before = before} {xs = xs} x p r h = record {
   above = λ z i. elim i [ inl e ↦ subst P e p | inr j ↦ h.above z j ];
-  within = (λ y i. h.after y i x (in_right x before (x ∷ []) (inl refl)), h.within);
-  after = λ z i y j. elim i [ inl e ↦ subst (R y) e (r y j) | inr l ↦ h.after z l y (in_left y before (x ∷ []) j) ];
+  within = (every_of (R x) xs (λ y i. h.after y i x (in_right before (x ∷ []) x (inl refl))), h.within);
+  after = λ z i y j. elim i [ inl e ↦ subst (R y) e (r y j) | inr l ↦ h.after z l y (in_left before (x ∷ []) y j) ];
 }
 
 -- texts that a test distinguishes differ

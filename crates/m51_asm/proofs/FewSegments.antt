@@ -10,7 +10,7 @@ use specs.Fitting.{size_at, filled, externals_before}
 use specs.PlacedFaults.{is_numbered_by, numbers_a_segment, segments_before}
 use specs.ObjectSegments.{kept_before, kept}
 use specs.Parts.{externals_by}
-use proofs.Members.{Every}
+use Rattle.m51_cells.proofs.Members.{In, every_in}
 use proofs.GoodLines.{IsFreeText, free}
 use proofs.KnownSegments.{known, last_or_below}
 use proofs.KeptSegments.{IsKept, IsNamed, Nameless, DeclaredAt, are_kept, Ascend}
@@ -42,8 +42,9 @@ module _ (owner gives most : ℕ → ℕ) (n : ℕ) (grows : (k : ℕ) → k < n
   all_above zero within = omega arith
   all_above (suc k) within = grind (arith, all_above k (omega arith))
 
-  few_from : {B : Type 0} (f : Kept → List B) (low : ℕ) (xs : List Kept) → Every (λ s. low ≤ s.id) xs → Ascend xs
-      → Every (λ s. length (f s) ≤ share owner gives s.id n) xs
+  few_from : {B : Type 0} (f : Kept → List B) (low : ℕ) (xs : List Kept) → ((s : Kept) → In s xs → low ≤ s.id)
+      → Ascend xs
+      → ((s : Kept) → In s xs → length (f s) ≤ share owner gives s.id n)
       → length (flat_map f xs) ≤ above_id owner gives low n
   few_from f low [] first order each = omega arith
   few_from f low (s ∷ xs) first order each =
@@ -52,12 +53,12 @@ module _ (owner gives most : ℕ → ℕ) (n : ℕ) (grows : (k : ℕ) → k < n
         length-append (f s) (flat_map f xs),
         each s (inl refl),
         joined low s.id n (first s (inl refl)),
-        few_from f (suc s.id) xs order.0 order.1 (λ t i. each t (inr i)),
+        few_from f (suc s.id) xs (λ t i. every_in (λ t. s.id < t.id) xs t order.0 i) order.1 (λ t i. each t (inr i)),
       )
 
   -- segments of ascending ids with no more than is given to each are no more than all lines give
   pub few_in_all : {B : Type 0} (f : Kept → List B) (xs : List Kept) → Ascend xs
-      → Every (λ s. length (f s) ≤ share owner gives s.id n) xs → length (flat_map f xs) ≤ most n
+      → ((s : Kept) → In s xs → length (f s) ≤ share owner gives s.id n) → length (flat_map f xs) ≤ most n
   few_in_all f xs order each = omega (arith, few_from f 0 xs (λ s i. omega arith) order each, all_above n (omega arith))
 
 module _ (lines : List LineTree) (a : Assignment) (c : IsFreeText lines a) where

@@ -21,7 +21,7 @@ use specs.Pieces.{content_at, runs_from, line_fixups, fixups_from}
 use specs.Gathering.{nothing_in, changed_at, changed_element, placed_at, placed_before, gathered_in}
 use specs.ContentFaults.{content_fault}
 use proofs.FewSegments.{few_segments}
-use proofs.Members.{In, in_first, in_later, got_in}
+use Rattle.m51_cells.proofs.Members.{In, every_in, got_in, in_first, in_later}
 use proofs.AnsweredLines.{moved}
 use proofs.GivenContents.{given_at}
 use proofs.GoodLines.{IsFreeText, free_where}
@@ -81,7 +81,8 @@ module _ (F G : Kept → Gathered) (change : Gathered → Gathered) (id : ℕ)
   changed_is : (xs : List Kept) → Ascend xs → changed_element change (from_one (index_in (ids xs) id)) (map F xs)
       ≡ map G xs
   changed_is [] order = refl
-  changed_is (x ∷ xs) order = changed_by x xs (x.id == id) refl order.0 (changed_is xs order.1)
+  changed_is (x ∷ xs) order = changed_by x xs (x.id == id) refl (λ s i. every_in (λ t. x.id < t.id) xs s order.0 i)
+      (changed_is xs order.1)
 
 -- an item that is put between two lists, or not
 between : {A : Type 0} (b : Bool) (xs ys : List A) (x : A)
@@ -199,7 +200,7 @@ index_is : (xs : List Kept) → Ascend xs → (j : ℕ) (s : Kept) → slice_get
 index_is [] order j s e = absurd (cc e)
 index_is (x ∷ xs) order zero s e = grind arith
 index_is (x ∷ xs) order (suc j) s e =
-    let less : x.id < s.id = order.0 s (got_in xs j s e) in cc (
+    let less = every_in (λ t. x.id < t.id) xs s order.0 (got_in xs j s e) in cc (
       ne_eqb x.id s.id (omega (arith, less)),
       index_is xs
           order.1 j s e,

@@ -20,7 +20,8 @@ use Rattle.m51_encode.specs.Filling.{and_then, or_out_of_range, fielded}
 use Rattle.m51_encode.specs.Items.{item_field, field_of_width}
 use Rattle.m51_stmt.proofs.PrintedLists.{IsItem}
 use Rattle.m51_emit.specs.Sizes.{items_size}
-use proofs.Members.{in_map, every_append, pairs_append, pairs_map, pairs_weaker}
+use Rattle.m51_cells.proofs.Members.{in_map, pairs_append, pairs_map}
+use proofs.Members.{in_both, pairs_within}
 
 -- 1 for a fixup
 abbrev pub one_fixup : OperandOutcome → ℕ
@@ -115,18 +116,18 @@ join {names} {m} {n} {o} {ps} {c} {d} g h =
     let same = length-map d.references (later k) in
     record {
       content = record {
-        inside = every_append _ _ _ (λ r i. let e = g.content.inside r i in omega arith) (λ r i.
+        inside = in_both _ _ _ (λ r i. let e = g.content.inside r i in omega arith) (λ r i.
             let f = in_map _ _ _ i in
-            let e = h.content.inside f.from f.there in
-            subst (λ (x : ReferenceAt). end_of_field x ≤ length (c.bytes ++ d.bytes)) f.is (omega arith));
-        order = pairs_append _ _ _ g.content.order (pairs_map _ _ _ (pairs_weaker _ _ _
+            let e = h.content.inside f.0 f.1 in
+            subst (λ (x : ReferenceAt). end_of_field x ≤ length (c.bytes ++ d.bytes)) f.2 (omega arith));
+        order = pairs_append _ _ _ g.content.order (pairs_map _ _ _ (pairs_within _ _ _
             (λ r q i j e. omega arith) h.content.order))
             (λ r q i j.
             let f = in_map _ _ _ j in
             let e = g.content.inside r i in
-            subst (FieldAfter r) f.is (omega arith));
-        linked = every_append _ _ _ g.content.linked (λ r i. let f = in_map _ _ _ i in
-            subst (λ (x : ReferenceAt). IsLinkedBy names x.1) f.is (h.content.linked f.from f.there));
+            subst (FieldAfter r) f.2 (omega arith));
+        linked = in_both _ _ _ g.content.linked (λ r i. let f = in_map _ _ _ i in
+            subst (λ (x : ReferenceAt). IsLinkedBy names x.1) f.2 (h.content.linked f.0 f.1));
       };
       size_is = omega arith;
       few = omega arith;

@@ -12,7 +12,8 @@ use proofs.GoodLines.{IsFreeText, free, IsDeclared, IsGood}
 use proofs.KnownSegments.{known, last_or_below, Declares, two_more}
 use Rattle.std.proofs.lemmas.Option.{slice_get-map}
 use specs.ObjectSegments.{number_in, relocatable, absolute_of, if_filled, kept_before, kept}
-use proofs.Members.{In, Pairs, pairs_weaker, Every, every_append, pairs_append}
+use Rattle.m51_cells.proofs.Members.{In, Pairs, every_in, every_of, pairs_append}
+use proofs.Members.{in_both, pairs_within}
 use Rattle.m51_cells.specs.Kinds.{allows, largest, may_overlay}
 use Rattle.m51_cells.specs.Fits.{Fits as FitsIn'}
 use Rattle.m51_module.specs.Validity.{IsSegmentValid}
@@ -97,7 +98,7 @@ stands [] h s i = absurd i
 stands (x ∷ xs) h s (inl e) = (0, rw (eq-eqb x.id s.id (λ i. (e i).id)) refl, λ i. Some (e i))
 stands (x ∷ xs) h s (inr j) =
     let r = stands xs h.1 s j in
-    let less : x.id < s.id = h.0 s j in
+    let less : x.id < s.id = every_in (λ t. x.id < t.id) xs s h.0 j in
     (suc r.0, later_found x xs s.id r.0 (omega arith) r.1, r.2)
 
 -- the number of a segment of the module leads to it
@@ -133,17 +134,17 @@ pub numbers_ascend : (xs : List Kept) → Ascend xs → Pairs (λ s t. number_in
 unfolding number_in
 numbers_ascend [] h = tt
 numbers_ascend (x ∷ xs) h = (
-  λ t i.
+  every_of (λ t. number_in (x ∷ xs) x.id < number_in (x ∷ xs) t.id) xs (λ t i.
       let first : from_one (index_in (ids (x ∷ xs)) x.id) ≡ 1 = rw (eq-eqb x.id x.id refl) refl in
       let later = one_more t i in
-      omega (arith, ap from_one (stands xs h.1 t i).1),
-  pairs_weaker (λ s t. number_in xs s.id < number_in xs t.id)
+      omega (arith, ap from_one (stands xs h.1 t i).1)),
+  pairs_within (λ s t. number_in xs s.id < number_in xs t.id)
       (λ s t. number_in (x ∷ xs) s.id < number_in (x ∷ xs) t.id) xs
       (λ s t i j less. let one = one_more s i in let two = one_more t j in omega arith) (numbers_ascend xs h.1),
 )
   where
     one_more : (s : Kept) → In s xs → number_in (x ∷ xs) s.id ≡ suc (number_in xs s.id)
-    one_more s i = grind (arith, stands)
+    one_more s i = let less = every_in (λ t. x.id < t.id) xs s h.0 i in grind (arith, stands)
 
 -- a segment without a name, or one that a line declares under its name
 pub data IsNamed (lines : List LineTree) (id : ℕ) (s : Segment) : Type 0 where
@@ -198,8 +199,8 @@ module _ (lines : List LineTree) (a : Assignment) (c : IsFreeText lines a) where
 
   -- one segment of this id, or none
   record Adds (id : ℕ) (xs : List Kept) : Type 0 where
-    every : Every (IsKept lines a) xs
-    ids : Every (λ s. s.id ≡ id) xs
+    every : (s : Kept) → In s xs → IsKept lines a s
+    ids : (s : Kept) → In s xs → s.id ≡ id
     order : Pairs (λ s t. s.id < t.id) xs
 
   none : (id : ℕ) → Adds id []
@@ -209,7 +210,7 @@ module _ (lines : List LineTree) (a : Assignment) (c : IsFreeText lines a) where
   one s kept = record {
     every = λ t i. elim i [ inl e ↦ subst (IsKept lines a) e kept | inr n ↦ absurd n ];
     ids = λ t i. elim i [ inl e ↦ λ j. (sym e j).id | inr n ↦ absurd n ];
-    order = (λ t i. absurd i, tt);
+    order = (tt, tt);
   }
 
   filled_adds : (s : TextSegment) (size : ℕ) → segment_of lines a s.id ≡ s → s.kind ≢ kind.Number
@@ -230,14 +231,14 @@ module _ (lines : List LineTree) (a : Assignment) (c : IsFreeText lines a) where
 
   -- the segments of the first lines
   pub record AreKept (k : ℕ) (xs : List Kept) : Type 0 where
-    pub every : Every (IsKept lines a) xs
-    pub low : Every (λ s. s.id ≤ suc k) xs
+    pub every : (s : Kept) → In s xs → IsKept lines a s
+    pub low : (s : Kept) → In s xs → s.id ≤ suc k
     pub order : Pairs (λ s t. s.id < t.id) xs
 
   step : (k : ℕ) (xs ys : List Kept) → AreKept k xs → Adds (k + 2) ys → AreKept (suc k) (xs ++ ys)
   step k xs ys h o = record {
-    every = every_append _ _ _ h.every o.every;
-    low = every_append _ _ _ (λ s i. omega (arith, h.low s i)) (λ s i. omega (arith, o.ids s i));
+    every = in_both _ _ _ h.every o.every;
+    low = in_both (λ s. s.id ≤ suc (suc k)) xs ys (λ s i. omega (arith, h.low s i)) (λ s i. omega (arith, o.ids s i));
     order = pairs_append _ _ _ h.order o.order (λ s t i j. omega (arith, h.low s i, o.ids t j));
   }
 

@@ -13,8 +13,9 @@ use Rattle.m51_module.specs.Validity.{Differ, IsPublicBase, IsPublicValid}
 use specs.Naming.{module_name}
 use specs.Parts.{externals_by, name_by, publics_by, publics_before}
 use proofs.Written.{file_named}
-use proofs.Members.{In, Every, Pairs, in_map, in_flat, in_range, pairs_map, pairs_weaker, pairs_flat, pairs_range}
-use proofs.Members.{every_append, pairs_append}
+use Rattle.m51_cells.proofs.Members.{In, Pairs, every_in, every_of, in_flat, in_map, in_range, pairs_append, pairs_flat}
+use Rattle.m51_cells.proofs.Members.{pairs_map, pairs_range}
+use proofs.Members.{in_both, pairs_within}
 use proofs.GoodLines.{IsClean, IsGood, free, free_text}
 use proofs.KeptSegments.{IsNamed, Nameless, DeclaredAt, all_kept, has_number}
 use proofs.FewSegments.{IsRest, all_lines}
@@ -67,14 +68,16 @@ external_defined : (b : BodyTree) (e : External) → In e (externals_by b)
     → (number : ℕ) × In (e.name, ExternOf e.kind number) (defined_by b)
 external_defined (body.Extrn xs) e i =
     let c = in_map _ _ _ i in
-    let r = is_extern _ _ _ c.there in
-    (r.0, subst (λ (x : External). In (x.name, ExternOf x.kind r.0) (externals_from 0 xs)) c.is r.1)
+    let r = is_extern _ _ _ c.1 in
+    (r.0, subst (λ (x : External). In (x.name, ExternOf x.kind r.0) (externals_from 0 xs)) c.2 r.1)
 external_defined b e i = absurd i
 
 extern_pairs : (xs : List (List ℕ × Kind)) (n : ℕ) → Pairs Apart (externals_from n xs) → Pairs (λ x y. x.0 ≢ y.0) xs
 extern_pairs [] n h = tt
 extern_pairs (y ∷ xs) n h = (
-  λ z i. let r = is_extern _ _ _ i in λ e. h.0 (z.0, ExternOf z.1 r.0) r.1 refl (sym e),
+  every_of (λ z. y.0 ≢ z.0) xs (λ z i.
+      let r = is_extern xs (suc n) z i in
+      let other = every_in (Apart (y.0, ExternOf y.1 n)) _ (z.0, ExternOf z.1 r.0) h.0 r.1 in λ e. other refl (sym e)),
   extern_pairs xs (suc n) h.1,
 )
 
@@ -92,7 +95,7 @@ module _ (lines : List LineTree) (a : Assignment) (c : IsClean lines a) where
   pub once_at : (k : ℕ) → k < length lines → IsOnce lines k
   once_at k below = once lines k (free lines a k (c.placed k below)).once
 
-  pub externals_written : Every (λ e. IsWritten e.name) (externals lines)
+  pub externals_written : (e : External) → In e (externals lines) → IsWritten e.name
   externals_written e i =
       let r = in_flat (given_at lines) (range_with_len 0 (length lines)) e (subst (In e) (externals_flat lines) i) in
       external_written (body_at lines r.0) (c.good r.0) e r.2
@@ -124,7 +127,7 @@ module _ (lines : List LineTree) (a : Assignment) (c : IsClean lines a) where
   segments_differ =
       let all = all_kept lines a (free_text lines a c) in
       pairs_map _ _ _
-      (pairs_weaker _ _ _
+      (pairs_within _ _ _
       (λ s t i j less. names_differ s t less (all.low t j) (all.every s i).named (all.every t j).named) all.order)
 
 abbrev OtherPublic : Public → Public → Type 0
@@ -181,18 +184,31 @@ module _ (lines : List LineTree) (a : Assignment) (c : IsClean lines a) where
 
   -- publics of these names, no two of one name
   record AreOf (names : List (List ℕ)) (ps : List Public) : Type 0 where
-    each : Every (IsAmong names) ps
+    each : (p : Public) → In p ps → IsAmong names p
     order : Pairs OtherPublic ps
 
   with_name : (name : List ℕ) (names : List (List ℕ)) (ps : List Public) (r : Published)
-      → Every (λ y. y ≢ name) names → Makes name r → AreOf names ps
+      → ((y : List ℕ) → In y names → y ≢ name) → Makes name r → AreOf names ps
       → AreOf (name ∷ names) (if_public r ps)
-  with_name name names ps b others m h = grind arith
+  with_name name names ps (Ok p) others m h = record {
+    each = λ q i. elim i [
+      | inl e ↦ (name, inl refl, subst (IsMade name) e m)
+      | inr j ↦ let r = h.each q j in (r.0, inr r.1, r.2)
+    ];
+    order = (
+      every_of (OtherPublic p) ps (λ q i. let r = h.each q i in
+          λ e. others r.0 r.1 (sym r.2.name_is ∙ sym e ∙ m.name_is)),
+      h.order,
+    );
+  }
+  with_name name names ps (Err n) others m h =
+      record { each = λ q i. let r = h.each q i in (r.0, inr r.1, r.2); order = h.order }
 
   of_names : (k : ℕ) (names : List (List ℕ)) → Pairs (λ x y. y ≢ x) names → AreOf names (publics_of lines a k names)
   of_names k [] h = record { each = λ p i. absurd i; order = tt }
   of_names k (name ∷ names) h =
-      with_name name names (publics_of lines a k names) (published lines a k name) h.0 (made k name)
+      with_name name names (publics_of lines a k names) (published lines a k name)
+      (λ y i. every_in (λ y. y ≢ name) names y h.0 i) (made k name)
       (of_names k names h.1)
 
   of_line : (k : ℕ) (b : BodyTree) → Pairs (λ x y. y ≢ x) (publics_in b) → AreOf (publics_in b) (publics_by lines a k b)
@@ -204,7 +220,7 @@ module _ (lines : List LineTree) (a : Assignment) (c : IsClean lines a) where
   IsPublicOf k p = (line : ℕ) × (line < k) × IsAmong (publics_in (body_at lines line)) p
 
   record AreAbove (k : ℕ) (ps : List Public) : Type 0 where
-    each : Every (IsPublicOf k) ps
+    each : (p : Public) → In p ps → IsPublicOf k p
     order : Pairs OtherPublic ps
 
   are_above : (k : ℕ) → k ≤ length lines → AreAbove k (publics_before lines a k)
@@ -215,7 +231,7 @@ module _ (lines : List LineTree) (a : Assignment) (c : IsClean lines a) where
       let before = are_above k (omega arith) in
       let here = of_line k (body_at lines k) o.within in
       record {
-        each = every_append _ _ _ (λ p i. let r = before.each p i in (r.0, omega arith, r.2))
+        each = in_both _ _ _ (λ p i. let r = before.each p i in (r.0, omega arith, r.2))
             (λ p i. (k, omega arith, here.each p i));
         order = pairs_append _ _ _ before.order here.order (λ p q i j e.
             let u = before.each p i in
@@ -229,7 +245,8 @@ module _ (lines : List LineTree) (a : Assignment) (c : IsClean lines a) where
   public_written : (b : BodyTree) → IsGood b → (name : List ℕ) → In name (publics_in b) → IsWritten name
   public_written b good name i = grind (arith, each_in)
 
-  pub publics_valid : Every (IsPublicValid (object_segments lines a)) (publics_before lines a (length lines))
+  pub publics_valid : (p : Public) → In p (publics_before lines a (length lines))
+      → IsPublicValid (object_segments lines a) p
   publics_valid p i =
       let r = (are_above (length lines) (omega arith)).each p i in
       let among = r.2 in

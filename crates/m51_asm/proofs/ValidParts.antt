@@ -5,7 +5,8 @@ use proofs.Common.{kept, cases_eq, ◌≡◌, ◌⊎◌, inl, inr, ℕ, zero, su
 use proofs.Common.{option_map, refl, subst, arith, Base, Field, Segment, numbered, Value, Meanings, Linked, Reference}
 use proofs.Common.{linked_is, LineTree, Assignment, here_at, object_segments, segment_number, externals, pieces, fixups}
 use proofs.Common.{◌+◌, ◌%◌, ◌<◌, Bool, cond, [], ◌∷◌, list_any, length-map, IsValid, SourceFile, Lines, text_of}
-use proofs.Common.{AreFree, Fits, content_faults, Kept, min, sym, Fault, Row, rows_from, first_fault, content_or_faults}
+use proofs.Common.{AreFree, Fits, Fixup, content_faults, Kept, min, sym, Fault, Row, rows_from, first_fault}
+use proofs.Common.{content_or_faults}
 use Rattle.std.proofs.lemmas.Option.{slice_get_cases}
 use Rattle.m51_module.specs.declared.symbol.External.{External}
 use Rattle.m51_module.specs.Validity.{IsTarget, IsFixupValid, IsVersion, IsSegmentValid}
@@ -13,7 +14,8 @@ use Rattle.m51_encode.specs.Bases.{is_linked}
 use Rattle.m51_encode.specs.FieldValues.{field_of}
 use Rattle.m51_encode.proofs.BitNumbers.{references_have_bits}
 use specs.ObjectMeanings.{final, object_base, object_value}
-use proofs.Members.{Every, In, in_map, every_all, pairs_all}
+use Rattle.m51_cells.proofs.Members.{In, in_map, pairs_all}
+use proofs.Members.{all_in}
 use proofs.GoodLines.{IsClean, free_text, clean_where, clean}
 use proofs.KeptSegments.{all_kept, has_number}
 use proofs.FewSegments.{externals_count, few_segments, few_externals}
@@ -92,7 +94,8 @@ module _ (lines : List LineTree) (a : Assignment) (c : IsClean lines a) where
   unfolding final
   linked_there k b h l = grind arith
 
-  pub fixups_valid : Every (IsFixupValid targets (externals lines) (pieces lines a)) (fixups lines a)
+  pub fixups_valid : (f : Fixup) → In f (fixups lines a)
+      → IsFixupValid targets (externals lines) (pieces lines a) f
   fixups_valid f i =
       let t = of_text lines a c f i in
       let line = t.2.0 in
@@ -124,7 +127,7 @@ any_marked [] s i h = absurd i
 any_marked (x ∷ segments) s (inl e) h = grind arith
 any_marked (x ∷ segments) s (inr j) h = or_right _ _ (any_marked segments s j h)
 
-version_two : (segments : List Segment) → Every (λ s. s.argument ≡ true → version_of segments ≡ 2) segments
+version_two : (segments : List Segment) (s : Segment) → In s segments → s.argument ≡ true → version_of segments ≡ 2
 version_two segments s i h = rw (any_marked segments s i h) refl
 
 module _ (lines : List LineTree) (a : Assignment) (c : IsClean lines a) where
@@ -134,10 +137,10 @@ module _ (lines : List LineTree) (a : Assignment) (c : IsClean lines a) where
   abbrev publics : List Public
   publics = publics_before lines a (length lines)
 
-  segments_valid : Every IsSegmentValid segments
+  segments_valid : (s : Segment) → In s segments → IsSegmentValid s
   segments_valid s i =
       let r = in_map _ _ _ i in
-      subst IsSegmentValid r.is ((all_kept lines a (free_text lines a c)).every r.from r.there).valid
+      subst IsSegmentValid r.2 ((all_kept lines a (free_text lines a c)).every r.0 r.1).valid
 
   is_valid : (file : List ℕ) → IsValid (parts file lines a)
   unfolding parts
@@ -153,16 +156,16 @@ module _ (lines : List LineTree) (a : Assignment) (c : IsClean lines a) where
         few_segments = omega arith;
         few_externals = few_externals lines a free;
         few_fixups = few_fixups lines a c;
-        segments = every_all _ _ segments_valid;
-        marks = every_all _ _ (version_two segments);
+        segments = all_in _ _ segments_valid;
+        marks = all_in _ _ (version_two segments);
         segment_names = pairs_all _ _ (segments_differ lines a c);
-        publics = every_all _ _ (publics_valid lines a c);
+        publics = all_in _ _ (publics_valid lines a c);
         public_names = pairs_all _ _ (publics_differ lines a c);
-        externals = every_all _ _ (externals_written lines a c);
+        externals = all_in _ _ (externals_written lines a c);
         external_names = pairs_all _ _ (externals_differ lines a c);
-        pieces = every_all _ _ (pieces_valid lines a c);
+        pieces = all_in _ _ (pieces_valid lines a c);
         piece_order = pairs_all _ _ (pieces_ordered lines a c);
-        fixups = every_all _ _ (fixups_valid lines a c);
+        fixups = all_in _ _ (fixups_valid lines a c);
         fixup_order = pairs_all _ _ (fixups_ordered lines a c);
         banks = banks.0;
         few_banks = banks.1;

@@ -9,8 +9,9 @@ use proofs.Common.{refl, length-append, length-map, Fixup, field_len, ReferenceA
 use Rattle.m51_module.specs.Validity.{EarlierSegment, IsPieceValid, IsHeld, FieldBefore, EarlierSegmentOf, BeforeIn}
 use specs.Fitting.{filled, size_at}
 use specs.Pieces.{content_at, runs_from, segment_pieces, fixup_of, line_fixups, fixups_from}
-use proofs.Members.{In, Every, Pairs, in_flat, flat_in, pairs_flat, contains_in, in_map, every_append, pairs_append}
-use proofs.Members.{pairs_map, pairs_weaker}
+use Rattle.m51_cells.proofs.Members.{In, Pairs, contains_in, flat_in, in_flat, in_map, pairs_append, pairs_flat}
+use Rattle.m51_cells.proofs.Members.{pairs_map}
+use proofs.Members.{in_both, pairs_within}
 use proofs.CutRuns.{AreRuns, runs_lower, runs_before, run_in, runs_pairs, Covers, Hold, still_held, IsOfRun}
 use proofs.CutRuns.{piece_of_run, pieces_in_order, runs_in_order, runs_cut}
 use proofs.GoodLines.{IsClean, free_text}
@@ -114,7 +115,7 @@ module _ (lines : List LineTree) (a : Assignment) (c : IsClean lines a) where
   cut : (s : Kept) (p : Piece) → In p (segment_pieces lines a s) → (r : Run) × In r (runs_of s) × IsOfRun (number s) r p
   cut s p i = let r = in_flat _ _ _ i in (r.0, r.1, piece_of_run _ _ _ r.2)
 
-  pub pieces_valid : Every (IsPieceValid (object_segments lines a)) (pieces lines a)
+  pub pieces_valid : (p : Piece) → In p (pieces lines a) → IsPieceValid (object_segments lines a) p
   pieces_valid p i =
       let f = in_flat _ _ _ i in
       let s = f.0 in
@@ -180,7 +181,7 @@ module _ (lines : List LineTree) (a : Assignment) (c : IsClean lines a) where
 
   -- the fixups that the lines from line k on give to a segment
   record AreFixups (s : Kept) (k : ℕ) (fs : List Fixup) : Type 0 where
-    each : Every (IsFrom s k) fs
+    each : (f : Fixup) → In f fs → IsFrom s k f
     order : Pairs FieldBefore fs
     count : given_to s k + length fs ≡ given_to s (length lines)
 
@@ -189,11 +190,11 @@ module _ (lines : List LineTree) (a : Assignment) (c : IsClean lines a) where
       → In f (line_fixups lines a (number s) k) → IsFrom s (suc k) g → FieldBefore f g
   lies_before s k below here f g i o =
       let r = in_map _ _ _ i in
-      let inside = (given lines a c k below).content.inside r.from r.there in
+      let inside = (given lines a c k below).content.inside r.0 r.1 in
       let end = line_ends k s.id below (eq-eqb _ _ here) in
       let up = filled_up lines a s.id (suc k) o.0 o.1 in
       let at = ap (λ i. filled lines a i o.0) o.2.here in
-      rw (← r.is, ← o.2.is) (BeforeIn refl (omega arith))
+      rw (← r.2, ← o.2.is) (BeforeIn refl (omega arith))
 
   are_fixups : (s : Kept) (k : ℕ) (ls : List LineTree) → k + length ls ≡ length lines
       → AreFixups s k (fixups_from lines a s k ls)
@@ -203,7 +204,7 @@ module _ (lines : List LineTree) (a : Assignment) (c : IsClean lines a) where
       let fs = fixups_from lines a s (suc k) ls in
       let h = are_fixups s (suc k) ls (omega arith) in
       let below : k < length lines = omega arith in
-      let later : Every (IsFrom s k) fs = λ f i. let o = h.each f i in (o.0, omega arith, o.2) in
+      let later : (f : Fixup) → In f fs → IsFrom s k f = λ f i. let o = h.each f i in (o.0, omega arith, o.2) in
       elim (cases_Bool ((a.segment k).id == s.id)) [
         | inr test ↦
             rw test (record { each = later; order = h.order; count = omega (arith, rw test at h.count) })
@@ -212,13 +213,13 @@ module _ (lines : List LineTree) (a : Assignment) (c : IsClean lines a) where
             let len = length-append (map (made s k) (references k)) fs in
             let mapped = length-map (references k) (made s k) in
             rw test (record {
-              each = every_append (IsFrom s k) (line_fixups lines a (number s) k) fs (λ f i.
+              each = in_both (IsFrom s k) (line_fixups lines a (number s) k) fs (λ f i.
                   let r = in_map _ _ _ i in (
                     k,
                     omega arith,
-                    record { below = below; here = here; reference = r.from; there = r.there; is = r.is },
+                    record { below = below; here = here; reference = r.0; there = r.1; is = r.2 },
                   )) later;
-              order = pairs_append _ _ _ (pairs_map _ _ _ (pairs_weaker _ _ _
+              order = pairs_append _ _ _ (pairs_map _ _ _ (pairs_within _ _ _
                   (λ r q i j e. BeforeIn refl (omega arith)) (given lines a c k below).content.order)) h.order
                   (λ f g i j. lies_before s k below here f g i (h.each g j));
               count = omega (arith, rw test at h.count);

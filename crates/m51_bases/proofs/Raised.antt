@@ -93,7 +93,7 @@ module _ (kind : Kind) (reloc : Reloc) (size : ℕ) (e : Extent) (base from : �
   pub raised_is : (found : Option ℕ)
       → MatchOption found (HasNoFit kind reloc size from) (λ next. IsNextFit kind reloc size from next)
       → MatchOption found (IsBlocked kind reloc size e base) (λ next. IsRaised kind reloc size e base next)
-  raised_is None h = λ lower up fits. elim (cases_lt lower from) as (λ _. Meet e (extent_of kind lower size)) [
+  raised_is None h = λ lower up fits. elim (cases_lt lower from) [
     | inl less ↦ in_the_way lower up less
     | inr above ↦ absurd (h lower above fits)
   ]
@@ -105,7 +105,7 @@ module _ (kind : Kind) (reloc : Reloc) (size : ℕ) (e : Extent) (base from : �
         most = fits_most kind reloc next size some next_is.fits;
         fits = next_is.fits;
         apart = λ same. absurd (omega (arith, under, next_is.not_below, same));
-        blocked = λ lower up less fits. elim (cases_lt lower from) as (λ _. Meet e (extent_of kind lower size)) [
+        blocked = λ lower up less fits. elim (cases_lt lower from) [
           | inl under' ↦ in_the_way lower up under'
           | inr above ↦ absurd (next_is.least lower above less fits)
         ];
@@ -116,14 +116,14 @@ module _ (extents : List Extent) (kind : Kind) (reloc : Reloc) (size base i : �
     (below : i < length extents) where
   pub none_more : (raised : ℕ) → NoneBelow extents kind reloc size next
       → IsRaised kind reloc size (get_or extents i d) next raised → NoneBelow extents kind reloc size raised
-  none_more raised none h lower less clear = elim (cases_lt lower next) as (λ _. ⊥) [
+  none_more raised none h lower less clear = elim (cases_lt lower next) [
     | inl under' ↦ none lower under' clear
     | inr up ↦ (clear.outside i d below).none (h.blocked lower up less clear.fits)
   ]
 
   pub none_at_all : NoneBelow extents kind reloc size next → IsBlocked kind reloc size (get_or extents i d) next
       → (lower : ℕ) → IsClear extents kind reloc size lower → ⊥
-  none_at_all none h lower clear = elim (cases_lt lower next) as (λ _. ⊥) [
+  none_at_all none h lower clear = elim (cases_lt lower next) [
     | inl under' ↦ none lower under' clear
     | inr up ↦ (clear.outside i d below).none (h lower up clear.fits)
   ]

@@ -40,7 +40,7 @@ named_of_bytes held h name None rest contents is k e = absurd (cc e)
 named_of_bytes held h name (Some file) rest contents is k e =
     one_of_bytes file rest contents (nat_le (length file) MOST_FILE_BYTES) (h name file is) k e
 
-of_bytes : (held : Files) → HoldBytes held → (names contents : List (List ℕ)) → read_of held names ≡ Whole contents
+pub of_bytes : (held : Files) → HoldBytes held → (names contents : List (List ℕ)) → read_of held names ≡ Whole contents
     → AreOfBytes contents
 of_bytes held h [] contents e = subst AreOfBytes (whole_same [] contents e) (All-nil IsByteList)
 of_bytes held h (name ∷ names) contents e =
@@ -108,7 +108,7 @@ Tells words held c told = (answer : Answer) × (IsAnswer words held answer ⊎ I
 
 pub chain_keeps_promise : ChainKeepsPromise
 unfolding is_run
-chain_keeps_promise words held c told job asked bytes tells run = elim run as (λ _. KeepsPromise job held c told) [
+chain_keeps_promise words held c told job asked bytes tells run = elim run [
   | inl e ↦
       let t : Tells words held c status.Ran = subst (IsTold words held c) e tells in
       subst (λ (s : Status). KeepsPromise job held c s) (sym e)

@@ -104,7 +104,7 @@ unfolding HasAt
 split_at [] ys address h = inr h
 split_at (s ∷ xs) ys address (inl h) = inl (inl h)
 split_at (s ∷ xs) ys address (inr h) =
-    elim (split_at xs ys address h) as (λ _. HasAt (s ∷ xs) address ⊎ HasAt ys address)
+    elim (split_at xs ys address h)
     [ inl l ↦ inl (inr l) | inr r ↦ inr r ]
 
 -- what has a byte in one of two lists, module by module, has one in the other
@@ -113,7 +113,7 @@ each_at : (f g : ℕ → List Stretch) (address : ℕ) → ((k : ℕ) → HasAt 
 unfolding HasAt
 each_at f g address lead [] h = absurd h
 each_at f g address lead (k ∷ ks) h =
-    elim (split_at (f k) (flat_map f ks) address h) as (λ _. HasAt (flat_map g (k ∷ ks)) address) [
+    elim (split_at (f k) (flat_map f ks) address h) [
       | inl here ↦ left_at (g k) (flat_map g ks) address (lead k here)
       | inr later ↦ right_at (g k) (flat_map g ks) address (each_at f g address lead ks later)
     ]

@@ -25,8 +25,8 @@ use Rattle.m51_module.specs.declared.image.TheConstants.{IMAGE_LEN}
 use Rattle.m51_module.specs.declared.linked.Run.{Run}
 use Rattle.m51_module.specs.Chains.{AreHeaviest}
 use Rattle.m51_module.specs.Sound.{IsSound}
-use Rattle.m51_place.proofs.SameWeight.{weights_agree}
-use Rattle.m51_place.proofs.Segments.{graph_is}
+use Rattle.m51_place.proofs.Tight.{weights_agree}
+use Rattle.m51_place.proofs.Ranks.{graph_is}
 use Rattle.m51_place.proofs.SoundLayout.{sound}
 use Rattle.m51_place.proofs.Whole.{placed_whole}
 use Rattle.m51_build_proof.proofs.GraphKept.{graph_kept}
@@ -58,7 +58,7 @@ last_of run (next ∷ more) =
     record { front = run ∷ l.front; last = l.last; is = ap (λ (rs : List Run). run ∷ rs) l.is }
 
 next_by : (address : ℕ) (old : List Run) (l : HasLast old) → HasNext true address old
-next_by address old l = elim (cases_eq (l.last.first + l.last.len) address) as (λ _. HasNext true address old) [
+next_by address old l = elim (cases_eq (l.last.first + l.last.len) address) [
   | inl ends ↦ record { new = l.front ++ longer l.last ∷ []; adds = Joined l.front l.last l.is ends refl }
   | inr other ↦ record { new = old ++ run_at address ∷ []; adds = Apart l.front l.last l.is other refl }
 ]
@@ -89,9 +89,9 @@ runs_to content (suc n) =
     }
 
 -- a program can be linked
-record HasLinked (p : Program) : Type 0 where
-  linked : Linked
-  is : IsLinked p linked
+pub record HasLinked (p : Program) : Type 0 where
+  pub linked : Linked
+  pub is : IsLinked p linked
 
 module _ (p : Program) (size : ℕ) (whole : size ≡ IMAGE_LEN) where
   bytes : List ℕ
@@ -138,7 +138,7 @@ module _ (p : Program) (size : ℕ) (whole : size ≡ IMAGE_LEN) where
         (bits_tell p.graph unit vectors);
   }
 
-  has_linked : HasLinked p
+  pub has_linked : HasLinked p
   has_linked = record {
     linked = record { layout = p.placing.layout; image = bytes; written = (runs_to content size).runs; roots = roots };
     is = record { layout = refl; image = image_is; written = runs_are; roots = roots_are };

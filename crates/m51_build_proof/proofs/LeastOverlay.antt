@@ -11,11 +11,10 @@ use Rattle.m51_place.specs.Fixed.{fixed_of, shared_extents}
 use Rattle.m51_place.specs.Order.{order_of}
 use Rattle.m51_place.specs.Overlay.{FindsRun, LeavesRun, before_overlaid}
 use Rattle.m51_place.specs.Placement.{base_for, located_at, place_after}
-use Rattle.m51_place.proofs.After.{place_step}
-use Rattle.m51_place.proofs.Figures.{figure_is_weight}
-use Rattle.m51_place.proofs.LeastWeight.{least}
-use Rattle.m51_place.proofs.SameWeight.{weights_agree}
-use Rattle.m51_place.proofs.Splitting.{from_overlaid, split}
+use Rattle.m51_place.proofs.Free.{place_step}
+use Rattle.m51_place.proofs.Tight.{figure_is_weight, weights_agree}
+use Rattle.m51_place.proofs.Weights.{least}
+use Rattle.m51_place.proofs.Ordered.{from_overlaid, split}
 use Rattle.m51_place.proofs.Whole.{unless_none}
 use Rattle.m51_print.specs.Map.{overlaid_below, overlaid_line}
 use Rattle.m51_build_proof.specs.Overlay.{IsPremise}

@@ -28,3 +28,8 @@ pub mod Promised
 pub mod Existence
 pub mod Chained
 pub mod Known
+pub mod Refusing
+pub mod LibraryWork
+pub mod Keeping
+pub mod Existing
+pub mod Answered

@@ -10,7 +10,7 @@ use Rattle.m51_module.specs.declared.placed.Mark.TheVariants.{Absolute, Bank, Ov
 use Rattle.m51_module.specs.declared.placed.Placed.{Placed}
 use Rattle.m51_module.specs.Chains.{is_overlaid_data}
 use Rattle.m51_place.specs.Bound.{count_below, overlays_byte}
-use Rattle.m51_place.proofs.Figures.{figure_is_weight}
+use Rattle.m51_place.proofs.Tight.{figure_is_weight}
 use Rattle.m51_print.specs.Map.{is_overlaid_in_data, overlaid_below, overlays}
 use Rattle.m51_print.proofs.Ranges.{counted_more}
 use Rattle.m51_print.proofs.Steps.{none_overlaid}

@@ -18,8 +18,7 @@ use Rattle.m51_module.specs.Walks.{Edges}
 use Rattle.m51_graph.proofs.Climbing.{tally_mono}
 use Rattle.m51_place.specs.Bound.{bytes_passing, count_below, covered_bytes, covers_byte}
 use Rattle.m51_place.specs.Bound.{overlays_byte, own_passes}
-use Rattle.m51_place.proofs.LeastWeight.{count_is}
-use Rattle.m51_place.proofs.WalkWeights.{data_kind}
+use Rattle.m51_place.proofs.Weights.{count_is, data_kind}
 use Rattle.m51_build_proof.specs.Layouts.{HasOtherBase, HasSameSegments}
 
 -- an extent of the one list has its counterpart in the other
@@ -134,7 +133,7 @@ module _ (l : LayoutParts) (placed : List Placed) (moved : AllZip HasOtherBase l
   chains_out w [] [] h = tt
   chains_out w [] (c ∷ chains) h = absurd h
   chains_out w (v ∷ more) [] h = (λ unit root. h.0 unit (root_in v unit root), chains_out w more [] h.1)
-  chains_out w (v ∷ more) (c ∷ chains) h = elim h as (λ _. ChainsFrom (layout_graph other) w (v ∷ more) (c ∷ chains)) [
+  chains_out w (v ∷ more) (c ∷ chains) h = elim h [
     | inl without ↦ inl (λ unit root. without.0 unit (root_in v unit root), chains_out w more (c ∷ chains) without.1)
     | inr chain ↦ inr (root_out v c.root chain.0, chain.1, chains_out w more chains chain.2)
   ]

@@ -44,7 +44,7 @@ some_definition d = Some d
 
 one_found : (t : List ℕ) (d : Definition) (name : List ℕ) (found : Definition)
     → found_in ((t, d) ∷ []) name ≡ some_definition found → IsSmallDefinition d → IsSmallDefinition found
-one_found t d name found h is = elim (found_if (bytes_eq name t) d found None h) as (λ _. IsSmallDefinition found) [
+one_found t d name found h is = elim (found_if (bytes_eq name t) d found None h) [
   | inl e ↦ subst IsSmallDefinition e is
   | inr e ↦ absurd (cc e)
 ]
@@ -72,7 +72,7 @@ line_found : (label : Option (List ℕ)) (b : BodyTree) (name : List ℕ) (found
     → found_in (label_defined label ++ defined_by b) name ≡ some_definition found → IsSmallDefinition found
 line_found None b name found is h = body_found b name found is h
 line_found (Some t) b name found is h =
-    elim (found_if (bytes_eq name t) Label found (found_in (defined_by b) name) h) as (λ _. IsSmallDefinition found) [
+    elim (found_if (bytes_eq name t) Label found (found_in (defined_by b) name) h) [
       | inl e ↦ subst IsSmallDefinition e tt
       | inr e ↦ body_found b name found is e
     ]
@@ -159,7 +159,7 @@ module _ (lines : List LineTree) (a : Assignment) (c : IsClean lines a) (all : A
   few_banks : (k : ℕ) → bank_before lines a k ≤ 3
   unfolding bank_before
   few_banks zero = omega arith
-  few_banks (suc k) = elim (cases_lt k (length lines)) as (λ _. bank_before lines a (suc k) ≤ 3) [
+  few_banks (suc k) = elim (cases_lt k (length lines)) [
     | inl below ↦ bank_line k (bank_before lines a k) (body_at lines k) (few_banks k)
         (free lines a k (c.placed k below)).operand
     | inr past ↦ subst (λ (o : Option LineTree). bank_by (above lines a k) (bank_before lines a k) (body_of o) ≤ 3)
@@ -249,7 +249,7 @@ module _ (lines : List LineTree) (a : Assignment) (c : IsClean lines a) (all : A
   all_above : (k : ℕ) → AllAbove k
   unfolding AllAbove
   all_above zero j less = absurd (omega (arith, less))
-  all_above (suc k) j less = elim (last_or_below j k less) as (λ _. AreSmall (above lines a j)) [
+  all_above (suc k) j less = elim (last_or_below j k less) [
     | inl e ↦ subst (λ n. AreSmall (above lines a n)) (sym e) (above_by k (all_above k))
     | inr l ↦ all_above k j l
   ]

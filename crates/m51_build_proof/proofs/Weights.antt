@@ -28,13 +28,13 @@ first_of_two : (xs ys : List ℕ) → ComesFirst xs ys ⊎ ComesFirst ys xs
 first_of_two [] ys = inl tt
 first_of_two (x ∷ xs) [] = inr tt
 first_of_two (x ∷ xs) (y ∷ ys) =
-    elim (cases_lt x y) as (λ _. ComesFirst (x ∷ xs) (y ∷ ys) ⊎ ComesFirst (y ∷ ys) (x ∷ xs)) [
+    elim (cases_lt x y) [
       | inl less ↦ inl (inl less)
-      | inr not_less ↦ elim (cases_lt y x) as (λ _. ComesFirst (x ∷ xs) (y ∷ ys) ⊎ ComesFirst (y ∷ ys) (x ∷ xs)) [
+      | inr not_less ↦ elim (cases_lt y x) [
         | inl less ↦ inr (inl less)
         | inr also_not ↦
             let same : x ≡ y = omega (arith, not_less, also_not) in
-            elim (first_of_two xs ys) as (λ _. ComesFirst (x ∷ xs) (y ∷ ys) ⊎ ComesFirst (y ∷ ys) (x ∷ xs)) [
+            elim (first_of_two xs ys) [
               | inl h ↦ inl (inr (same, h))
               | inr h ↦ inr (inr (sym same, h))
             ]
@@ -67,14 +67,14 @@ module _ (weight : ℕ → ℕ) where
 
   beats_or : (unit : ℕ) (one two : List ℕ) → Beats unit one two ⊎ Beats unit two one
   beats_or unit one two =
-      elim (cases_lt (total unit two) (total unit one)) as (λ _. Beats unit one two ⊎ Beats unit two one) [
+      elim (cases_lt (total unit two) (total unit one)) [
         | inl less ↦ inl (inl less)
         | inr not_less ↦ elim (cases_lt (total unit one) (total unit two)) as
             (λ _. Beats unit one two ⊎ Beats unit two one) [
               | inl less ↦ inr (inl less)
               | inr also_not ↦
                   let same : total unit two ≡ total unit one = omega (arith, not_less, also_not) in
-                  elim (first_of_two one two) as (λ _. Beats unit one two ⊎ Beats unit two one) [
+                  elim (first_of_two one two) [
                     | inl h ↦ inl (inr (same, h))
                     | inr h ↦ inr (inr (sym same, h))
                   ]
@@ -122,7 +122,7 @@ module _ (weight : ℕ → ℕ) where
         → (other : List ℕ) → IsWalk edges unit other → BeginsIn (e ∷ es) unit other → Beats unit more other
     by_edge unit e es step rest more one two [] walk h = beats_over unit more rest.more [] two (rest.most [] tt tt)
     by_edge unit e es step rest more one two (next ∷ other) walk h =
-        elim (first_or_after e es (unit, next) h) as (λ _. Beats unit more (next ∷ other)) [
+        elim (first_or_after e es (unit, next) h) [
           | inl here ↦
               let same : e.1 ≡ next = ap (λ (p : ℕ × ℕ). p.1) here in
               let on : IsWalk edges e.1 other = subst (λ (n : ℕ). IsWalk edges n other) (sym same) walk.1 in
@@ -136,7 +136,7 @@ module _ (weight : ℕ → ℕ) where
         → IsWalk edges unit other → BeginsIn (e ∷ es) unit other → Beats unit rest.more other
     passed unit e es rest differs [] walk h = rest.most [] tt tt
     passed unit e es rest differs (next ∷ other) walk h =
-        elim (first_or_after e es (unit, next) h) as (λ _. Beats unit rest.more (next ∷ other)) [
+        elim (first_or_after e es (unit, next) h) [
           | inl here ↦ absurd (differs (ap (λ (p : ℕ × ℕ). p.0) here))
           | inr later ↦ rest.most (next ∷ other) walk later
         ]
@@ -146,12 +146,12 @@ module _ (weight : ℕ → ℕ) where
     best_in [] unit among steps = record { more = []; walk = tt; most = none_yet unit }
     best_in (e ∷ es) unit among steps =
         let rest = best_in es unit (λ x h. among x (contains_after e es x h)) steps in
-        elim (same_or_not e.0 unit) as (λ _. HasBestIn (e ∷ es) unit) [
+        elim (same_or_not e.0 unit) [
           | inl same ↦
               let there : HasEdge edges unit e.1 =
               subst (λ (n : ℕ). HasEdge edges n e.1) same (among e (contains_first e es)) in
               let step = steps e.1 there in
-              elim (beats_or unit (e.1 ∷ step.more) rest.more) as (λ _. HasBestIn (e ∷ es) unit) [
+              elim (beats_or unit (e.1 ∷ step.more) rest.more) [
                 | inl wins ↦ record {
                   more = e.1 ∷ step.more;
                   walk = (there, step.walk);
@@ -213,7 +213,7 @@ root_at (r ∷ roots) vector =
           (λ _. ((unit : ℕ) × Contains (r ∷ roots) (vector, unit)) ⊎
           ((unit : ℕ) → Contains (r ∷ roots) (vector, unit) → ⊥)) [
             | inl found ↦ inl (found.0, contains_after r roots (vector, found.0) found.1)
-            | inr none ↦ inr (λ unit h. elim (first_or_after r roots (vector, unit) h) as (λ _. ⊥) [
+            | inr none ↦ inr (λ unit h. elim (first_or_after r roots (vector, unit) h) [
               | inl here ↦ differs (ap (λ (p : ℕ × ℕ). p.0) here)
               | inr later ↦ none unit later
             ])
@@ -235,7 +235,7 @@ module _ (g : GraphParts) (is : IsGraph g) (weight : ℕ → ℕ) where
   has_chains [] = record { chains = []; are = tt }
   has_chains (vector ∷ more) =
       let rest = has_chains more in
-      elim (root_at g.roots vector) as (λ _. HasChains (vector ∷ more)) [
+      elim (root_at g.roots vector) [
         | inl found ↦
             let best = best_of weight g.edges (length g.units) is.units.edges is.no_cycle found.0 in
             let chain : Chain = record {

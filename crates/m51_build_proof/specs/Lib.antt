@@ -4,3 +4,4 @@ pub mod Builds
 pub mod Overlay
 pub mod Headline
 pub mod FromChain
+pub mod Answers

@@ -298,7 +298,7 @@ module _ (l : LayoutParts) (vectors : List ℕ) (root : IsRootAt l 0 0)
   unrelated u v h related =
       let k = and_parts (not (nat_eq u v)) (is_leaf l u && is_leaf l v) h in
       let q = and_parts (is_leaf l u) (is_leaf l v) k.1 in
-      elim related as (λ _. ⊥) [
+      elim related [
         | Same e ↦ refuted (nat_eq u v) k.0 (eq-eqb u v e)
         | Before r ↦ no_reach u v q.0 r
         | After r ↦ no_reach v u q.1 r
@@ -314,7 +314,7 @@ module _ (l : LayoutParts) (vectors : List ℕ) (root : IsRootAt l 0 0)
       let k = and_parts (is_overlaid_at (slice_get l.placed s) && is_overlaid_at (slice_get l.placed t))
       (each_of (owners_of l.owners s) (λ u. each_of (owners_of l.owners t) (λ v. are_siblings l u v))) h in
       let q = and_parts (is_overlaid_at (slice_get l.placed s)) (is_overlaid_at (slice_get l.placed t)) k.0 in
-      elim conflict as (λ _. ⊥) [
+      elim conflict [
         | FirstPlain plain ↦ plain (overlaid_at s (slice_get l.placed s) refl q.0)
         | SecondPlain plain ↦ plain (overlaid_at t (slice_get l.placed t) refl q.1)
         | Owners u v owns_s owns_t related ↦ unrelated u v

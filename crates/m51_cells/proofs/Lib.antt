@@ -2,6 +2,7 @@ pub mod Fronts
 pub mod KindLaws
 pub mod LineLaws
 pub mod Meeting
+pub mod Members
 pub mod NameLaws
 pub mod Padding
 pub mod Passing

@@ -18,7 +18,7 @@ sum_most most (x ∷ xs) h =
 -- what passes the test is among what is left
 pub filter_keeps : (p : ℕ → Bool) (xs : List ℕ) (x : ℕ) → Contains xs x → p x ≡ true → Contains (filter p xs) x
 filter_keeps p [] x h passes = absurd (none_in_empty x h)
-filter_keeps p (y ∷ ys) x h passes = elim (first_or_after y ys x h) as (λ _. Contains (filter p (y ∷ ys)) x) [
+filter_keeps p (y ∷ ys) x h passes = elim (first_or_after y ys x h) [
   | inl here ↦
       let first : p y ≡ true = ap p here ∙ passes in
       subst (λ b. Contains (cond b (y ∷ filter p ys) (filter p ys)) x) (sym first) (0, omega arith, here)

@@ -15,7 +15,7 @@ pub below_or_last : (n count : ℕ) → n < count + 1 → (n < count) ⊎ (n ≡
 below_or_last n zero h = inr (omega (arith, h))
 below_or_last zero (suc count) h = inl (omega arith)
 below_or_last (suc n) (suc count) h =
-    elim (below_or_last n count (omega (arith, h))) as (λ _. (suc n < suc count) ⊎ (suc n ≡ suc count)) [
+    elim (below_or_last n count (omega (arith, h))) [
       | inl below ↦ inl (omega (arith, below))
       | inr last ↦ inr (ap suc last)
     ]

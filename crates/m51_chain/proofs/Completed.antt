@@ -52,8 +52,8 @@ one_asked files (Some job) a b (inl many) (inr few) = absurd (omega (arith, many
 one_asked files (Some job) a b (inr few) (inl many) = absurd (omega (arith, many.0, few.0))
 one_asked files (Some job) a b (inr few) (inr less) = one_reading job (read_of files (names_read job)) a b few.1 less.1
 
-one_answer : (words : List (List ℕ)) (files : Files) (a b : Answer) → IsAnswer words files a → IsAnswer words files b
-    → a ≡ b
+pub one_answer : (words : List (List ℕ)) (files : Files) (a b : Answer) → IsAnswer words files a
+    → IsAnswer words files b → a ≡ b
 one_answer words files a b h k =
     one_asked files (job_of words) a b (by_asked words files a h) (by_asked words files b k)
 

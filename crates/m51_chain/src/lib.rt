@@ -21,4 +21,7 @@ pub use m51_shelf::{
     SureSink,
 };
 pub use m51_verbs::{NOT_TEXT, Status};
+pub use planning::plan;
 pub use top::chain;
+pub use unrun::UnrunParty;
+pub use work::Task;

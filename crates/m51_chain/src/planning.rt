@@ -118,13 +118,11 @@ fn plan_few<F: Shelf>(alloc: Global, job: &Job, files: &mut F) -> Result<Task, N
     }
 }
 
-// What is to be kept and written for these arguments: the arguments are read, then their files, and then the verb does
-// its work.
-pub(crate) fn plan<F: Shelf>(
-    alloc: Global,
-    words: &[String],
-    files: &mut F,
-) -> Result<Task, NoMemory>
+/// What is to be kept and written for these arguments: the arguments are read, then their files, and then the verb does
+/// its work. Out of memory is the only error.
+///
+/// Source: own choice ("The top call").
+pub fn plan<F: Shelf>(alloc: Global, words: &[String], files: &mut F) -> Result<Task, NoMemory>
     ensures due { IfOk result (λ task. IsDue (texts words.now) (F.state files.old).holds
         (F.state files.old).reads (F.state files.new).reads (task_answer task)) }
     ensures usage { job_of (texts words.now) ≡ None → files.new ≡ files.old }

@@ -14,9 +14,11 @@ use m51_sim::Board;
 use std::alloc::Global;
 use std::marker::Model;
 
-// A party that was not run, which contracts see as its boards.
+/// A party that was not run, which contracts see as its boards.
+///
+/// Source: own choice ("Party line").
 #[derive(Drop)]
-pub(crate) struct UnrunParty {
+pub struct UnrunParty {
     party: Party,
 }
 

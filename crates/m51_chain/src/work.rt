@@ -12,11 +12,13 @@ pub(crate) enum Work {
     Party { party: UnrunParty, steps: Steps },
 }
 
-// What is to be kept, written and run.
+/// What is to be kept, written and run.
+///
+/// Source: own choice ("The top call").
 #[derive(Drop)]
-pub(crate) enum Task {
-    // A plan, which runs one board at most.
+pub enum Task {
+    /// A plan, which runs one board at most.
     Alone(Plan),
-    // The run of boards on one line, whose text is written.
+    /// The run of boards on one line, whose text is written.
     Party { party: UnrunParty, steps: Steps },
 }

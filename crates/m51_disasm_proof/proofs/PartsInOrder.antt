@@ -3,8 +3,8 @@ use Rattle.m51_disasm_proof.proofs
 use proofs.Common.{◌+◌, ◌-◌, ◌<◌, ◌==◌, ◌∙◌, ◌∷◌, ◌≡◌, ◌≢◌, ◌≤◌, Bool, CodeRange, HaveSizes, LayoutParts, List, Some}
 use proofs.Common.{[], ap, arith, common_steps, map, refl, slice_get, subst, suc, sym, true, zero, ℕ}
 use Rattle.std.proofs.Common.{inl, inr, ◌⊎◌}
-use Rattle.std.proofs.lemmas.Bool.{cond_both, eqb-true}
-use Rattle.std.proofs.lemmas.List.Elements.{All-contains, All-filter, filter_passes}
+use Rattle.std.proofs.lemmas.Bool.{eqb-true}
+use Rattle.std.proofs.lemmas.List.Elements.{All-contains}
 use Rattle.std.proofs.str.Laws.{order}
 use Rattle.std.specs.List.{filter}
 use Rattle.m51_cells.specs.Extent.{Meet, extent_of}
@@ -14,8 +14,9 @@ use Rattle.m51_module.specs.Conflict.{FirstPlain}
 use Rattle.m51_module.specs.Plan.{IsCodeSegment, IsPlaced}
 use Rattle.m51_module.specs.Sound.{IsSound}
 use Rattle.m51_module.specs.declared.placed.Placed.{Placed}
-use Rattle.m51_asm.proofs.Members.{In, Pairs, at_in, contains_in, every_all, in_append, in_first, in_later, in_map}
-use Rattle.m51_asm.proofs.Members.{no_element, pairs_append, pairs_map, pairs_weaker}
+use Rattle.m51_asm.proofs.Members.{pairs_within}
+use Rattle.m51_cells.proofs.Members.{In, Pairs, at_in, contains_in, every_in, in_cases, in_filter, in_first, in_later}
+use Rattle.m51_cells.proofs.Members.{in_map, no_element, pairs_append, pairs_filter, pairs_got, pairs_map}
 use Rattle.m51_disasm.proofs.Placing.{all_inside}
 use Rattle.m51_disasm.specs.Parts.{IsInside, code_ranges, has_bytes, parts_below, placed_range, unit_ranges}
 
@@ -23,32 +24,6 @@ use Rattle.m51_disasm.specs.Parts.{IsInside, code_ranges, has_bytes, parts_below
 abbrev pub AreInOrder : ℕ → List CodeRange → Type 0
 AreInOrder low [] = Unit {0}
 AreInOrder low (p ∷ ps) = (low ≤ p.base) × IsInside p × AreInOrder (p.base + p.size) ps
-
--- ---- of lists
-
-pairs_by : {A : Type 0} (R : A → A → Type 0) (xs : List A)
-    → ((i j : ℕ) (x y : A) → i < j → slice_get xs i ≡ Some x → slice_get xs j ≡ Some y → R x y) → Pairs R xs
-pairs_by R [] h = tt
-pairs_by R (x ∷ xs) h = (
-  λ y i. let at = at_in xs y i in h 0 (suc at.index) x y (omega arith) refl at.got,
-  pairs_by R xs (λ i j u v less one two. h (suc i) (suc j) u v (omega arith) one two),
-)
-
--- an element that a test leaves passes it
-in_filter : {A : Type 0} (p : A → Bool) (xs : List A) (y : A) → In y (filter p xs) → (p y ≡ true) × In y xs
-in_filter p xs y i =
-    let there = contains_in (filter p xs) y i in
-    let all = every_all (λ x. In x xs) xs (λ x here. here) in (
-      All-contains (λ x. p x ≡ true) (filter p xs) y (filter_passes p xs) there,
-      All-contains (λ x. In x xs) (filter p xs) y (All-filter p (λ x. In x xs) xs all) there,
-    )
-
-pairs_filter : {A : Type 0} (R : A → A → Type 0) (p : A → Bool) (xs : List A) → Pairs R xs → Pairs R (filter p xs)
-pairs_filter R p [] h = tt
-pairs_filter R p (x ∷ xs) h =
-    let more = pairs_filter R p xs h.1 in
-    cond_both (p x) (x ∷ filter p xs) (filter p xs) (Pairs R)
-    (λ yes. ((λ y i. h.0 y (in_filter p xs y i).1), more)) (λ no. more)
 
 -- ---- two units share no byte
 
@@ -84,7 +59,7 @@ module _ (l : LayoutParts) (sound : IsSound l) where
 
   units_apart : Pairs Apart (map unit_part l.units)
   units_apart = pairs_map unit_part Apart l.units
-      (pairs_by (λ s t. Apart (unit_part s) (unit_part t)) l.units (λ u v s t less one two.
+      (pairs_got (λ s t. Apart (unit_part s) (unit_part t)) l.units (λ u v s t less one two.
       let p = sound.is_code u s one in
       let q = sound.is_code v t two in
       let ne : s ≢ t = λ e. let same = sound.once u v t (one ∙ ap (λ x. Some x) e) two in omega arith in
@@ -102,10 +77,10 @@ module _ (l : LayoutParts) (sound : IsSound l) where
   unit_of : (p : CodeRange) → In p all
       → (s : ℕ) × (x : Placed) × IsPlaced l s x × IsCodeSegment x × (placed_range (Some x) ≡ p)
   unit_of p i =
-      let c = in_map unit_part l.units p (in_filter has_bytes (map unit_part l.units) p i).1 in
-      let at = at_in l.units c.from c.there in
-      let code = sound.is_code at.index c.from at.got in
-      (c.from, code.0, code.1, code.2, ap placed_range (sym code.1) ∙ c.is)
+      let c = in_map unit_part l.units p (in_filter has_bytes (map unit_part l.units) p i).0 in
+      let at = at_in l.units c.0 c.1 in
+      let code = sound.is_code at.index c.0 at.got in
+      (c.0, code.0, code.1, code.2, ap placed_range (sym code.1) ∙ c.2)
 
   two_apart : (p q : CodeRange) → p ≢ q → In p all → In q all → Apart p q
   two_apart p q ne i j =
@@ -122,12 +97,12 @@ module _ (l : LayoutParts) (sound : IsSound l) where
   Before p q = p.base + p.size ≤ q.base
 
   at_base : (n : ℕ) (p : CodeRange) → In p (filter (λ unit. unit.base == n) all) → In p all × (p.base ≡ n)
-  at_base n p i = let r = in_filter (λ (unit : CodeRange). unit.base == n) all p i in (r.1, eqb-true p.base n r.0)
+  at_base n p i = let r = in_filter (λ (unit : CodeRange). unit.base == n) all p i in (r.0, eqb-true p.base n r.1)
 
   below_from : (n : ℕ) (p : CodeRange) → In p (parts_below all n) → In p all × (p.base < n)
   unfolding parts_below
   below_from zero p i = absurd (no_element p i)
-  below_from (suc n) p i = elim (in_append p (parts_below all n) (filter (λ unit. unit.base == n) all) i) [
+  below_from (suc n) p i = elim (in_cases (parts_below all n) (filter (λ unit. unit.base == n) all) p i) [
     | inl j ↦ let r = below_from n p j in let less = r.1 in (r.0, omega arith)
     | inr j ↦ let r = at_base n p j in let same = r.1 in (r.0, omega arith)
   ]
@@ -144,7 +119,7 @@ module _ (l : LayoutParts) (sound : IsSound l) where
   below_ordered (suc n) =
       let here : List CodeRange = filter (λ unit. unit.base == n) all in
       pairs_append Before (parts_below all n) here (below_ordered n)
-      (pairs_weaker Apart Before here
+      (pairs_within Apart Before here
       (λ p q i j apart. let a = at_base n p i in let b = at_base n q j in in_turn p q (omega arith) a.0 b.0 apart)
       (pairs_filter Apart (λ (unit : CodeRange). unit.base == n) all all_apart))
       (λ p q i j.
@@ -160,7 +135,7 @@ module _ (l : LayoutParts) (sound : IsSound l) where
   in_order low (p ∷ ps) first ins h = (
     first p (in_first p ps),
     ins p (in_first p ps),
-    in_order (p.base + p.size) ps (λ q i. h.0 q i) (λ q i. ins q (in_later q p ps i)) h.1,
+    in_order (p.base + p.size) ps (λ q i. every_in (Before p) ps q h.0 i) (λ q i. ins q (in_later q p ps i)) h.1,
   )
 
   pub parts_in_order : AreInOrder 0 (code_ranges l)

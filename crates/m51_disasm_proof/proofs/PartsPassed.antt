@@ -12,7 +12,7 @@ use Rattle.m51_asm.specs.Assignment.{absolute}
 use Rattle.m51_asm.specs.ObjectSegments.{begun_by, kept_before, kept_by}
 use Rattle.m51_disasm.specs.Lines.{part_lines, statement_lines}
 use Rattle.m51_asm.proofs.Common.{cases_eq}
-use Rattle.m51_asm.proofs.Members.{In, in_first, in_later}
+use Rattle.m51_cells.proofs.Members.{In, in_first, in_later}
 use Rattle.m51_asm.specs.FirstFault.{AreFree}
 use Rattle.m51_asm.specs.Fitting.{externals_before, externals_in}
 use Rattle.m51_asm.specs.PlacedFaults.{is_misplaced, operand_fault, placed_fault, segments_before}

@@ -58,7 +58,11 @@ pub fn reset() -> Cpu
 pub fn begin(effect: &mut Effect, cpu: &Cpu, cycles: u8)
     ensures { effect.new ≡ still cpu.now cycles }
 {
-    effect.cpu = *cpu;
+    // Part by part: a copy of the whole would be a call.
+    effect.cpu.regs = cpu.regs;
+    effect.cpu.pc = cpu.pc;
+    effect.cpu.low = cpu.low;
+    effect.cpu.high = cpu.high;
     effect.cpu.held = false;
     effect.first = Put::Nothing;
     effect.second = Put::Nothing;

@@ -58,7 +58,7 @@ pub bits_same : (p q : ℕ → Bool) (xs : List ℕ) → bits_of p xs ≡ bits_o
 bits_same p q [] h x is = absurd (none_in_empty x is)
 bits_same p q (y ∷ ys) h x is =
     let parts = bit_same (p y) (q y) (bits_of p ys) (bits_of q ys) h in
-    elim (first_or_after y ys x is) as (λ _. p x ≡ q x) [
+    elim (first_or_after y ys x is) [
       | inl here ↦ subst (λ z. p z ≡ q z) here parts.0
       | inr later ↦ bits_same p q ys parts.1 x later
     ]
@@ -75,7 +75,7 @@ pub bits_zero : (p : ℕ → Bool) (xs : List ℕ) → bits_of p xs ≡ 0 → (x
 bits_zero p [] h x is = absurd (none_in_empty x is)
 bits_zero p (y ∷ ys) h x is =
     let parts = bit_same (p y) false (bits_of p ys) 0 (h ∙ omega arith) in
-    elim (first_or_after y ys x is) as (λ _. p x ≡ false) [
+    elim (first_or_after y ys x is) [
       | inl here ↦ subst (λ z. p z ≡ false) here parts.0
       | inr later ↦ bits_zero p ys parts.1 x later
     ]
@@ -88,9 +88,9 @@ pub record Passes (p : ℕ → Bool) (xs : List ℕ) : Type 0 where
 
 pub bits_some : (p : ℕ → Bool) (xs : List ℕ) → (bits_of p xs ≡ 0) ⊎ Passes p xs
 bits_some p [] = inl refl
-bits_some p (y ∷ ys) = elim (cases_Bool (p y)) as (λ _. (bits_of p (y ∷ ys) ≡ 0) ⊎ Passes p (y ∷ ys)) [
+bits_some p (y ∷ ys) = elim (cases_Bool (p y)) [
   | inl first ↦ inr (record { x = y; is = (0, omega arith, refl); passes = first })
-  | inr fails ↦ elim (bits_some p ys) as (λ _. (bits_of p (y ∷ ys) ≡ 0) ⊎ Passes p (y ∷ ys)) [
+  | inr fails ↦ elim (bits_some p ys) [
     | inl none ↦ inl (ap (λ b. bit_if b + 2 * bits_of p ys) fails ∙ omega (arith, none))
     | inr later ↦ inr (record { x = later.x; is = contains_after y ys later.x later.is; passes = later.passes })
   ]

@@ -42,7 +42,7 @@ tally_mono p q (suc n) h = omega (arith, tally_mono p q n h, one_le (p n) (q n) 
 pub tally_lt : (p q : ℕ → Bool) (n w : ℕ) → w < n → ((u : ℕ) → p u ≡ true → q u ≡ true) → p w ≡ false → q w ≡ true
     → tally p n < tally q n
 tally_lt p q zero w below h lacks passes = absurd (omega (arith, below))
-tally_lt p q (suc n) w below h lacks passes = elim (same_or_not w n) as (λ _. tally p (suc n) < tally q (suc n)) [
+tally_lt p q (suc n) w below h lacks passes = elim (same_or_not w n) [
   | inl e ↦
       let none : one_if (p n) ≡ 0 = ap one_if (subst (λ m. p m ≡ false) e lacks) in
       let one : one_if (q n) ≡ 1 = ap one_if (subst (λ m. q m ≡ true) e passes) in
@@ -123,7 +123,7 @@ climbs_edge edges done u v old new rose e in_u in_v less c =
     record {
       len = same ∙ c.len;
       walked = record {
-        walked = λ w below. elim (same_or_not w v) as (λ _. EndsWalk edges w (get_or (set new v level) w 0)) [
+        walked = λ w below. elim (same_or_not w v) [
           | inl here ↦ subst (λ x. EndsWalk edges x (get_or (set new v level) x 0)) (sym here)
               (subst (λ k. EndsWalk edges v k) (sym (get_or-set_same new v level 0 in_v))
               (ends_on edges u v (get_or new u 0) (c.walked.walked u in_u) e))
@@ -143,7 +143,7 @@ climbs_pass edges done u v old new rose high c = record {
   len = c.len;
   walked = c.walked;
   settled = λ h. record {
-    higher = λ x y e. elim (Contains-push_cases done (u, v) (x, y) e) as (λ _. get_or new x 0 < get_or new y 0) [
+    higher = λ x y e. elim (Contains-push_cases done (u, v) (x, y) e) [
       | inl before ↦ (c.settled h).higher x y before
       | inr here ↦
           let from : u ≡ x = ap (λ (p : ℕ × ℕ). p.0) here in

@@ -62,7 +62,7 @@ module _ (edges : Edges) (has : ℕ → ℕ → Bool) (tells : (u v : ℕ) → D
   closed_reaches : (k u v : ℕ) → closed_below k has u v ≡ true → Reaches edges u v
   unfolding closed_below
   closed_reaches zero u v h = reach_edge edges u v ((tells u v).0 h)
-  closed_reaches (suc k) u v h = elim ((via_tells k u v).0 h) as (λ _. Reaches edges u v) [
+  closed_reaches (suc k) u v h = elim ((via_tells k u v).0 h) [
     | inl direct ↦ closed_reaches k u v direct
     | inr both ↦ reach_trans edges u k v (closed_reaches k u k both.0) (closed_reaches k k v both.1)
   ]
@@ -87,17 +87,17 @@ module _ (edges : Edges) (has : ℕ → ℕ → Bool) (tells : (u v : ℕ) → D
   closed_on (suc k) u w v below p q =
       let one = (via_tells k u w).0 p in
       let two = (via_tells k w v).0 q in
-      (via_tells k u v).1 (elim (cases_eq w k) as (λ _. Via k u v) [
+      (via_tells k u v).1 (elim (cases_eq w k) [
         | inl here ↦ inr
             (to_last k u (subst (λ n. Via k u n) here one), from_last k v (subst (λ n. Via k n v) here two))
         | inr other ↦
             let less : w < k = omega (arith, below, other) in
-            elim one as (λ _. Via k u v) [
-              | inl a ↦ elim two as (λ _. Via k u v) [
+            elim one [
+              | inl a ↦ elim two [
                 | inl b ↦ inl (closed_on k u w v less a b)
                 | inr b ↦ inr (closed_on k u w k less a b.0, b.1)
               ]
-              | inr a ↦ elim two as (λ _. Via k u v) [
+              | inr a ↦ elim two [
                 | inl b ↦ inr (a.0, closed_on k k w v less a.1 b)
                 | inr b ↦ inr (a.0, b.1)
               ]

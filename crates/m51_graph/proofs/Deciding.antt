@@ -42,15 +42,15 @@ leads_on edges u v w e (inr r) = reach_from edges u v w e r
 
 split_on : (edge : ℕ × ℕ) (edges : Edges) (u v w : ℕ) → HasEdge (edge ∷ edges) u v → Leads edges v w
     ⊎ (Leads edges v edge.0 × Leads edges edge.1 w) → Splits edge edges u w
-split_on edge edges u v w e rest = elim (first_or_after edge edges (u, v) e) as (λ _. Splits edge edges u w) [
+split_on edge edges u v w e rest = elim (first_or_after edge edges (u, v) e) [
   | inl here ↦
       let from : u ≡ edge.0 = sym (ap (λ (p : ℕ × ℕ). p.0) here) in
       let to : v ≡ edge.1 = sym (ap (λ (p : ℕ × ℕ). p.1) here) in
-      elim rest as (λ _. Splits edge edges u w) [
+      elim rest [
         | inl l ↦ inr (inl from, subst (λ x. Leads edges x w) to l)
         | inr both ↦ inr (inl from, both.1)
       ]
-  | inr behind ↦ elim rest as (λ _. Splits edge edges u w) [
+  | inr behind ↦ elim rest [
     | inl l ↦ inl (leads_on edges u v w behind l)
     | inr both ↦ inr (inr (leads_on edges u v edge.0 behind both.0), both.1)
   ]
@@ -75,12 +75,12 @@ join_reach : (edge : ℕ × ℕ) (edges : Edges) (u w : ℕ) → Splits edge edg
 join_reach edge edges u w (inl r) = reach_more edge edges u w r
 join_reach edge edges u w (inr both) =
     let here : HasEdge (edge ∷ edges) edge.0 edge.1 = (0, omega arith, refl) in
-    let before : Reaches (edge ∷ edges) u edge.1 = elim both.0 as (λ _. Reaches (edge ∷ edges) u edge.1) [
+    let before : Reaches (edge ∷ edges) u edge.1 = elim both.0 [
       | inl same ↦ subst (λ x. Reaches (edge ∷ edges) x edge.1) (sym same)
           (reach_edge (edge ∷ edges) edge.0 edge.1 here)
       | inr r ↦ reach_on (edge ∷ edges) u edge.0 edge.1 (reach_more edge edges u edge.0 r) here
     ] in
-    elim both.1 as (λ _. Reaches (edge ∷ edges) u w) [
+    elim both.1 [
       | inl same ↦ subst (λ x. Reaches (edge ∷ edges) u x) same before
       | inr r ↦ reach_trans (edge ∷ edges) u edge.1 w before (reach_more edge edges edge.1 w r)
     ]
@@ -89,7 +89,7 @@ join_reach edge edges u w (inr both) =
 pub or_decides : {P Q : Type 0} → (a b : Bool) → Decides a P → Decides b Q → Decides (a || b) (P ⊎ Q)
 or_decides true b d e = (λ h. inl (d.0 refl), λ h. refl)
 or_decides false b d e =
-    (λ h. inr (e.0 h), λ h. elim h as (λ _. b ≡ true) [ inl p ↦ absurd (false≢true (d.1 p)) | inr q ↦ e.1 q ])
+    (λ h. inr (e.0 h), λ h. elim h [ inl p ↦ absurd (false≢true (d.1 p)) | inr q ↦ e.1 q ])
 
 pub and_decides : {P Q : Type 0} → (a b : Bool) → Decides a P → Decides b Q → Decides (a && b) (P × Q)
 and_decides true b d e = (λ h. (d.0 refl, e.0 h), λ h. e.1 h.1)

@@ -22,14 +22,12 @@ use Rattle.m51_graph.proofs.Closed.{edge_tells}
 
 -- an edge of the longer list is one of those before, or the one that was added
 drawn_in : (edges : Edges) (one e : ℕ × ℕ) → Contains (with_edge edges one) e → Contains edges e ⊎ (one ≡ e)
-drawn_in edges one e h = elim (cases_Bool (has_edge edges one)) as (λ _. Contains edges e ⊎ (one ≡ e)) [
+drawn_in edges one e h = elim (cases_Bool (has_edge edges one)) [
   | inl there ↦ inl (subst (λ b. Contains (cond b edges (edges ++ one ∷ [])) e) there h)
   | inr new ↦ elim
-      (Contains-append_cases edges (one ∷ []) e (subst (λ b. Contains (cond b edges (edges ++ one ∷ [])) e) new h)) as
-      (λ _. Contains edges e ⊎ (one ≡ e)) [
+      (Contains-append_cases edges (one ∷ []) e (subst (λ b. Contains (cond b edges (edges ++ one ∷ [])) e) new h)) [
         | inl before ↦ inl before
-        | inr last ↦ elim (first_or_after one [] e last) as
-            (λ _. Contains edges e ⊎ (one ≡ e)) [ inl is ↦ inr is | inr none ↦ absurd (none_in_empty e none) ]
+        | inr last ↦ elim (first_or_after one [] e last) [ inl is ↦ inr is | inr none ↦ absurd (none_in_empty e none) ]
       ]
 ]
 
@@ -40,7 +38,7 @@ drawn_kept edges one e h =
     [ true ↦ h | false ↦ Contains-append_left edges (one ∷ []) e h ]
 
 drawn_new : (edges : Edges) (one : ℕ × ℕ) → Contains (with_edge edges one) one
-drawn_new edges one = elim (cases_Bool (has_edge edges one)) as (λ _. Contains (with_edge edges one) one) [
+drawn_new edges one = elim (cases_Bool (has_edge edges one)) [
   | inl there ↦ drawn_kept edges one one ((edge_tells edges one.0 one.1).0 there)
   | inr new ↦ subst (λ b. Contains (cond b edges (edges ++ one ∷ [])) one) (sym new) (Contains-push edges one)
 ]
@@ -49,8 +47,8 @@ all_drawn_in : (edges more : Edges) (e : ℕ × ℕ) → Contains (with_edges ed
     ⊎ Contains more e
 all_drawn_in edges [] e h = inl h
 all_drawn_in edges (one ∷ more) e h =
-    elim (all_drawn_in (with_edge edges one) more e h) as (λ _. Contains edges e ⊎ Contains (one ∷ more) e) [
-      | inl before ↦ elim (drawn_in edges one e before) as (λ _. Contains edges e ⊎ Contains (one ∷ more) e) [
+    elim (all_drawn_in (with_edge edges one) more e h) [
+      | inl before ↦ elim (drawn_in edges one e before) [
         | inl old ↦ inl old
         | inr is ↦ inr (subst (λ x. Contains (one ∷ more) x) is (contains_first one more))
       ]
@@ -64,7 +62,7 @@ all_drawn_kept edges (one ∷ more) e h = all_drawn_kept (with_edge edges one) m
 all_drawn : (edges more : Edges) (e : ℕ × ℕ) → Contains more e → Contains (with_edges edges more) e
 all_drawn edges [] e h = absurd (none_in_empty e h)
 all_drawn edges (one ∷ more) e h =
-    elim (first_or_after one more e h) as (λ _. Contains (with_edges (with_edge edges one) more) e) [
+    elim (first_or_after one more e h) [
       | inl is ↦ all_drawn_kept (with_edge edges one) more e
           (subst (λ x. Contains (with_edge edges one) x) is (drawn_new edges one))
       | inr later ↦ all_drawn (with_edge edges one) more e later
@@ -80,8 +78,7 @@ made_option : {Y : Type 0} (found : Option Y) (ys : List Y) (y : Y) → Contains
     → (found ≡ Some y) ⊎ Contains ys y
 made_option None ys y h = inr h
 made_option (Some z) ys y h =
-    elim (first_or_after z ys y h) as
-    (λ _. (Some z ≡ Some y) ⊎ Contains ys y) [ inl is ↦ inl (ap (λ w. Some w) is) | inr later ↦ inr later ]
+    elim (first_or_after z ys y h) [ inl is ↦ inl (ap (λ w. Some w) is) | inr later ↦ inr later ]
 
 option_kept : {Y : Type 0} (found : Option Y) (ys : List Y) (y : Y) → Contains ys y → Contains (cons_option found ys) y
 option_kept None ys y h = h
@@ -89,7 +86,7 @@ option_kept (Some z) ys y h = contains_after z ys y h
 
 maker_of : {X Y : Type 0} (f : X → Option Y) (xs : List X) (y : Y) → Contains (filter_map f xs) y → Maker f xs y
 maker_of f [] y h = absurd (none_in_empty y h)
-maker_of f (x ∷ xs) y h = elim (made_option (f x) (filter_map f xs) y h) as (λ _. Maker f (x ∷ xs) y) [
+maker_of f (x ∷ xs) y h = elim (made_option (f x) (filter_map f xs) y h) [
   | inl makes ↦ record { x = x; is = contains_first x xs; makes = makes }
   | inr later ↦ let m = maker_of f xs y later in record { x = m.x; is = contains_after x xs m.x m.is; makes = m.makes }
 ]
@@ -97,7 +94,7 @@ maker_of f (x ∷ xs) y h = elim (made_option (f x) (filter_map f xs) y h) as (�
 made_by : {X Y : Type 0} (f : X → Option Y) (xs : List X) (y : Y) (x : X) → Contains xs x → f x ≡ Some y
     → Contains (filter_map f xs) y
 made_by f [] y x h e = absurd (none_in_empty x h)
-made_by f (z ∷ xs) y x h e = elim (first_or_after z xs x h) as (λ _. Contains (cons_option (f z) (filter_map f xs)) y) [
+made_by f (z ∷ xs) y x h e = elim (first_or_after z xs x h) [
   | inl is ↦ subst (λ found. Contains (cons_option found (filter_map f xs)) y) (sym (ap f is ∙ e))
       (contains_first y (filter_map f xs))
   | inr later ↦ option_kept (f z) (filter_map f xs) y (made_by f xs y x later e)
@@ -110,7 +107,7 @@ record Part {X Y : Type 0} (f : X → List Y) (xs : List X) (y : Y) : Type 0 whe
 
 part_with : {X Y : Type 0} (f : X → List Y) (xs : List X) (y : Y) → Contains (flat_map f xs) y → Part f xs y
 part_with f [] y h = absurd (none_in_empty y h)
-part_with f (x ∷ xs) y h = elim (Contains-append_cases (f x) (flat_map f xs) y h) as (λ _. Part f (x ∷ xs) y) [
+part_with f (x ∷ xs) y h = elim (Contains-append_cases (f x) (flat_map f xs) y h) [
   | inl first ↦ record { x = x; is = contains_first x xs; has = first }
   | inr later ↦ let p = part_with f xs y later in record { x = p.x; is = contains_after x xs p.x p.is; has = p.has }
 ]
@@ -118,7 +115,7 @@ part_with f (x ∷ xs) y h = elim (Contains-append_cases (f x) (flat_map f xs) y
 in_part : {X Y : Type 0} (f : X → List Y) (xs : List X) (y : Y) (x : X) → Contains xs x → Contains (f x) y
     → Contains (flat_map f xs) y
 in_part f [] y x h k = absurd (none_in_empty x h)
-in_part f (z ∷ xs) y x h k = elim (first_or_after z xs x h) as (λ _. Contains (f z ++ flat_map f xs) y) [
+in_part f (z ∷ xs) y x h k = elim (first_or_after z xs x h) [
   | inl is ↦ Contains-append_left (f z) (flat_map f xs) y (subst (λ w. Contains (f w) y) (sym is) k)
   | inr later ↦ Contains-append_right (f z) (flat_map f xs) y (in_part f xs y x later k)
 ]
@@ -132,7 +129,7 @@ record Ends (a b : Option ℕ) (u v : ℕ) : Type 0 where
 between_ends : (a b : Option ℕ) (u v : ℕ) → edge_between a b ≡ Some (u, v) → Ends a b u v
 between_ends None b u v h = absurd (cc h)
 between_ends (Some x) None u v h = absurd (cc h)
-between_ends (Some x) (Some y) u v h = elim (cases_eq x y) as (λ _. Ends (Some x) (Some y) u v) [
+between_ends (Some x) (Some y) u v h = elim (cases_eq x y) [
   | inl same ↦
       let none : edge_between (Some x) (Some y) ≡ None = ap (λ b. cond b None (Some (x, y))) (eq-eqb x y same) in
       absurd (none-some (u, v) (sym none ∙ h))
@@ -181,8 +178,7 @@ module _ (modules : List ModuleParts) (u v : ℕ) where
 
   made_from : Contains (fixup_edges modules) (u, v) → RefersTo modules u v × (u ≢ v)
   made_from h =
-      elim (all_drawn_in [] (flat_map (module_edges modules) (range_with_len 0 (length modules))) (u, v) h) as
-      (λ _. RefersTo modules u v × (u ≢ v)) [
+      elim (all_drawn_in [] (flat_map (module_edges modules) (range_with_len 0 (length modules))) (u, v) h) [
         | inl none ↦ absurd (none_in_empty (u, v) none)
         | inr made ↦ let part = part_with (module_edges modules) (range_with_len 0 (length modules)) (u, v) made in
             refers_from part.x part.has
@@ -310,11 +306,10 @@ module _ (titles : List (List ℕ)) (u v : ℕ) where
 
 left_in : (p : ℕ × ℕ → Bool) (edges : Edges) (e : ℕ × ℕ) → Contains (filter p edges) e → Contains edges e × (p e ≡ true)
 left_in p [] e h = absurd (none_in_empty e h)
-left_in p (x ∷ edges) e h = elim (cases_Bool (p x)) as (λ _. Contains (x ∷ edges) e × (p e ≡ true)) [
+left_in p (x ∷ edges) e h = elim (cases_Bool (p x)) [
   | inl passes ↦ elim
       (first_or_after x (filter p edges) e
-      (subst (λ b. Contains (cond b (x ∷ filter p edges) (filter p edges)) e) passes h)) as
-      (λ _. Contains (x ∷ edges) e × (p e ≡ true)) [
+      (subst (λ b. Contains (cond b (x ∷ filter p edges) (filter p edges)) e) passes h)) [
         | inl is ↦ (subst (λ w. Contains (x ∷ edges) w) is (contains_first x edges), ap p (sym is) ∙ passes)
         | inr later ↦ let rest = left_in p edges e later in (contains_after x edges e rest.0, rest.1)
       ]
@@ -325,7 +320,7 @@ left_in p (x ∷ edges) e h = elim (cases_Bool (p x)) as (λ _. Contains (x ∷ 
 
 is_left : (p : ℕ × ℕ → Bool) (edges : Edges) (e : ℕ × ℕ) → Contains edges e → p e ≡ true → Contains (filter p edges) e
 is_left p [] e h passes = absurd (none_in_empty e h)
-is_left p (x ∷ edges) e h passes = elim (first_or_after x edges e h) as (λ _. Contains (filter p (x ∷ edges)) e) [
+is_left p (x ∷ edges) e h passes = elim (first_or_after x edges e h) [
   | inl is ↦
       let first : p x ≡ true = ap p is ∙ passes in
       subst (λ b. Contains (cond b (x ∷ filter p edges) (filter p edges)) e) (sym first)
@@ -346,8 +341,7 @@ edges_are = λ modules controls u v.
       λ h.
           let parts = left_in keeps (with_edges made more) (u, v) h in
           let origin : (RefersTo modules u v ⊎ IsAdded titles controls u v) × (u ≢ v) =
-          elim (all_drawn_in made more (u, v) parts.0) as
-          (λ _. (RefersTo modules u v ⊎ IsAdded titles controls u v) × (u ≢ v)) [
+          elim (all_drawn_in made more (u, v) parts.0) [
             | inl fixed ↦ let r = made_from modules u v fixed in (inl r.0, r.1)
             | inr line ↦ let a = added_from titles u v controls line in (inr a.0, a.1)
           ] in
@@ -359,12 +353,12 @@ edges_are = λ modules controls u v.
           },
       λ k.
           let there : Contains (with_edges made more) (u, v) =
-          elim k.made as (λ _. Contains (with_edges made more) (u, v)) [
+          elim k.made [
             | inl r ↦ all_drawn_kept made more (u, v) (refers_made modules u v r k.differ)
             | inr a ↦ all_drawn made more (u, v) (added titles u v controls a k.differ)
           ] in
           is_left keeps (with_edges made more) (u, v) there
-          (elim (cases_Bool (is_cut titles controls (u, v))) as (λ _. keeps (u, v) ≡ true) [
+          (elim (cases_Bool (is_cut titles controls (u, v))) [
             | inl yes' ↦ absurd (k.uncut (cut_from titles u v controls yes'))
             | inr no' ↦ ap not no'
           ]),

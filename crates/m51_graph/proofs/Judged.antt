@@ -67,11 +67,11 @@ cyclic_none : (reach : ℕ → ℕ → Bool) (unit : ℕ) (titles : List (List �
 cyclic_none reach unit [] h k below = absurd (omega (arith, below))
 cyclic_none reach unit (title ∷ more) h k below =
     let rest = cyclic_from reach (unit + 1) more in
-    elim (cases_Bool (reach unit unit)) as (λ _. reach (unit + k) (unit + k) ≡ false) [
+    elim (cases_Bool (reach unit unit)) [
       | inl cycle ↦ absurd (no_first title rest (sym (ap (λ (b : Bool). cond b (title ∷ rest) rest) cycle) ∙ h))
       | inr free ↦
           let none : rest ≡ [] = sym (ap (λ (b : Bool). cond b (title ∷ rest) rest) free) ∙ h in
-          elim (same_or_not k 0) as (λ _. reach (unit + k) (unit + k) ≡ false) [
+          elim (same_or_not k 0) [
             | inl here ↦ subst (λ n. reach n n ≡ false) (omega (arith, here)) free
             | inr later ↦ subst (λ n. reach n n ≡ false) (omega (arith, later))
                 (cyclic_none reach (unit + 1) more none (k - 1) (omega (arith, below, later)))
@@ -100,8 +100,8 @@ none_under_two reach g unit (title ∷ more) h (suc k) below =
 -- a unit without that refusal lies under one root at most
 at_most_one : (title xs : List ℕ) (x y : ℕ) → under_two title xs ≡ None → Contains xs x → Contains xs y → x ≡ y
 at_most_one title [] x y h in_x in_y = absurd (none_in_empty x in_x)
-at_most_one title (a ∷ []) x y h in_x in_y = elim (first_or_after a [] x in_x) as (λ _. x ≡ y) [
-  | inl here ↦ elim (first_or_after a [] y in_y) as (λ _. x ≡ y) [
+at_most_one title (a ∷ []) x y h in_x in_y = elim (first_or_after a [] x in_x) [
+  | inl here ↦ elim (first_or_after a [] y in_y) [
     | inl there ↦ sym here ∙ there
     | inr behind ↦ absurd (none_in_empty y behind)
   ]

@@ -65,9 +65,7 @@ before_more titles i d title now new below is before updates = record {
       let whole : named (take (i + 1) titles) name ≡ option_or old (cond (bytes_eq title name) (Some i) None) =
       position_more test titles i d below ∙ ap (λ t. option_or old (cond (bytes_eq t name) (Some i) None)) (sym is) in
       updates name
-      ∙ elim (cases_Bool (bytes_eq title name)) as
-      (λ _. cond (bytes_eq title name) (Some (unwrap_or (number_by_name now title) i)) (number_by_name now name)
-      ≡ named (take (i + 1) titles) name) [
+      ∙ elim (cases_Bool (bytes_eq title name)) [
         | inl same ↦
             let e : title ≡ name = (bytes_eq-Decides title name).0 same in
             ap (λ b. cond b (Some (unwrap_or (number_by_name now title) i)) (number_by_name now name)) same

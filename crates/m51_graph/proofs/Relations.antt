@@ -67,7 +67,7 @@ module _ (g : GraphParts) where
   bits_tell unit [] = refl
   bits_tell unit (x ∷ xs) =
       let rest : ℕ = bits_of (above unit) xs in
-      elim (cases_Bool (above unit x)) as (λ _. AreBits g unit (x ∷ xs) (bits_of (above unit) (x ∷ xs))) [
+      elim (cases_Bool (above unit x)) [
         | inl lies ↦
             let one : ℕ = 1 in
             let whole : bits_of (above unit) (x ∷ xs) ≡ one + 2 * rest =
@@ -112,7 +112,7 @@ module _ (g : GraphParts) (units : AreOfUnits g) where
       ∙ (above_tells g vector unit).1 lies)
 
   zero_byte : (unit : ℕ) → UnderNone unit → byte unit ≡ 0
-  zero_byte unit none = elim (bits_some (above g unit) vectors) as (λ _. byte unit ≡ 0) [
+  zero_byte unit none = elim (bits_some (above g unit) vectors) [
     | inl zero ↦ zero
     | inr some ↦ absurd (none some.x ((above_tells g some.x unit).0 some.passes))
   ]
@@ -121,11 +121,11 @@ module _ (g : GraphParts) (units : AreOfUnits g) where
   same_tests : (one two x : ℕ) → HasOne one → HasOne two → UnitLiesUnder g x one → UnitLiesUnder g x two → (v : ℕ)
       → above g one v ≡ above g two v
   same_tests one two x only only' lies lies' v =
-      elim (cases_Bool (above g one v)) as (λ _. above g one v ≡ above g two v) [
+      elim (cases_Bool (above g one v)) [
         | inl h ↦
             let here : v ≡ x = only v x ((above_tells g v one).0 h) lies in
             h ∙ sym ((above_tells g v two).1 (subst (λ w. UnitLiesUnder g w two) (sym here) lies'))
-        | inr h ↦ elim (cases_Bool (above g two v)) as (λ _. above g one v ≡ above g two v) [
+        | inr h ↦ elim (cases_Bool (above g two v)) [
           | inl k ↦
               let here : v ≡ x = only' v x ((above_tells g v two).0 k) lies' in
               absurd (false≢true (sym h ∙ (above_tells g v one).1 (subst (λ w. UnitLiesUnder g w one) (sym here) lies)))
@@ -148,14 +148,14 @@ module _ (g : GraphParts) (units : AreOfUnits g) where
       (not_tells (byte one) (byte two))
 
   from_other : (one two : ℕ) → HasOne one → HasOne two → byte one ≢ byte two → Related one two
-  from_other one two only only' ne = elim (bits_some (above g one) vectors) as (λ _. Related one two) [
+  from_other one two only only' ne = elim (bits_some (above g one) vectors) [
     | inl zero ↦ FirstUnderNone (none_under one zero)
-    | inr some ↦ elim (bits_some (above g two) vectors) as (λ _. Related one two) [
+    | inr some ↦ elim (bits_some (above g two) vectors) [
       | inl zero ↦ SecondUnderNone (none_under two zero)
       | inr some' ↦
           let lies : UnitLiesUnder g some.x one = (above_tells g some.x one).0 some.passes in
           let lies' : UnitLiesUnder g some'.x two = (above_tells g some'.x two).0 some'.passes in
-          elim (cases_eq some.x some'.x) as (λ _. Related one two) [
+          elim (cases_eq some.x some'.x) [
             | inl same ↦
                 absurd (ne (bits_agree (above g one) (above g two) vectors
                 (λ v is. same_tests one two some.x only only' lies
@@ -171,7 +171,7 @@ module _ (g : GraphParts) (units : AreOfUnits g) where
 
   -- where the first is under no root, the second is under none too or has another byte
   first_none : (one two : ℕ) → byte one ≡ 0 → Splits one two
-  first_none one two zero = elim (cases_eq (byte two) 0) as (λ _. Splits one two) [
+  first_none one two zero = elim (cases_eq (byte two) 0) [
     | inl same ↦ inl same
     | inr other ↦ inr (λ e. other (sym e ∙ zero))
   ]
@@ -201,14 +201,14 @@ module _ (g : GraphParts) (units : AreOfUnits g) where
   -- the decision is right for units that each lie under at most one root
   pub related_tells : (one two : ℕ) → HasOne one → HasOne two → Decides (related one two) (Related one two)
   related_tells one two only only' = (
-    λ h. elim ((both_tell one two).0 h) as (λ _. Related one two) [
-      | inl sides ↦ elim sides as (λ _. Related one two) [
-        | inl near ↦ elim near as (λ _. Related one two) [ inl same ↦ Same same | inr before ↦ Before before ]
+    λ h. elim ((both_tell one two).0 h) [
+      | inl sides ↦ elim sides [
+        | inl near ↦ elim near [ inl same ↦ Same same | inr before ↦ Before before ]
         | inr after ↦ After after
       ]
       | inr apart ↦ from_splits one two only only' apart
     ],
-    λ h. (both_tell one two).1 (elim h as (λ _. Sides one two ⊎ Splits one two) [
+    λ h. (both_tell one two).1 (elim h [
       | Same e ↦ inl (inl (inl e))
       | Before r ↦ inl (inl (inr r))
       | After r ↦ inl (inr r)
@@ -226,7 +226,7 @@ walk_within g units u v (w ∷ more) walk = walk_within g units v w more walk.1
 -- an owner lies under the roots above it, which are above the own unit too
 pub owner_under : (g : GraphParts) (segment unit vector : ℕ) → (owns : Owns g unit segment)
     → UnitLiesUnder g vector unit → UnitLiesUnder g vector owns.own
-owner_under g segment unit vector owns h = elim owns.owner as (λ _. UnitLiesUnder g vector owns.own) [
+owner_under g segment unit vector owns h = elim owns.owner [
   | inl same ↦ subst (λ u. UnitLiesUnder g vector u) same h
   | inr calls ↦ under_on (joined_graph g) vector unit owns.own h calls.1
 ]
@@ -280,7 +280,7 @@ module _ (g : GraphParts) (t : Tables) (kept : IsKeptGraph g t) where
   Near one two = AreRelated (joined_graph g) one two
 
   owner_below : (s u : ℕ) → Owns g u s → u < length g.units
-  owner_below s u owns = elim owns.owner as (λ _. u < length g.units) [
+  owner_below s u owns = elim owns.owner [
     | inl same ↦ subst (λ n. n < length g.units) (sym same) (units.own owns.own s owns.own_is)
     | inr calls ↦ (units.edges.within u owns.own calls.1).0
   ]
@@ -322,8 +322,8 @@ module _ (g : GraphParts) (t : Tables) (kept : IsKeptGraph g t) where
     found : some_passes s p ≡ true → SomeOwner segment Holds
     found h =
         elim (or_cases (p s.own)
-        (s.argument && list_any (λ caller. pairs t.edges caller s.own && p caller) (range_with_len 0 t.edges.count)) h)
-        as (λ _. SomeOwner segment Holds) [
+        (s.argument && list_any (λ caller. pairs t.edges caller s.own && p caller)
+        (range_with_len 0 t.edges.count)) h) [
           | inl here ↦ record
               { unit = s.own; owns = own_owns segment s is; holds = (tells s.own (own_owns segment s is)).0 here }
           | inr rest ↦
@@ -345,7 +345,7 @@ module _ (g : GraphParts) (t : Tables) (kept : IsKeptGraph g t) where
     passed some =
         let u : ℕ = some.unit in
         let holds : p u ≡ true = (tells u some.owns).1 some.holds in
-        elim some.owns.owner as (λ _. some_passes s p ≡ true) [
+        elim some.owns.owner [
           | inl same ↦ or_left (p s.own) _ (subst (λ w. p w ≡ true) (same ∙ same_own u some.owns) holds)
           | inr calls ↦
               let e : HasEdge g.edges u s.own = subst (λ w. HasEdge g.edges u w) (same_own u some.owns) calls.1 in
@@ -390,7 +390,7 @@ module _ (g : GraphParts) (t : Tables) (kept : IsKeptGraph g t) where
             let some = told.0 h in
             Owners some.unit some.holds.unit some.owns some.holds.owns
             (related_back (joined_graph g) some.holds.unit some.unit some.holds.holds),
-        λ h. elim h as (λ _. owners_related t s w ≡ true) [
+        λ h. elim h [
           | FirstPlain plain ↦ absurd (plain (s.own, is.own))
           | SecondPlain plain ↦ absurd (plain (w.own, is'.own))
           | Owners u v owns owns' near ↦ told.1

@@ -126,7 +126,7 @@ unfolding level_of
 level_function edges unit level h below =
     let test : ℕ → Bool = λ count. not (ends_walk edges (suc count) unit) in
     let here : test level ≡ true =
-    elim (cases_Bool (ends_walk edges (suc level) unit)) as (λ _. not (ends_walk edges (suc level) unit) ≡ true) [
+    elim (cases_Bool (ends_walk edges (suc level) unit)) [
       | inl walks ↦ absurd (omega (arith, h.most (suc level) ((ends_walk_tells edges (suc level) unit).0 walks)))
       | inr ends ↦ ap not ends
     ] in

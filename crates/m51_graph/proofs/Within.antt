@@ -49,7 +49,7 @@ Below count (Some k) = k < count
 
 position_below : {A : Type 0} (p : A → Bool) (xs : List A) → Below (length xs) (position p xs)
 position_below p xs =
-    elim (cases_Bool (ltb (position_or_len p xs) (length xs))) as (λ _. Below (length xs) (position p xs)) [
+    elim (cases_Bool (ltb (position_or_len p xs) (length xs))) [
       | inl within ↦ subst (λ b. Below (length xs) (cond b (Some (position_or_len p xs)) None)) (sym within)
           (ltb-true (position_or_len p xs) (length xs) within)
       | inr out ↦ subst (λ b. Below (length xs) (cond b (Some (position_or_len p xs)) None)) (sym out) tt
@@ -72,7 +72,7 @@ within_none count = record { within = λ u v h. absurd (none_in_empty (u, v) h) 
 within_first : (count : ℕ) (e : ℕ × ℕ) (edges : Edges) → (e.0 < count) × (e.1 < count) → LeadWithin count edges
     → LeadWithin count (e ∷ edges)
 within_first count e edges h rest = record {
-  within = λ u v k. elim (first_or_after e edges (u, v) k) as (λ _. (u < count) × (v < count)) [
+  within = λ u v k. elim (first_or_after e edges (u, v) k) [
     | inl here ↦ subst (λ (p : ℕ × ℕ). (p.0 < count) × (p.1 < count)) here h
     | inr behind ↦ rest.within u v behind
   ];
@@ -87,7 +87,7 @@ rest_within count e edges h = record { within = λ u v k. h.within u v (contains
 within_append : (count : ℕ) (one two : Edges) → LeadWithin count one → LeadWithin count two
     → LeadWithin count (one ++ two)
 within_append count one two h k = record {
-  within = λ u v in_both. elim (Contains-append_cases one two (u, v) in_both) as (λ _. (u < count) × (v < count)) [
+  within = λ u v in_both. elim (Contains-append_cases one two (u, v) in_both) [
     | inl l ↦ h.within u v l
     | inr r ↦ k.within u v r
   ];
@@ -218,11 +218,10 @@ roots_fit unit (j ∷ more) x u h =
     let rest = roots_from (unit + 1) more in
     let later : Contains rest (x, u) → RootFit (unit + length (j ∷ more)) x u = λ k. let fit =
     roots_fit (unit + 1) more x u k in (fit.0, omega (arith, fit.1)) in
-    elim (cases_Bool (is_root j)) as (λ _. RootFit (unit + length (j ∷ more)) x u) [
+    elim (cases_Bool (is_root j)) [
       | inl root ↦ elim
           (first_or_after (j.base, unit) rest (x, u)
-          (subst (λ b. Contains (cond b ((j.base, unit) ∷ rest) rest) (x, u)) root h)) as
-          (λ _. RootFit (unit + length (j ∷ more)) x u) [
+          (subst (λ b. Contains (cond b ((j.base, unit) ∷ rest) rest) (x, u)) root h)) [
             | inl here ↦ (
               subst (λ v. Contains vectors v) (ap (λ (p : ℕ × ℕ). p.0) here) (vector_is j root),
               omega

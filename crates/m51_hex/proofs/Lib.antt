@@ -1,6 +1,7 @@
 pub mod AcceptedLines
 pub mod DigitLaws
 pub mod LineSteps
+pub mod LowRecords
 pub mod RecordLaws
 pub mod RoundTrip
 pub mod RunLines

@@ -1,56 +1,43 @@
 -- What is read of a library is spelled so, and what is spelled so is read.
-use Rattle.std.proofs.Common.{◌≡◌, ℕ, ◌+◌, ◌≤◌, nat_le, true, List, [], ◌∷◌, ◌++◌, length, Ok, refl, sym, ap, ◌∙◌}
+use Rattle.std.proofs.Common.{◌≡◌, ℕ, ◌+◌, ◌≤◌, nat_le, List, [], ◌∷◌, ◌++◌, length, Ok, refl, sym, ap, ◌∙◌}
 use Rattle.std.proofs.Common.{append-nil}
 use Rattle.std.specs.List.{All, flat_map}
-use Rattle.std.proofs.lemmas.Bool.{le-leb}
+use Rattle.std.proofs.lemmas.Bool.{le-leb, leb-true}
 use Rattle.std.proofs.lemmas.List.Elements.{All-head, All-tail}
-use Rattle.std.proofs.Math.Nat.{mod-add-div}
 use Rattle.m51_cells.specs.declared.limits.TheConstants.{MOST_MODULES}
 use Rattle.m51_module.specs.declared.parts.ModuleParts.{ModuleParts}
 use Rattle.m51_module.specs.Library.{IsLibrary}
 use Rattle.m51_module.specs.Validity.{IsValid}
 use Rattle.m51_records.specs.declared.types.TheConstants.{LIBRARY_HEADER}
-use Rattle.m51_frame.specs.Fields.{pair, pair_at, checked}
+use Rattle.m51_frame.specs.Fields.{pair}
 use Rattle.m51_records.specs.Reading.{one_at, module_at}
 use Rattle.m51_records.specs.Spelling.{bytes_of, records_in}
-use Rattle.m51_records.proofs.FieldLaws.{IsBytes, pair_takes}
-use Rattle.m51_records.proofs.ModuleAgain.{module_again}
+use Rattle.m51_records.proofs.FieldLaws.{IsBytes}
+use Rattle.m51_records.proofs.Codec.{Agrees, then_fields, no_field, record_agrees, pair_codec}
+use Rattle.m51_records.proofs.ModuleLaws.{module_again}
 use Rattle.m51_records.proofs.SectionLaws.{one_takes, one_again}
-use Rattle.m51_records.proofs.Tools.{on_ok, checked_ok, ended_ok}
 use Rattle.m51_library.specs.Spelling.{count_record, library_bytes}
 use Rattle.m51_library.specs.Reading.{count_in, modules_at, modules_of, library_of}
 use Rattle.m51_library.proofs.Accepting.{accepted}
 
 -- the number of modules is the field that was written
 
-count_takes : (end : ℕ) (contents : List ℕ) (count : ℕ) → IsBytes contents → count_in end contents ≡ Ok count
-    → (contents ≡ pair count) × Unit {0}
+count_agrees : Agrees count_in pair (λ count. count ≤ MOST_MODULES)
 unfolding count_in
-count_takes end contents count fits e =
-    on_ok (pair_at end contents) _ count ((contents ≡ pair count) × Unit {0}) (λ found e1 h1.
-    on_ok (checked (nat_le found.0 MOST_MODULES) end contents found.0) _ count ((contents ≡ pair count) × Unit {0})
-    (λ few e2 h2.
-    let p = pair_takes end contents found fits e1 in
-    let c = checked_ok (nat_le found.0 MOST_MODULES) end contents found.0 few e2 in
-    let d = ended_ok end found.1 few count h2 in
-    (p.0 ∙ ap (λ (r : List ℕ). pair found.0 ++ r) d.0 ∙ append-nil (pair found.0) ∙ ap pair (c.1 ∙ d.1), tt)) h1) e
-
-count_again : (end count : ℕ) → count ≤ MOST_MODULES → count_in end (pair count) ≡ Ok count
-unfolding count_in
-count_again end count few =
-    let small : nat_le count MOST_MODULES ≡ true = le-leb count MOST_MODULES few in
-    rw (mod-add-div count 256, small) refl
+count_agrees =
+    record_agrees (then_fields (pair_codec (λ count. nat_le count MOST_MODULES)) (λ count. no_field))
+    (λ (x : ℕ × Unit {0}). x.0) pair (λ count. count ≤ MOST_MODULES) (λ x g. (refl, leb-true x.0 MOST_MODULES g.0))
+    (λ count few. ((count, tt), refl, (le-leb count MOST_MODULES few, tt)))
 
 -- the first record
 pub first_takes : (total : ℕ) (bytes : List ℕ) (count : ℕ) (rest : List ℕ) → IsBytes bytes
     → one_at LIBRARY_HEADER count_in total 0 bytes ≡ Ok (count, rest) → bytes ≡ count_record count ++ rest
 first_takes total bytes count rest fits e =
-    (one_takes LIBRARY_HEADER count_in pair (λ _. Unit {0}) total 0 bytes (count, rest) count_takes fits e).bytes_are
+    (one_takes LIBRARY_HEADER total 0 bytes (count, rest) count_agrees fits e).bytes_are
 
 first_again : (total count : ℕ) (rest : List ℕ) → count ≤ MOST_MODULES
     → one_at LIBRARY_HEADER count_in total 0 (count_record count ++ rest) ≡ Ok (count, rest)
-first_again total count rest few =
-    one_again LIBRARY_HEADER count_in (pair count) count total 0 rest (count_again _ count few)
+first_again total count rest few = one_again LIBRARY_HEADER count_agrees total 0 count rest few
 
 -- that record, the modules and nothing else are a library
 pub whole : (bytes rest after : List ℕ) (count : ℕ) (ms kept : List ModuleParts) → bytes ≡ count_record count ++ rest

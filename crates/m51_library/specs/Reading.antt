@@ -13,12 +13,17 @@ use Rattle.m51_frame.specs.Fields.{◌>>=◌, offset_of, pair_at, checked, ended
 use Rattle.m51_records.specs.Reading.{one_at, module_at}
 use Rattle.m51_records.specs.Spelling.{records_in}
 
--- the contents of the first record: the number of modules, at most 255
+-- the number of modules, at most 255
+abbrev pub count_field_at : ℕ → List ℕ → Result (ℕ × List ℕ) ObjError
+count_field_at end bytes = do
+  count ← pair_at end bytes
+  checked (nat_le count.0 MOST_MODULES) end bytes count
+
+-- the contents of the first record
 unfoldable pub count_in : ℕ → List ℕ → Result ℕ ObjError
 count_in end contents = do
-  count ← pair_at end contents
-  few ← checked (nat_le count.0 MOST_MODULES) end contents count.0
-  ended end count.1 few
+  count ← count_field_at end contents
+  ended end count.1 count.0
 
 -- The given number of modules, one after another, and the bytes after them. They end with the file, at its total
 -- length, and the next record has that number.

@@ -22,7 +22,7 @@ pub roots_more : (g : GraphParts) (roots : List ℕ) (unit byte : ℕ) → lengt
     → ((u : ℕ) → u < unit → AreRootBits g u (slice_index roots u)) → AreRootBits g unit byte
     → (u : ℕ) → u < unit + 1 → AreRootBits g u (slice_index (roots ++ byte ∷ []) u)
 roots_more g roots unit byte len each last u below =
-    elim (below_or_last u unit below) as (λ _. AreRootBits g u (slice_index (roots ++ byte ∷ []) u)) [
+    elim (below_or_last u unit below) [
       | inl less ↦ subst (λ b. AreRootBits g u b) (sym (get_or-append roots (byte ∷ []) 0 u (omega (arith, less, len))))
           (each u less)
       | inr same ↦

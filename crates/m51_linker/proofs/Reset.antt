@@ -19,7 +19,7 @@ use Rattle.m51_graph.specs.Graphs.{graph_of, judged, lacks_reset, parts_of, unle
 use Rattle.m51_graph.specs.Units.{unit_titles}
 use Rattle.m51_place.specs.declared.placing.Placing.{Placing}
 use Rattle.m51_place.specs.Placement.{located_of, placing_of}
-use Rattle.m51_place.proofs.Segments.{graph_is}
+use Rattle.m51_place.proofs.Ranks.{graph_is}
 use Rattle.m51_place.proofs.SoundLayout.{root_out}
 use Rattle.m51_place.proofs.Tight.{of_located}
 use Rattle.m51_place.proofs.Whole.{placed_whole, unless_none}

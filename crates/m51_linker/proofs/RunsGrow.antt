@@ -44,11 +44,11 @@ module _ (Old New : ℕ → Type 0) (at : ℕ) (g : Grows Old New at) where
   kept r h other = let ends : r.first + r.len ≤ at = run_end r h in let some : 0 < r.len = h.some in record {
     some = h.some;
     filled = λ address inside. g.old address (h.filled address inside);
-    before = λ address e filled. elim (g.either address filled) as (λ _. ⊥) [
+    before = λ address e filled. elim (g.either address filled) [
       | inl old ↦ h.before address e old
       | inr new ↦ absurd (omega (arith, new, e, ends, some))
     ];
-    after = λ filled. elim (g.either (r.first + r.len) filled) as (λ _. ⊥)
+    after = λ filled. elim (g.either (r.first + r.len) filled)
         [ inl old ↦ h.after old | inr new ↦ other new ];
   }
 
@@ -70,11 +70,11 @@ module _ (Old New : ℕ → Type 0) (at : ℕ) (g : Grows Old New at) where
         let below : address < at + 1 = inside.below in
         let same : at ≡ address = omega arith in
         subst (λ a. New a) same g.new;
-    before = λ address e filled. elim (g.either address filled) as (λ _. ⊥) [
+    before = λ address e filled. elim (g.either address filled) [
       | inl old ↦ no_end runs h others address e old
       | inr new ↦ absurd (omega (arith, new, e))
     ];
-    after = λ filled. elim (g.either (at + 1) filled) as (λ _. ⊥) [
+    after = λ filled. elim (g.either (at + 1) filled) [
       | inl old ↦ absurd (omega (arith, g.below (at + 1) old))
       | inr new ↦ absurd (omega (arith, new))
     ];
@@ -105,18 +105,18 @@ module _ (Old New : ℕ → Type 0) (at : ℕ) (g : Grows Old New at) where
   longer_run : (run : Run) → IsWholeRun Old run → run.first + run.len ≡ at → IsWholeRun New (longer run)
   longer_run run h ends = let some : 0 < run.len = h.some in record {
     some = omega arith;
-    filled = λ address inside. elim (cases_lt address at) as (λ _. New address) [
+    filled = λ address inside. elim (cases_lt address at) [
       | inl below ↦ g.old address (h.filled address (record { from = inside.from; below = omega arith }))
       | inr from ↦ (
           let b : address < run.first + (run.len + 1) = inside.below in
           let same : at ≡ address = omega arith in
           subst (λ a. New a) same g.new)
     ];
-    before = λ address e filled. elim (g.either address filled) as (λ _. ⊥) [
+    before = λ address e filled. elim (g.either address filled) [
       | inl old ↦ h.before address e old
       | inr new ↦ absurd (omega (arith, new, e, ends, some))
     ];
-    after = λ filled. elim (g.either (run.first + (run.len + 1)) filled) as (λ _. ⊥) [
+    after = λ filled. elim (g.either (run.first + (run.len + 1)) filled) [
       | inl old ↦ absurd (omega (arith, g.below (run.first + (run.len + 1)) old, ends))
       | inr new ↦ absurd (omega (arith, new, ends))
     ];
@@ -218,14 +218,14 @@ module _ (content : List (Option ℕ)) (at : ℕ) where
     below = is_below;
     old = to_new;
     new = record { below = omega arith; held = held };
-    either = λ address h. elim (below_or_last address at h.below) as (λ _. (Old address) ⊎ (address ≡ at)) [
+    either = λ address h. elim (below_or_last address at h.below) [
       | inl less ↦ inl (record { below = less; held = h.held })
       | inr last ↦ inr last
     ];
   }
 
   from_new : is_some (slice_index_or content at None) ≡ false → (address : ℕ) → New address → Old address
-  from_new none address h = elim (below_or_last address at h.below) as (λ _. Old address) [
+  from_new none address h = elim (below_or_last address at h.below) [
     | inl less ↦ record { below = less; held = h.held }
     | inr last ↦ absurd (false_true
         (sym none ∙ ap (λ (a : ℕ). is_some (slice_index_or content a None)) (sym last) ∙ h.held))

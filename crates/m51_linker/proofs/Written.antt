@@ -40,7 +40,7 @@ written_more xs ys old mid new h k = record {
 byte_below : (at : ℕ) (bytes : List ℕ) (address : ℕ) → address < at
     → byte_in (record { at = at; bytes = bytes }) address ≡ None
 byte_below at bytes address less =
-    elim (leb_tells at address) as (λ _. byte_in (record { at = at; bytes = bytes }) address ≡ None) [
+    elim (leb_tells at address) [
       | inl from ↦ absurd (omega (arith, less, from.1))
       | inr below ↦ ap (λ (b : Bool). cond b (slice_get bytes (address - at)) None) below.0
     ]
@@ -60,7 +60,7 @@ pub put_written : (at : ℕ) (bytes : List ℕ) (count : ℕ) (old new : ℕ →
 put_written at bytes count old new whole h = record {
   each = λ address.
       let given : Option ℕ = byte_in (record { at = at; bytes = bytes }) address in
-      elim (cases_lt address at) as (λ _. new address ≡ option_or given (old address)) [
+      elim (cases_lt address at) [
         | inl less ↦ h.before address less
             ∙ ap (λ (o : Option ℕ). option_or o (old address)) (sym (byte_below at bytes address less))
         | inr from ↦ elim (cases_lt (address - at) (length bytes)) as

@@ -138,7 +138,7 @@ beside_others ms i m library below is = record {
         → has_public name m ≡ true → has_public name x ≡ true → ⊥
     pair j x name inside at other in_m in_x =
         let own : get_or ms j m ≡ x = get_or_default ms j m x inside ∙ sym at in
-        elim (cases_order j i) as (λ _. ⊥) [
+        elim (cases_order j i) [
           | inl same ↦ other same
           | inr (inl less) ↦ no_both x m name
               (subst (λ (y : ModuleParts). ShareNoPublic y m) own
@@ -155,7 +155,7 @@ beside_others ms i m library below is = record {
     none name has true e = absurd (by (Any-from_list_any (has_public name) (remove ms i) e))
       where
         by : Any (λ (x : ModuleParts). has_public name x ≡ true) (remove ms i) → ⊥
-        by (k, x, low, at, has_x) = elim (cases_lt k i) as (λ _. ⊥) [
+        by (k, x, low, at, has_x) = elim (cases_lt k i) [
           | inl less ↦ pair k x name (omega (arith, less, below)) (sym at ∙ get_or-remove_below ms i x k less below)
               (λ e. omega (arith, e, less)) has has_x
           | inr more ↦

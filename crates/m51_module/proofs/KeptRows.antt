@@ -20,12 +20,12 @@ use Rattle.m51_module.proofs.Units.{same_or_not}
 -- one more pair is one more owner of its segment
 more_owner : (pairs : List (ℕ × ℕ)) (pair : ℕ × ℕ) (s : ℕ) → pair.0 ≡ s → owners_of (pairs ++ pair ∷ []) s
     ≡ owners_of pairs s ++ pair.1 ∷ []
-more_owner [] pair s e = elim (eqb_tells pair.0 s) as (λ _. owners_of (pair ∷ []) s ≡ pair.1 ∷ []) [
+more_owner [] pair s e = elim (eqb_tells pair.0 s) [
   | inl same ↦ rw same.0 refl
   | inr other ↦ absurd (other.1 e)
 ]
 more_owner (p ∷ ps) pair s e =
-    elim (eqb_tells p.0 s) as (λ _. owners_of ((p ∷ ps) ++ pair ∷ []) s ≡ owners_of (p ∷ ps) s ++ pair.1 ∷ []) [
+    elim (eqb_tells p.0 s) [
       | inl same ↦ rw same.0 (ap (λ us. p.1 ∷ us) (more_owner ps pair s e))
       | inr other ↦ rw other.0 (more_owner ps pair s e)
     ]
@@ -33,12 +33,12 @@ more_owner (p ∷ ps) pair s e =
 -- and no owner of another segment
 same_owners : (pairs : List (ℕ × ℕ)) (pair : ℕ × ℕ) (s : ℕ) → pair.0 ≢ s → owners_of (pairs ++ pair ∷ []) s
     ≡ owners_of pairs s
-same_owners [] pair s ne = elim (eqb_tells pair.0 s) as (λ _. owners_of (pair ∷ []) s ≡ []) [
+same_owners [] pair s ne = elim (eqb_tells pair.0 s) [
   | inl same ↦ absurd (ne same.1)
   | inr other ↦ rw other.0 refl
 ]
 same_owners (p ∷ ps) pair s ne =
-    elim (eqb_tells p.0 s) as (λ _. owners_of ((p ∷ ps) ++ pair ∷ []) s ≡ owners_of (p ∷ ps) s) [
+    elim (eqb_tells p.0 s) [
       | inl same ↦ rw same.0 (ap (λ us. p.1 ∷ us) (same_owners ps pair s ne))
       | inr other ↦ rw other.0 (same_owners ps pair s ne)
     ]
@@ -88,12 +88,12 @@ row_is rows index row below is = get_or_default rows index [] row below ∙ sym 
 -- a number is in a list or not
 pub among_or_not : (xs : List ℕ) (x : ℕ) → Contains xs x ⊎ (Contains xs x → ⊥)
 among_or_not [] x = inr (none_in_empty x)
-among_or_not (y ∷ ys) x = elim (same_or_not y x) as (λ _. Contains (y ∷ ys) x ⊎ (Contains (y ∷ ys) x → ⊥)) [
+among_or_not (y ∷ ys) x = elim (same_or_not y x) [
   | inl same ↦ inl (0, omega arith, same)
-  | inr other ↦ elim (among_or_not ys x) as (λ _. Contains (y ∷ ys) x ⊎ (Contains (y ∷ ys) x → ⊥)) [
+  | inr other ↦ elim (among_or_not ys x) [
     | inl within ↦ inl (contains_behind y ys x within)
     | inr without ↦ inr
-        (λ c. elim (first_or_behind y ys x c) as (λ _. ⊥) [ inl first ↦ other first | inr behind ↦ without behind ])
+        (λ c. elim (first_or_behind y ys x c) [ inl first ↦ other first | inr behind ↦ without behind ])
   ]
 ]
 
@@ -149,7 +149,7 @@ segment_passed : (rows : List (List ℕ)) (unit count : ℕ) (segments : List �
 segment_passed rows unit count segments h without = record {
   rising = h.rising;
   listed = λ s c. let k = h.listed s c in (omega (arith, k.0), k.1);
-  all = λ s below c. elim (below_or_last s count below) as (λ _. Contains segments s) [
+  all = λ s below c. elim (below_or_last s count below) [
     | inl less ↦ h.all s less c
     | inr last ↦ absurd (without (subst (λ k. Contains (slice_index_or rows k []) unit) last c))
   ];
@@ -166,7 +166,7 @@ segment_found rows unit count segments h within = record {
         | inl before ↦ (let k = h.listed s before in (omega (arith, k.0), k.1))
         | inr last ↦ (omega (arith, last), subst (λ k. Contains (slice_index_or rows k []) unit) last within)
       ];
-  all = λ s below c. elim (below_or_last s count below) as (λ _. Contains (segments ++ count ∷ []) s) [
+  all = λ s below c. elim (below_or_last s count below) [
     | inl less ↦ Contains-append_left segments (count ∷ []) s (h.all s less c)
     | inr last ↦ subst (λ k. Contains (segments ++ count ∷ []) k) (sym last) (Contains-push segments count)
   ];

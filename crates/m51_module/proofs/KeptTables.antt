@@ -66,10 +66,10 @@ module _ (edges : Edges) (units : ℕ) (rows : List (List Bool)) (f t : ℕ) (h 
 
   set_is : (u v : ℕ) → u < units → v < units → slice_index_or (slice_index_or (slice_set rows f row) u []) v false
       ≡ true → HasEdge (edges ++ (f, t) ∷ []) u v
-  set_is u v u_in v_in set = elim (same_or_not u f) as (λ _. HasEdge (edges ++ (f, t) ∷ []) u v) [
+  set_is u v u_in v_in set = elim (same_or_not u f) [
     | inr other ↦ Contains-append_left edges ((f, t) ∷ []) (u, v)
         ((h.each u v u_in v_in).0 (ap (λ r. slice_index_or r v false) (sym (other_row u other)) ∙ set))
-    | inl first ↦ elim (same_or_not v t) as (λ _. HasEdge (edges ++ (f, t) ∷ []) u v) [
+    | inl first ↦ elim (same_or_not v t) [
       | inl second ↦ subst (λ (p : ℕ × ℕ). Contains (edges ++ (f, t) ∷ []) p)
           (ap (λ (x : ℕ). (x, t)) (sym first) ∙ ap (λ (y : ℕ). (u, y)) (sym second)) (Contains-push edges (f, t))
       | inr other ↦ Contains-append_left edges ((f, t) ∷ []) (u, v) ((h.each u v u_in v_in).0
@@ -111,7 +111,7 @@ module _ (edges : Edges) (units : ℕ) (rows : List (List Bool)) (f t : ℕ) (h 
       (slice_set rows f (slice_set (slice_index_or rows f []) t true))
   edges_more = record {
     len = length-set rows f row ∙ h.len;
-    wide = λ u below. elim (same_or_not u f) as (λ _. length (slice_index_or (slice_set rows f row) u []) ≡ units) [
+    wide = λ u below. elim (same_or_not u f) [
       | inl same ↦ ap (λ k. length (slice_index_or (slice_set rows f row) k [])) same ∙ ap length same_row
           ∙ length-set (slice_index_or rows f []) t true ∙ h.wide f f_in
       | inr other ↦ ap length (other_row u other) ∙ h.wide u below
@@ -206,7 +206,7 @@ lies base size address =
       by_order : (a b : ℕ) → (b < a → Lies base size address) → (a ≤ b → Lies base size address)
           → Lies base size address
       by_order a b below above =
-          elim (cases_lt b a) as (λ _. Lies base size address) [ inl less ↦ below less | inr not_less ↦ above not_less ]
+          elim (cases_lt b a) [ inl less ↦ below less | inr not_less ↦ above not_less ]
 
 -- one more unit
 pub units_more : (l : LayoutParts) (unit : ℕ) (p : Placed) (old new : List (Option ℕ)) → IsSound l
@@ -214,7 +214,7 @@ pub units_more : (l : LayoutParts) (unit : ℕ) (p : Placed) (old new : List (Op
     → IsEntered p.base p.size unit old new → AreUnitsAt l (unit + 1) new
 units_more l unit p old new sound h is code entered = record {
   len = entered.len ∙ h.len;
-  some = λ address v inside e. elim (lies p.base p.size address) as (λ _. (v < unit + 1) × IsUnitAt l address v) [
+  some = λ address v inside e. elim (lies p.base p.size address) [
     | IsBefore low ↦ before address v (h.some address v inside (sym (entered.before address low) ∙ e))
     | IsAfter high ↦ before address v (h.some address v inside (sym (entered.after address high) ∙ e))
     | IsWithin from below ↦ at_unit address v (same_Some unit v (sym (entered.within address from below) ∙ e))
@@ -222,7 +222,7 @@ units_more l unit p old new sound h is code entered = record {
   ];
   only = λ address v inside below at. elim (below_or_last v unit below) as
       (λ _. slice_index_or new address None ≡ Some v) [
-        | inl less ↦ elim (lies p.base p.size address) as (λ _. slice_index_or new address None ≡ Some v) [
+        | inl less ↦ elim (lies p.base p.size address) [
           | IsBefore low ↦ entered.before address low ∙ h.only address v inside less at
           | IsAfter high ↦ entered.after address high ∙ h.only address v inside less at
           | IsWithin from under ↦ absurd

@@ -21,7 +21,7 @@ owners_by b p ps s =
 -- an owner has its pair
 pub pair_of_owner : (owners : List (ℕ × ℕ)) (s u : ℕ) → Contains (owners_of owners s) u → Contains owners (s, u)
 pair_of_owner [] s u h = absurd (none_in_empty u h)
-pair_of_owner (p ∷ ps) s u h = elim (eqb_tells p.0 s) as (λ _. Contains (p ∷ ps) (s, u)) [
+pair_of_owner (p ∷ ps) s u h = elim (eqb_tells p.0 s) [
   | inl same ↦ elim (first_or_behind p.1 (owners_of ps s) u (subst (λ b. Contains (owners_by b p ps s) u) same.0 h)) as
       (λ _. Contains (p ∷ ps) (s, u)) [
         | inl first ↦ (0, omega arith, pair_is p s u same.1 first)
@@ -34,13 +34,13 @@ pair_of_owner (p ∷ ps) s u h = elim (eqb_tells p.0 s) as (λ _. Contains (p �
 -- and a pair its owner
 pub owner_of_pair : (owners : List (ℕ × ℕ)) (s u : ℕ) → Contains owners (s, u) → Contains (owners_of owners s) u
 owner_of_pair [] s u h = absurd (none_in_empty (s, u) h)
-owner_of_pair (p ∷ ps) s u h = elim (first_or_behind p ps (s, u) h) as (λ _. Contains (owners_of (p ∷ ps) s) u) [
-  | inl first ↦ elim (eqb_tells p.0 s) as (λ _. Contains (owners_of (p ∷ ps) s) u) [
+owner_of_pair (p ∷ ps) s u h = elim (first_or_behind p ps (s, u) h) [
+  | inl first ↦ elim (eqb_tells p.0 s) [
     | inl same ↦ subst (λ b. Contains (owners_by b p ps s) u) (sym same.0)
         (0, omega arith, ap (λ (q : ℕ × ℕ). q.1) first)
     | inr other ↦ absurd (other.1 (ap (λ (q : ℕ × ℕ). q.0) first))
   ]
-  | inr behind ↦ elim (eqb_tells p.0 s) as (λ _. Contains (owners_of (p ∷ ps) s) u) [
+  | inr behind ↦ elim (eqb_tells p.0 s) [
     | inl same ↦ subst (λ b. Contains (owners_by b p ps s) u) (sym same.0)
         (contains_behind p.1 (owners_of ps s) u (owner_of_pair ps s u behind))
     | inr other ↦ subst (λ b. Contains (owners_by b p ps s) u) (sym other.0) (owner_of_pair ps s u behind)

@@ -54,7 +54,7 @@ marked_valid s h = record {
   absolute = λ e. (let a = h.absolute e in record { name = a.name; some = a.some; fits = a.fits });
   relocatable = λ ne. (let r = h.relocatable ne in record { name = r.name; base = r.base });
   overlay = h.overlay;
-  argument = λ e. elim (or_cases s.argument (may_be_argument s) e) as (λ _. IsArgument (marked s)) [
+  argument = λ e. elim (or_cases s.argument (may_be_argument s) e) [
     | inl was ↦ (let a = h.argument was in record { kind = a.kind; overlay = a.overlay; name = a.name })
     | inr may ↦ may_be_valid s may
   ];

@@ -309,6 +309,7 @@ impl Activity {
     }
 
     /// Writes the cells of a put.
+    #[inline(always)]
     pub(crate) fn put(&mut self, put: &Put)
         requires { shut_of (shared_barred self.old.store) put.now ≡ None }
         ensures layout { self.new.layout ≡ self.old.layout }

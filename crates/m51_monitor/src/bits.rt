@@ -55,6 +55,7 @@ fn bytes(alloc: Global, byte: u8, count: usize) -> Result<Vec<u8>, NoMemory>
 
 // Replaces the bytes from an index to another.
 #[tactic(auto, using(std::proofs::lemmas::List::places))]
+#[inline(always)]
 fn fill_bytes(bytes: &mut Vec<u8>, from: usize, to: usize, byte: u8)
     requires order { from ≤ to }
     requires inside { to ≤ length bytes.old.items }
@@ -114,12 +115,23 @@ impl Flags {
     }
 
     // Sets the flags of whole bytes.
+    #[inline(always)]
     fn set_bytes(&mut self, from: usize, to: usize, value: bool)
         requires order { from ≤ to }
         requires inside { 8 * to ≤ length self.old }
         ensures { AreSet (8 * from) (8 * to) value self.old self.new }
     {
         fill_bytes(&mut self.bytes, from, to, whole_byte(value));
+    }
+
+    /// Sets the flags of one byte.
+    #[inline(always)]
+    pub(crate) fn set_byte(&mut self, byte: usize)
+        requires small { byte < 256 }
+        requires inside { 8 * byte + 8 ≤ length self.old }
+        ensures { AreSet (8 * byte) (8 * byte + 8) true self.old self.new }
+    {
+        self.set_bytes(byte, byte + 1, true);
     }
 
     /// Sets the flags from one index to another.

@@ -3,6 +3,7 @@ ghost use Rattle.std.specs.Prelude.{◌≡◌, ◌+◌, ◌*◌, ◌≤◌, ◌<
 ghost use Rattle.m51_cells.specs.declared.cell.Cell.{Cell};
 ghost use Rattle.m51_module.specs.Sound.{IsInside};
 ghost use Rattle.m51_cells.specs.Cells.{IsDataCell, cells_in};
+ghost use Rattle.m51_cells.specs.Extent.{extent};
 ghost use Rattle.m51_flat.specs.States.{ram_cell};
 ghost use Rattle.m51_monitor.specs.Masks.{IsMarked, IsMask, flag_of};
 
@@ -57,6 +58,17 @@ impl Mask {
             → flag_of self.now (ram_cell n) ≡ true }
     {
         self.ram.are_set(usize::from(address))
+    }
+
+    /// Sets the flags of the bits of a byte of internal RAM.
+    #[tactic(auto, using(crate::proofs::Marks::on_ram))]
+    #[inline(always)]
+    pub(crate) fn mark_byte(&mut self, address: u8)
+        ensures marked { IsMarked (extent Space.Ram (8 * address) 8) true self.old self.new }
+        ensures mask { IsMask self.new }
+    {
+        cite(&self.ram);
+        self.ram.set_byte(usize::from(address));
     }
 
     // Sets the flags of the cells of an extent that ends inside its memory.

@@ -193,6 +193,7 @@ impl Monitor {
     }
 
     // Writes the cells of a put.
+    #[inline(always)]
     fn put(&mut self, put: &Put)
         requires { shut_of (shared_barred self.old.store) put.now ≡ None }
         ensures layout { self.new.layout ≡ self.old.layout }
@@ -262,23 +263,27 @@ impl Monitor {
     }
 
     // Changes the records.
+    #[inline(always)]
     fn change(&mut self, effect: &Effect, step: Move)
         requires { AreActivations self.old.layout (moved self.old.records effect.now step) }
         ensures layout { self.new.layout ≡ self.old.layout }
         ensures records { self.new.records ≡ moved self.old.records effect.now step }
         ensures keeps { StandsAfter (stores_changed self.new.layout self.new.records) self.old self.new }
     {
-        let return_address = return_address_of(effect);
-        let sp_after = stack_pointer(&effect.cpu);
         match step {
             Move::Stay => {}
             Move::Jump(unit) => self.jump(unit),
-            Move::Local => self.push(return_address, sp_after),
-            Move::Call(unit) => self.push_unit(Cause::Call, return_address, sp_after, unit),
+            Move::Local => self.push(return_address_of(effect), stack_pointer(&effect.cpu)),
+            Move::Call(unit) => self.push_unit(
+                Cause::Call,
+                return_address_of(effect),
+                stack_pointer(&effect.cpu),
+                unit,
+            ),
             Move::Interrupt(source, unit) => self.push_unit(
                 Cause::Interrupt(source),
-                return_address,
-                sp_after,
+                return_address_of(effect),
+                stack_pointer(&effect.cpu),
                 unit,
             ),
             Move::Return => self.pop(),
@@ -291,6 +296,7 @@ impl Monitor {
     /// at most one interrupt has a record before. It allocates nothing.
     ///
     /// Source: own choice ("Activations").
+    #[inline(always)]
     pub fn commit(&mut self, effect: &Effect, step: Move)
         requires judged { WasJudged self.old effect.now step }
         requires first { shut_of (shared_barred self.old.store) effect.now.first ≡ None }

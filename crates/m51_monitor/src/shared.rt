@@ -6,6 +6,7 @@ ghost use Rattle.m51_cells.specs.Extent.{extent};
 ghost use Rattle.m51_flat.specs.declared.state.Put.TheVariants.{Xbyte};
 ghost use Rattle.m51_flat.specs.Flat.{filled_cells, flat_cells};
 ghost use Rattle.m51_flat.specs.States.{bit_seen, byte_seen, first_barred, ram_cell, shut_of};
+ghost use Rattle.m51_monitor.specs.Masks.{IsMarked, IsMask};
 ghost use Rattle.m51_monitor.specs.Resolved.{outside_of};
 ghost use Rattle.m51_monitor.specs.Shared.{shared_cells, shared_barred, cells_put, IsTurned, turned_to, Blocks};
 ghost use Rattle.m51_monitor.specs.SharedLaws.{shared_are_cells};
@@ -67,6 +68,21 @@ fn cells_put(put: &Put) -> Extent
         Put::Byte { address, .. } => row(Space::Ram, 8 * u32::from(address), 8),
         Put::Bit { address, .. } => row(Space::Ram, 256 + u32::from(address), 1),
         Put::Xbyte { address, .. } => row(Space::Xram, u32::from(address), 1),
+    }
+}
+
+// Sets the flags of the cells of a put; those of a byte, which most puts are, at once.
+#[inline(always)]
+fn mark_put(mask: &mut Mask, put: &Put)
+    ensures marked { IsMarked (cells_put put.now) true mask.old mask.new }
+    ensures mask { IsMask mask.new }
+    ensures inside { IsInside (cells_put put.now) }
+{
+    let cells = cells_put(put);
+    if let Put::Byte { address, .. } = *put {
+        mask.mark_byte(address);
+    } else {
+        mask.mark(cells, true);
     }
 }
 
@@ -188,6 +204,7 @@ impl CellStore for SharedRam {
     ghost are_cells = { shared_are_cells };
 
     #[tactic(auto, using(crate::proofs::Reading::byte_written))]
+    #[inline(always)]
     fn byte(&self, address: u8) -> Seen {
         if self.written.is_byte_set(address) {
             return self.memory.byte(address);
@@ -230,11 +247,12 @@ impl CellStore for SharedRam {
     }
 
     #[tactic(auto, using(m51_flat::proofs::Flat::open_to_puts))]
+    #[inline(always)]
     fn put(&mut self, put: &Put) {
         if let Put::Nothing = *put {
             return;
         }
         self.memory.put(put);
-        self.written.mark(cells_put(put), true);
+        mark_put(&mut self.written, put);
     }
 }

@@ -161,7 +161,7 @@ module _ (a : List ℕ) where
 
   no_cycle : (u : ℕ) → Reaches calls u u → ⊥
   no_cycle u r = let k = reach_of u u r in
-      elim k.1 as (λ _. ⊥) [ inl one ↦ omega (arith, k.0, one) | inr two ↦ omega (arith, k.0, two) ]
+      elim k.1 [ inl one ↦ omega (arith, k.0, one) | inr two ↦ omega (arith, k.0, two) ]
 
   -- whose the overlaid segments are
   owner_is : (u s : ℕ) → Owns sample u s → OwnedBy s u
@@ -176,7 +176,7 @@ module _ (a : List ℕ) where
     pair (suc (suc (suc (suc k))), below, e) = absurd (omega (arith, below))
 
   owned : (u s : ℕ) → Owns sample u s → (u < 3) × IsOverlaid sample s
-  owned u s h = elim (owner_is u s h) as (λ _. (u < 3) × IsOverlaid sample s) [
+  owned u s h = elim (owner_is u s h) [
     | LocalOfSecond s_is u_is ↦ (omega (arith, u_is), subst (IsOverlaid sample) (sym s_is) (overlaid [] 8, refl, refl))
     | LocalOfThird s_is u_is ↦ (omega (arith, u_is), subst (IsOverlaid sample) (sym s_is) (overlaid [] 8, refl, refl))
     | ArgumentOfSecond s_is u_is ↦
@@ -207,9 +207,9 @@ module _ (a : List ℕ) where
   }
 
   owners : (s : ℕ) → IsOverlaid sample s → HasOwners (owners_of sample.owners s)
-  owners s (p, at, mark) = elim (which s p at) as (λ _. HasOwners (owners_of sample.owners s)) [
+  owners s (p, at, mark) = elim (which s p at) [
     | IsCode low kind segment plain base size ↦ absurd (plain mark)
-    | IsLocal number kind over base size ↦ elim number as (λ _. HasOwners (owners_of sample.owners s)) [
+    | IsLocal number kind over base size ↦ elim number [
       | inl three ↦ subst (λ n. HasOwners (owners_of sample.owners n)) (sym three) (one_owner 1)
       | inr four ↦ subst (λ n. HasOwners (owners_of sample.owners n)) (sym four) (one_owner 2)
     ]
@@ -255,7 +255,7 @@ module _ (a : List ℕ) where
 
   -- the two are never active together
   unrelated : (u v : ℕ) → HasEdge calls 0 u → HasEdge calls 0 v → u ≢ 0 → v ≢ 0 → u ≢ v → UnitsRelated sample u v → ⊥
-  unrelated u v h k not_first not_second differ related = elim related as (λ _. ⊥) [
+  unrelated u v h k not_first not_second differ related = elim related [
     | Same e ↦ differ e
     | Before r ↦ not_first (reach_of u v r).0
     | After r ↦ not_second (reach_of v u r).0
@@ -267,7 +267,7 @@ module _ (a : List ℕ) where
   -- so their locals are not in conflict
   no_conflict : (s t : ℕ) → (s ≡ 3) ⊎ (s ≡ 4) → (t ≡ 3) ⊎ (t ≡ 4) → IsOverlaid sample s → IsOverlaid sample t → s ≢ t
       → ExtentsConflict sample s t → ⊥
-  no_conflict s t s_in t_in over_s over_t differ conflict = elim conflict as (λ _. ⊥) [
+  no_conflict s t s_in t_in over_s over_t differ conflict = elim conflict [
     | FirstPlain plain ↦ plain over_s
     | SecondPlain plain ↦ plain over_t
     | Owners u v owns_s owns_t related ↦ cases s_in t_in u v (owner_is u s owns_s) (owner_is v t owns_t) related

@@ -1,19 +1,171 @@
--- The walk that is extended as long as that adds bytes is the heaviest, and the first of those.
-use Rattle.m51_place.proofs.Common.{◌≡◌, ◌≢◌, ◌⊎◌, inl, inr, ℕ, ◌+◌, ◌<◌, ◌≤◌, Bool, cond, List, [], ◌∷◌, ◌++◌, length}
-use Rattle.m51_place.proofs.Common.{drop, take, get_or, Option, Some, None, refl, sym, ap, subst, ◌∙◌, arith}
-use Rattle.m51_place.proofs.Common.{append_assoc, nat_lt, Contains, false≢true, Decides-ltb, append-nil}
-use Rattle.m51_place.proofs.Common.{Contains-append_left, cases_lt, LayoutParts, weight_along, weight_of, Chain}
-use Rattle.m51_place.proofs.Common.{IsSound, Edges, HasEdge, IsWalk, none_in_empty, drop_rest, cases_Bool, IsFront}
-use Rattle.m51_place.proofs.Common.{IsLeastOn}
-use Rattle.std.proofs.lemmas.List.{drop_all, take_more}
-use Rattle.std.proofs.lemmas.List.Elements.{Contains-push, Contains-push_cases}
+-- The heaviest walks, raised along the edges and followed from each root.
+use Rattle.m51_place.proofs.Common.{◌≡◌, inl, inr, ℕ, ◌<◌, false, tally, Edges, HasEdge, Reaches, reach_edge, leads}
+use Rattle.m51_place.proofs.Common.{cases_Bool, ◌+◌, ◌≤◌, true, Bool, ◌||◌, List, [], ◌∷◌, ◌++◌, length, map, take}
+use Rattle.m51_place.proofs.Common.{get_or, refl, sym, ap, subst, ◌∙◌, arith, false≢true, sum_by-cons, LayoutParts}
+use Rattle.m51_place.proofs.Common.{weight_along, weight_of, IsSound, none_in_empty, IsRising, ◌≢◌, ◌⊎◌, drop, Option}
+use Rattle.m51_place.proofs.Common.{Some, None, append_assoc, nat_lt, Contains, append-nil, Contains-append_left}
+use Rattle.m51_place.proofs.Common.{cases_lt, Chain, IsWalk, drop_rest, IsFront, IsLeastOn}
+use Rattle.m51_graph.proofs.Climbing.{tally_lt}
+use Rattle.m51_module.proofs.Reach.{reach_on}
+use Rattle.m51_graph.proofs.Deciding.{leads_tells}
+use Rattle.std.proofs.Common.{set, sum}
+use Rattle.std.proofs.lemmas.List.{take_more, get_or-set_same, get_or-set_other, length-set, drop_all}
+use Rattle.std.proofs.lemmas.List.Elements.{Contains-push_cases, Contains-get_or, Contains-push}
+use Rattle.std.proofs.lemmas.List.Sums.{sum_by-set}
+use Rattle.m51_cells.proofs.ListsAndOptions.{sum_most}
+use Rattle.m51_module.proofs.Units.{same_or_not}
+use Rattle.m51_place.specs.Heaviest.{AreReached, AreWeights, HasWalk, Lifts, AreBest, FollowsHeaviest, IsHeaviestFrom}
+use Rattle.m51_place.specs.Heaviest.{IsNext, LeadsOn, lesser, Steps}
+use Rattle.m51_place.proofs.Weights.{walk_bound}
+use Rattle.std.proofs.lemmas.Bool.{cases_order, ltb-false, ltb-true}
 use Rattle.m51_module.specs.Chains.{ChainsAt, ComesFirst, HasNoRoot, IsHeaviest}
 use Rattle.m51_module.specs.Plan.{IsRootAt}
-use Rattle.m51_place.specs.Heaviest.{AreBest, AreWeights, FollowsHeaviest, IsHeaviestFrom, IsNext}
-use Rattle.m51_place.specs.Heaviest.{LeadsOn, lesser, Steps}
-use Rattle.m51_place.proofs.Climbs.{along_more, along_one, walk_most}
-use Rattle.m51_place.proofs.WalkWeights.{walk_bound}
-use Rattle.m51_place.proofs.Whole.{order_of_two}
+
+-- How many units reach a unit: more along each edge.
+
+-- how many units reach a unit
+abbrev pub rank : Edges → ℕ → ℕ → ℕ
+rank edges n v = tally (λ w. leads edges w v) n
+
+pub rank_edge : (edges : Edges) (n u v : ℕ) → u < n → ((x : ℕ) → Reaches edges x x → ⊥) → HasEdge edges u v
+    → rank edges n u < rank edges n v
+rank_edge edges n u v below no_cycle e =
+    let not_itself : leads edges u u ≡ false = elim (cases_Bool (leads edges u u)) [
+      | inl r ↦ absurd (no_cycle u ((leads_tells edges u u).0 r))
+      | inr h ↦ h
+    ] in
+    tally_lt (λ w. leads edges w u) (λ w. leads edges w v) n u below
+    (λ w h. (leads_tells edges w v).1 (reach_on edges w u v ((leads_tells edges w u).0 h) e)) not_itself
+    ((leads_tells edges u v).1 (reach_edge edges u v e))
+
+-- The bytes of the heaviest walk from each unit, raised along the edges.
+
+-- the bytes of a unit and of the walk after it
+pub along_more : (l : LayoutParts) (u : ℕ) (more : List ℕ) → weight_along l (u ∷ more)
+    ≡ weight_of l u + weight_along l more
+along_more l u more = sum_by-cons (λ (n : ℕ). n) (weight_of l u) (map (weight_of l) more)
+
+pub along_one : (l : LayoutParts) (u : ℕ) → weight_along l (u ∷ []) ≡ weight_of l u
+along_one l u = let none : weight_along l [] ≡ 0 = refl in omega (arith, along_more l u [], none)
+
+-- at first each number is the bytes of only its own unit
+pub reached_first : (l : LayoutParts) (weights : List ℕ) → AreWeights l weights → AreReached l weights
+reached_first l weights h =
+    record {
+      len = h.len;
+      each =
+          λ u below. record { more = []; walk = tt; bytes_are = h.each u below ∙ sym (along_one l u) };
+    }
+
+pub walk_from : (l : LayoutParts) (u v bytes : ℕ) → HasEdge l.edges u v → HasWalk l v bytes
+    → HasWalk l u (weight_of l u + bytes)
+walk_from l u v bytes e h = record {
+  more = v ∷ h.more;
+  walk = (e, h.walk);
+  bytes_are = omega (arith, along_more l u (v ∷ h.more), h.bytes_are);
+}
+
+pub walk_most : (l : LayoutParts) → IsSound l → (u bytes : ℕ) → HasWalk l u bytes → bytes ≤ 256
+walk_most l sound u bytes h = omega (arith, h.bytes_are, walk_bound l sound u h.more h.walk)
+
+pub rising_none : (l : LayoutParts) (best : List ℕ) → AreReached l best → IsRising l [] best best false
+rising_none l best h =
+    record {
+      reached = h;
+      top = λ _. record { top = λ u v e. absurd (none_in_empty (u, v) e) };
+      not_less =
+          omega arith;
+      more = λ h. absurd (false≢true h);
+    }
+
+-- a number that rises
+rising_edge : (l : LayoutParts) (done : Edges) (u v : ℕ) (old now : List ℕ) (rose : Bool) → HasEdge l.edges u v
+    → u < length now → v < length now
+    → get_or now u 0 < weight_of l u + get_or now v 0 → IsRising l done old now rose
+    → IsRising l (done ++ (u, v) ∷ []) old (set now u (weight_of l u + get_or now v 0)) true
+rising_edge l done u v old now rose e in_u in_v less c =
+    let bytes : ℕ = weight_of l u + get_or now v 0 in
+    let longer : sum (set now u bytes) + get_or now u 0 ≡ sum now + bytes =
+    sum_by-set (λ (x : ℕ). x) now u bytes 0 in_u in
+    let same : length (set now u bytes) ≡ length now = length-set now u bytes in
+    record {
+      reached = record {
+        len = same ∙ c.reached.len;
+        each = λ w below. elim (same_or_not w u) [
+          | inl here ↦ rw (here, get_or-set_same now u bytes 0 in_u)
+              (walk_from l u v (get_or now v 0) e (c.reached.each v in_v))
+          | inr other ↦ rw (get_or-set_other now u w bytes 0 other) (c.reached.each w (omega (arith, below, same)))
+        ];
+      };
+      top = λ h. absurd (false≢true (sym h));
+      not_less = omega (arith, longer, c.not_less, less);
+      more = λ h. omega (arith, longer, c.not_less, less);
+    }
+
+-- a number that is high enough
+rising_pass : (l : LayoutParts) (done : Edges) (u v : ℕ) (old now : List ℕ) (rose : Bool)
+    → weight_of l u + get_or now v 0 ≤ get_or now u 0
+    → IsRising l done old now rose → IsRising l (done ++ (u, v) ∷ []) old now rose
+rising_pass l done u v old now rose high c = record {
+  reached = c.reached;
+  top = λ h. record {
+    top = λ x y e. elim (Contains-push_cases done (u, v) (x, y) e) [
+      | inl before ↦ (c.top h).top x y before
+      | inr here ↦
+          let from : u ≡ x = ap (λ (p : ℕ × ℕ). p.0) here in
+          let to : v ≡ y = ap (λ (p : ℕ × ℕ). p.1) here in
+          omega (arith, high, ap (λ w. get_or now w 0) from, ap (λ w. get_or now w 0) to, ap (weight_of l) from)
+    ];
+  };
+  not_less = c.not_less;
+  more = c.more;
+}
+
+-- the next edge
+pub rising_more : (l : LayoutParts) (i : ℕ) (d : ℕ × ℕ) (old now new : List ℕ) (rose lifted : Bool) → IsSound l
+    → i < length l.edges
+    → Lifts l (get_or l.edges i d).0 (get_or l.edges i d).1 now new lifted → IsRising l (take i l.edges) old now rose
+    → IsRising l (take (i + 1) l.edges) old new (lifted || rose)
+rising_more l i d old now new rose true sound below h c =
+    let edge : ℕ × ℕ = get_or l.edges i d in
+    let is : HasEdge l.edges edge.0 edge.1 = Contains-get_or l.edges i d below in
+    let inside = sound.edges edge.0 edge.1 is in
+    rw (h.1, take_more l.edges i d below)
+    (rising_edge l (take i l.edges) edge.0 edge.1 old now rose is (omega (arith, inside.0, c.reached.len))
+    (omega (arith, inside.1, c.reached.len)) h.0 c)
+rising_more l i d old now new rose false sound below h c =
+    rw (h.1, take_more l.edges i d below)
+    (rising_pass l (take i l.edges) (get_or l.edges i d).0 (get_or l.edges i d).1 old now rose h.0 c)
+
+pub best_most : (l : LayoutParts) (best : List ℕ) → IsSound l → AreReached l best → sum best ≤ 256000
+best_most l best sound h =
+    let most = sum_most 256 best (λ u below. walk_most l sound u (get_or best u 0) (h.each u below)) in
+    omega (arith, most, h.len, sound.few_units)
+
+-- what is known where one unit is lifted along an edge
+pub record Room (l : LayoutParts) (weights best : List ℕ) (from to : ℕ) : Type 0 where
+  pub in_weights : from < length weights
+  pub from_in : from < length best
+  pub to_in : to < length best
+  pub weight : get_or weights from 0 ≡ weight_of l from
+  pub most : weight_of l from + get_or best to 0 ≤ 256
+
+pub room : {l : LayoutParts} {weights best : List ℕ} (from to : ℕ) → IsSound l → AreWeights l weights
+    → AreReached l best → HasEdge l.edges from to → Room l weights best from to
+room {l} {weights} {best} from to sound w h e =
+    let inside = sound.edges from to e in
+    let in_weights : from < length weights = omega (arith, inside.0, w.len) in
+    let to_in : to < length best = omega (arith, inside.1, h.len) in
+    record {
+      in_weights = in_weights;
+      from_in = omega (arith, inside.0, h.len);
+      to_in = to_in;
+      weight = w.each from in_weights;
+      most = walk_most l sound from (weight_of l from + get_or best to 0)
+          (walk_from l from to (get_or best to 0) e (h.each to to_in));
+    }
+
+-- The walk that is extended as long as that adds bytes is the heaviest, and the first of those.
 
 module _ (l : LayoutParts) (sound : IsSound l) (weights best : List ℕ) (w : AreWeights l weights)
     (b : AreBest l best) where
@@ -101,22 +253,13 @@ module _ (l : LayoutParts) (sound : IsSound l) (weights best : List ℕ) (w : Ar
       let most = walk_top x other in_x walk.1 in
       let rest : weight_of l u + get_or best x 0 ≡ get_or best u 0 =
       omega (arith, same, along_more l u (x ∷ other), most, b.top.top u x walk.0) in
-      elim (order_of_two v x) as (λ _. (v < x) ⊎ ((v ≡ x) × ComesFirst more other)) [
-        | inl less ↦ inl less
-        | inr rest' ↦ elim rest' as (λ _. (v < x) ⊎ ((v ≡ x) × ComesFirst more other)) [
-          | inl e ↦
-              let walk' : IsWalk l.edges v other = subst (λ y. IsWalk l.edges y other) (sym e) walk.1 in
-              let bytes : weight_along l (v ∷ other) ≡ get_or best v 0 =
-              omega (
-                arith,
-                same,
-                along_more l u (x ∷ other),
-                ap (λ (y : ℕ). weight_along l (y ∷ other)) e,
-                next.rest,
-              ) in
-              inr (e, top.first other walk' bytes)
-          | inr less ↦ absurd (next.least x less walk.0 rest)
-        ]
+      elim (cases_order v x) [
+        | inl e ↦
+            let walk' = subst (λ y. IsWalk l.edges y other) (sym e) walk.1 in
+            let bytes : weight_along l (v ∷ other) ≡ get_or best v 0 =
+            omega (arith, same, along_more l u (x ∷ other), ap (λ (y : ℕ). weight_along l (y ∷ other)) e, next.rest) in
+            inr (e, top.first other walk' bytes)
+        | inr apart ↦ elim apart [ inl less ↦ inl less | inr less ↦ absurd (next.least x less walk.0 rest) ]
       ]
 
   pub top_is : (u : ℕ) (more : List ℕ) → u < length l.units → FollowsHeaviest l best u more → IsTop u more
@@ -141,8 +284,7 @@ module _ (l : LayoutParts) (sound : IsSound l) (weights best : List ℕ) (w : Ar
       record {
         front = h.front ++ v ∷ [];
         are = ap (λ (us : List ℕ). us ++ v ∷ []) h.are;
-        goes = λ more on. subst (λ (us : List ℕ). FollowsHeaviest l best root us)
-            (sym (append_assoc h.front (v ∷ []) more)) (h.goes (v ∷ more) (next.0, is, on));
+        goes = λ more on. rw append_assoc (h.goes (v ∷ more) (next.0, is, on));
         below = (sound.edges unit v is.edge).1;
       }
 
@@ -157,15 +299,13 @@ module _ (l : LayoutParts) (sound : IsSound l) (weights best : List ℕ) (w : Ar
         units = h.are;
         walk = top.walk;
         bytes = is ∙ top.bytes;
-        most = λ other walk. elim (cases_lt (weight_along l (root ∷ other)) bytes) as
-            (λ _. (weight_along l (root ∷ other) < bytes)
-            ⊎ ((weight_along l (root ∷ other) ≡ bytes) × ComesFirst h.more other)) [
-              | inl less ↦ inl less
-              | inr from ↦
-                  let same : weight_along l (root ∷ other) ≡ get_or best root 0 =
-                  omega (arith, from, is, walk_top root other below walk) in
-                  inr (same ∙ sym is, top.first other walk same)
-            ];
+        most = λ other walk. elim (cases_lt (weight_along l (root ∷ other)) bytes) [
+          | inl less ↦ inl less
+          | inr from ↦
+              let same : weight_along l (root ∷ other) ≡ get_or best root 0 =
+              omega (arith, from, is, walk_top root other below walk) in
+              inr (same ∙ sym is, top.first other walk same)
+        ];
       }
 
 -- chains by the addresses of their roots
@@ -184,99 +324,76 @@ first_none l addresses = record { all = λ rest h. h }
 pub first_without : (l : LayoutParts) (addresses : List ℕ) (i d : ℕ) (chains : List Chain) → i < length addresses
     → HasNoRoot l (get_or addresses i d) → AreFirst l addresses i chains → AreFirst l addresses (i + 1) chains
 first_without l addresses i d chains below none h = record {
-  all = λ rest on. h.all rest
-      (subst (λ (xs : List ℕ). ChainsAt l xs rest) (sym (drop_rest addresses i d below))
+  all = λ rest on. h.all rest (rw (drop_rest addresses i d below)
       (no_root l (get_or addresses i d) (drop (i + 1) addresses) rest none on));
 }
 
 pub first_with : (l : LayoutParts) (addresses : List ℕ) (i d : ℕ) (chains : List Chain) (chain : Chain)
     → i < length addresses → IsRootAt l (get_or addresses i d) chain.root → IsHeaviest l chain
-    → AreFirst l addresses i chains
-    → AreFirst l addresses (i + 1) (chains ++ chain ∷ [])
+    → AreFirst l addresses i chains → AreFirst l addresses (i + 1) (chains ++ chain ∷ [])
 first_with l addresses i d chains chain below root heavy h = record {
-  all = λ rest on. subst (λ (cs : List Chain). ChainsAt l addresses cs) (sym (append_assoc chains (chain ∷ []) rest))
-      (h.all (chain ∷ rest)
-      (subst (λ (xs : List ℕ). ChainsAt l xs (chain ∷ rest)) (sym (drop_rest addresses i d below))
-      (inr (root, heavy, on))));
+  all = λ rest on. rw append_assoc
+      (h.all (chain ∷ rest) (rw (drop_rest addresses i d below) (inr (root, heavy, on))));
 }
 
 pub first_all : (l : LayoutParts) (addresses : List ℕ) (i : ℕ) (chains : List Chain) → length addresses ≤ i
     → AreFirst l addresses i chains → ChainsAt l addresses chains
-first_all l addresses i chains past h =
-    subst (λ (cs : List Chain). ChainsAt l addresses cs) (append-nil chains)
-    (h.all [] (subst (λ (xs : List ℕ). ChainsAt l xs []) (sym (drop_all i addresses past)) tt))
+first_all l addresses i chains past h = rw append-nil at (h.all [] (rw (drop_all i addresses past) tt))
 
 -- the least of the units that lead on, one more edge
 module _ (xs : Edges) (weights best : List ℕ) (u i : ℕ) (d : ℕ × ℕ) (below : i < length xs) where
-  more_is : take (i + 1) xs ≡ take i xs ++ get_or xs i d ∷ []
-  more_is = take_more xs i d below
+  abbrev edge : ℕ × ℕ
+  edge = get_or xs i d
 
-  in_more : (e : ℕ × ℕ) → Contains (take (i + 1) xs) e → Contains (take i xs) e ⊎ (get_or xs i d ≡ e)
-  in_more e h = Contains-push_cases (take i xs) (get_or xs i d) e (subst (λ (es : Edges). Contains es e) more_is h)
+  in_more : (e : ℕ × ℕ) → Contains (take (i + 1) xs) e → Contains (take i xs) e ⊎ (edge ≡ e)
+  in_more e h = Contains-push_cases (take i xs) edge e (rw (take_more xs i d below) at h)
 
   was_in : (e : ℕ × ℕ) → Contains (take i xs) e → Contains (take (i + 1) xs) e
-  was_in e h =
-      subst (λ (es : Edges). Contains es e) (sym more_is) (Contains-append_left (take i xs) (get_or xs i d ∷ []) e h)
+  was_in e h = rw (take_more xs i d below) (Contains-append_left (take i xs) (edge ∷ []) e h)
 
-  now_in : Contains (take (i + 1) xs) (get_or xs i d)
-  now_in = subst (λ (es : Edges). Contains es (get_or xs i d)) (sym more_is) (Contains-push (take i xs) (get_or xs i d))
-
-  pub least_stays : (found : Option ℕ) → (LeadsOn weights best u (get_or xs i d) → ⊥)
+  pub least_stays : (found : Option ℕ) → (LeadsOn weights best u edge → ⊥)
       → IsLeastOn (take i xs) weights best u found → IsLeastOn (take (i + 1) xs) weights best u found
-  least_stays None not_on h =
-      λ e at on. elim (in_more e at) as
-      (λ _. ⊥) [ inl before ↦ h e before on | inr here ↦ not_on (subst (λ x. LeadsOn weights best u x) (sym here) on) ]
+  least_stays None not_on h = λ e at on. elim (in_more e at)
+      [ inl before ↦ h e before on | inr here ↦ not_on (subst (LeadsOn weights best u) (sym here) on) ]
   least_stays (Some v) not_on h = (
     was_in (u, v) h.0,
     h.1,
-    λ x at on. elim (in_more (u, x) at) as (λ _. v ≤ x) [
+    λ x at on. elim (in_more (u, x) at) [
       | inl before ↦ h.2 x before on
-      | inr here ↦ absurd (not_on (subst (λ y. LeadsOn weights best u y) (sym here) on))
+      | inr here ↦ absurd (not_on (subst (LeadsOn weights best u) (sym here) on))
     ],
   )
 
-  edge_is : LeadsOn weights best u (get_or xs i d) → get_or xs i d ≡ (u, (get_or xs i d).1)
-  edge_is on = ap (λ (x : ℕ). (x, (get_or xs i d).1)) on.from
-
-  pub least_more : (found : Option ℕ) → LeadsOn weights best u (get_or xs i d)
-      → IsLeastOn (take i xs) weights best u found
-      → IsLeastOn (take (i + 1) xs) weights best u (Some (lesser found (get_or xs i d).1))
-  least_more None on h =
-      let v : ℕ = (get_or xs i d).1 in (
-        subst (λ e. Contains (take (i + 1) xs) e) (edge_is on) now_in,
-        subst (λ e. LeadsOn weights best u e) (edge_is on) on,
-        λ x at on'. elim (in_more (u, x) at) as (λ _. v ≤ x) [
-          | inl before ↦ absurd (h (u, x) before on')
-          | inr here ↦ let same : v ≡ x = ap (λ (e : ℕ × ℕ). e.1) here in omega (arith, same)
+  -- it is the least where no earlier one is less
+  now_least : (on : LeadsOn weights best u edge)
+      → ((x : ℕ) → Contains (take i xs) (u, x) → LeadsOn weights best u (u, x) → edge.1 ≤ x)
+      → IsLeastOn (take (i + 1) xs) weights best u (Some edge.1)
+  now_least on least =
+      let is : edge ≡ (u, edge.1) = ap (λ (x : ℕ). (x, edge.1)) on.from in (
+        subst (Contains (take (i + 1) xs)) is (rw (take_more xs i d below) (Contains-push (take i xs) edge)),
+        subst (LeadsOn weights best u) is on,
+        λ x at on'. elim (in_more (u, x) at) [
+          | inl before ↦ least x before on'
+          | inr here ↦ let same : edge.1 ≡ x = ap (λ (e : ℕ × ℕ). e.1) here in omega (arith, same)
         ],
       )
-  least_more (Some o) on h =
-      let v : ℕ = (get_or xs i d).1 in
-      elim (cases_Bool (nat_lt o v)) as
-      (λ _. IsLeastOn (take (i + 1) xs) weights best u (Some (cond (nat_lt o v) o v))) [
-        | inl less ↦
-            let o_less : o < v = (Decides-ltb o v).0 less in
-            subst (λ (c : Bool). IsLeastOn (take (i + 1) xs) weights best u (Some (cond c o v))) (sym less) (
-              was_in (u, o) h.0,
-              h.1,
-              λ x at on'. elim (in_more (u, x) at) as (λ _. o ≤ x) [
-                | inl before ↦ h.2 x before on'
-                | inr here ↦ let same : v ≡ x = ap (λ (e : ℕ × ℕ). e.1) here in omega (arith, same, o_less)
-              ],
-            )
-        | inr more ↦
-            let v_less : v ≤ o =
-            elim (cases_lt o v) as
-            (λ _. v ≤ o) [ inl less ↦ absurd (false≢true (sym more ∙ (Decides-ltb o v).1 less)) | inr up ↦ up ] in
-            subst (λ (c : Bool). IsLeastOn (take (i + 1) xs) weights best u (Some (cond c o v))) (sym more) (
-              subst (λ e. Contains (take (i + 1) xs) e) (edge_is on) now_in,
-              subst (λ e. LeadsOn weights best u e) (edge_is on) on,
-              λ x at on'. elim (in_more (u, x) at) as (λ _. v ≤ x) [
-                | inl before ↦ omega (arith, h.2 x before on', v_less)
-                | inr here ↦ let same : v ≡ x = ap (λ (e : ℕ × ℕ). e.1) here in omega (arith, same)
-              ],
-            )
-      ]
+
+  pub least_more : (found : Option ℕ) → LeadsOn weights best u edge → IsLeastOn (take i xs) weights best u found
+      → IsLeastOn (take (i + 1) xs) weights best u (Some (lesser found edge.1))
+  least_more None on h = now_least on (λ x at on'. absurd (h (u, x) at on'))
+  least_more (Some o) on h = elim (cases_Bool (nat_lt o edge.1)) [
+    | inl less ↦ rw less (
+      was_in (u, o) h.0,
+      h.1,
+      λ x at on'. elim (in_more (u, x) at) [
+        | inl before ↦ h.2 x before on'
+        | inr here ↦
+            let same : edge.1 ≡ x = ap (λ (e : ℕ × ℕ). e.1) here in omega (arith, same, ltb-true o edge.1 less)
+      ],
+    )
+    | inr more ↦ rw more
+        (now_least on (λ x at on'. let least = h.2 x at on' in omega (arith, least, ltb-false o edge.1 more)))
+  ]
 
 pub least_start : (weights best : List ℕ) (u : ℕ) → IsLeastOn [] weights best u None
 least_start weights best u e h on = none_in_empty e h

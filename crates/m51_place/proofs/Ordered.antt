@@ -1,23 +1,87 @@
--- Which of two overlaid segments comes first in the order: by the roots above their units, and then by the levels of
--- those.
-use Rattle.m51_place.proofs.Common.{◌≡◌, inl, inr, ℕ, ◌<◌, ◌≤◌, true, Bool, not, nat_eq, length, get_or, Option, Some}
-use Rattle.m51_place.proofs.Common.{refl, sym, ap, subst, ◌∙◌, arith, nat_lt, and_parts, cases_lt, false≢true}
-use Rattle.m51_place.proofs.Common.{fails_before_first, same_Some, Direct, UnitType, AreRelated, Same, Before, After}
-use Rattle.m51_place.proofs.Common.{FirstUnderNone, SecondUnderNone, UnderTwo, FirstPlain, SecondPlain, Owners, vectors}
-use Rattle.m51_place.proofs.Common.{Reaches, GraphParts, IsArgument, IsGraph, IsOwn, Owns, SegmentsConflict}
-use Rattle.m51_place.proofs.Common.{UnitLiesUnder, joined_graph, lies_under, leads, above_tells, Group, Ranked}
-use Rattle.m51_place.proofs.Common.{are_owners_related, in_conflict, owners_at, before_by, class_number, comes_before}
-use Rattle.m51_place.proofs.Common.{group_before, root_number}
+-- Overlaid segments in the order: they stand together, by the roots above their units and the levels of those.
+use Rattle.m51_place.proofs.Common.{◌≡◌, inl, inr, ℕ, zero, suc, ◌+◌, ◌-◌, ◌<◌, ◌≤◌, false, Bool, not, List, [], ◌∷◌}
+use Rattle.m51_place.proofs.Common.{Option, Some, None, unwrap_or, refl, sym, subst, ◌∙◌, arith, find, range_with_len}
+use Rattle.m51_place.proofs.Common.{cases_lt, false≢true, not-true, Edges, HasEdge, IsWalk, Reaches, true, cond, nat_eq}
+use Rattle.m51_place.proofs.Common.{◌++◌, length, get_or, ap, nat_lt, is_some, and_parts, fails_before_first, Direct}
+use Rattle.m51_place.proofs.Common.{UnitType, AreRelated, Same, Before, After, FirstUnderNone, SecondUnderNone}
+use Rattle.m51_place.proofs.Common.{UnderTwo, FirstPlain, SecondPlain, Owners, vectors, GraphParts, IsArgument, IsGraph}
+use Rattle.m51_place.proofs.Common.{IsOwn, Owns, SegmentsConflict, UnitLiesUnder, joined_graph, lies_under, leads}
+use Rattle.m51_place.proofs.Common.{above_tells, Control, JoinedSegment, Ranked, are_owners_related, in_conflict}
+use Rattle.m51_place.proofs.Common.{owners_at, own_at, before_by, class_number, comes_before, group_before}
+use Rattle.m51_place.proofs.Common.{group_number, order_of, root_number, before_overlaid, overlaid_in, OverlaysData}
+use Rattle.m51_place.proofs.Common.{cases_Bool}
+use Rattle.std.proofs.lemmas.Bool.{not-false}
+use Rattle.m51_module.specs.Walks.{last_of}
+use Rattle.m51_graph.specs.Levels.{EndsWalk, ends_walk, level_of}
+use Rattle.m51_graph.proofs.Climbing.{ends_on, walk_short}
+use Rattle.m51_graph.proofs.Walking.{ends_walk_tells, fewer}
+use Rattle.m51_place.proofs.Free.{find_first}
 use Rattle.std.proofs.lemmas.List.Sums.{passes_at_first}
-use Rattle.m51_control.specs.declared.control.Class.{Class}
 use Rattle.m51_control.specs.declared.control.Class.TheVariants.{Direct as DirectClass}
-use Rattle.m51_graph.specs.Levels.{EndsWalk, level_of}
-use Rattle.m51_graph.proofs.Climbing.{walk_short}
-use Rattle.m51_place.specs.declared.ranked.Group.TheVariants.{Overlaid}
-use Rattle.m51_place.proofs.Conflicting.{segments_tell}
-use Rattle.m51_place.proofs.LevelsRise.{reach_rises}
-use Rattle.m51_place.proofs.Putting.{front_within}
-use Rattle.m51_place.proofs.Rising.{goes_tells}
+use Rattle.m51_place.specs.declared.ranked.Group.TheVariants.{Overlaid, Plain, Stack}
+use Rattle.m51_place.specs.Order.{group_unless_overlaid, is_stack, naming_of}
+use Rattle.m51_place.proofs.Conflicting.{own_is, segments_tell}
+use Rattle.m51_cells.proofs.Members.{Every, every_append, every_right, every_weaker, Pairs}
+use Rattle.m51_place.proofs.Ranks.{front_within, IsRankedOf, order_ranked, Earlier, goes, order_rises}
+
+-- Levels rise along walks.
+
+-- a walk of as many edges as the level ends in the unit, and none of one more
+record HasLevel (edges : Edges) (unit level : ℕ) : Type 0 where
+  walk : EndsWalk edges unit level
+  ends : EndsWalk edges unit (suc level) → ⊥
+
+-- no walk has more than a thousand edges
+module _ (edges : Edges) (short : (unit count : ℕ) → EndsWalk edges unit count → count ≤ 1000) where
+  abbrev stops : ℕ → ℕ → Bool
+  stops unit count = not (ends_walk edges (suc count) unit)
+
+  walk_to : (unit level : ℕ) → ((k : ℕ) → k < level → stops unit k ≡ false) → EndsWalk edges unit level
+  walk_to unit zero h = record { first = unit; more = []; walk = tt; ends = refl; count_is = refl }
+  walk_to unit (suc k) h =
+      (ends_walk_tells edges (suc k) unit).0 (not-false (ends_walk edges (suc k) unit) (h k (omega arith)))
+
+  level_found : (unit : ℕ) (found : Option ℕ) → find (stops unit) (range_with_len 0 65536) ≡ found
+      → HasLevel edges unit (unwrap_or found 0)
+  level_found unit None h =
+      let goes = find_first (stops unit) 65536 None h 1000 (omega arith) (omega arith) in
+      let long = short unit 1001 ((ends_walk_tells edges 1001 unit).0 (not-false (ends_walk edges 1001 unit) goes)) in
+      absurd (omega (arith, long))
+  level_found unit (Some level) h =
+      let first = find_first (stops unit) 65536 (Some level) h in
+      record {
+        walk = walk_to unit level (λ k. first.2 k (omega arith));
+        ends = λ walk. false≢true
+            (sym (not-true (ends_walk edges (suc level) unit) first.0)
+            ∙ (ends_walk_tells edges (suc level) unit).1 walk);
+      }
+
+  has_level : (unit : ℕ) → HasLevel edges unit (level_of edges unit)
+  unfolding level_of
+  has_level unit = level_found unit (find (stops unit) (range_with_len 0 65536)) refl
+
+  edge_rises : (u v : ℕ) → HasEdge edges u v → level_of edges u < level_of edges v
+  edge_rises u v e =
+      elim (cases_lt (level_of edges u) (level_of edges v)) [
+        | inl less ↦ less
+        | inr not_less ↦
+            let on = ends_on edges u v (level_of edges u) (has_level u).walk e in
+            let gap : ℕ = level_of edges u - level_of edges v in
+            let split : level_of edges u + 1 ≡ gap + suc (level_of edges v) = omega (arith, not_less) in
+            absurd ((has_level v).ends
+            (fewer edges v (suc (level_of edges v)) gap (subst (λ n. EndsWalk edges v n) split on)))
+      ]
+
+  walk_rises : (u v : ℕ) (more : List ℕ) → IsWalk edges u (v ∷ more)
+      → level_of edges u < level_of edges (last_of v more)
+  walk_rises u v [] walk = edge_rises u v walk.0
+  walk_rises u v (w ∷ more) walk = omega (arith, edge_rises u v walk.0, walk_rises v w more walk.1)
+
+  pub reach_rises : (u v : ℕ) → Reaches edges u v → level_of edges u < level_of edges v
+  reach_rises u v h = subst (λ x. level_of edges u < level_of edges x) h.ends (walk_rises u h.next h.more h.walk)
+
+-- Which of two overlaid segments comes first in the order: by the roots above their units, and then by the levels of
+-- those. In the order the overlaid segments stand together.
 
 -- an overlaid segment of DATA, with its own unit
 pub record IsLocalData (g : GraphParts) (t : Ranked) (unit : ℕ) : Type 0 where
@@ -27,8 +91,21 @@ pub record IsLocalData (g : GraphParts) (t : Ranked) (unit : ℕ) : Type 0 where
   pub class : t.rank.class ≡ Some DirectClass
   pub group : t.rank.group ≡ Overlaid (root_number g unit) (level_of g.edges unit)
 
--- the unit of an earlier segment, compared with that of a later one in conflict: under an earlier root, the same, one
--- that reaches it, or both under no root
+pub record IsLocalOne (g : GraphParts) (t : Ranked) : Type 0 where
+  pub unit : ℕ
+  pub own_is : t.own ≡ Some unit
+  pub local : IsLocalData g t unit
+  pub no_argument : IsArgument g t.number → ⊥
+
+abbrev pub IsPlain : GraphParts → Ranked → Type 0
+IsPlain g t = own_at g t.number ≡ None
+
+pub record IsLone (g : GraphParts) (t : Ranked) : Type 0 where
+  pub lone : IsPlain g t
+  pub other : group_number t.rank.group ≡ 2 → ⊥
+
+-- The unit of an earlier segment, compared with that of a later one in conflict: under an earlier root, the same, one
+-- that reaches it, or both under no root.
 pub data Precedes (g : GraphParts) (u v : ℕ) : Type 0 where
   EarlierRoot : root_number g u < root_number g v → Precedes g u v
   SameUnit : u ≡ v → Precedes g u v
@@ -36,27 +113,130 @@ pub data Precedes (g : GraphParts) (u v : ℕ) : Type 0 where
   UnderNone : root_number g u ≡ 7 → root_number g v ≡ 7 → Precedes g u v
 
 -- the numbers of one that comes before another
-pub record AreNotAfter (one two first second : ℕ) : Type 0 where
-  pub roots : one ≤ two
-  pub levels : one ≡ two → first ≤ second
+record AreNotAfter (one two first second : ℕ) : Type 0 where
+  roots : one ≤ two
+  levels : one ≡ two → first ≤ second
 
-pub numbers_rise : (one two first second : ℕ) (next : Bool) → before_by one two (before_by first second next) ≡ true
+numbers_rise : (one two first second : ℕ) (next : Bool) → before_by one two (before_by first second next) ≡ true
     → AreNotAfter one two first second
-numbers_rise one two first second next h =
-    elim ((goes_tells one two (before_by first second next)).0 h) as (λ _. AreNotAfter one two first second) [
-      | inl less ↦ record { roots = omega (arith, less); levels = λ same. absurd (omega (arith, less, same)) }
-      | inr same ↦ record {
-        roots = omega (arith, same.0);
-        levels = λ _. elim ((goes_tells first second next).0 same.1) as
-            (λ _. first ≤ second) [ inl less ↦ omega (arith, less) | inr also ↦ omega (arith, also.0) ];
-      }
-    ]
+numbers_rise one two first second next h = elim (goes one two (before_by first second next) h) [
+  | inl less ↦ record { roots = omega (arith, less); levels = λ same. absurd (omega (arith, less, same)) }
+  | inr same ↦ record {
+    roots = omega (arith, same.0);
+    levels = λ _. elim (goes first second next same.1)
+        [ inl less ↦ omega (arith, less) | inr also ↦ omega (arith, also.0) ];
+  }
+]
 
 -- what follows where two numbers are one
 after_same : (x : ℕ) (next : Bool) → before_by x x next ≡ true → next ≡ true
 after_same x next h =
-    elim ((goes_tells x x next).0 h) as
-    (λ _. next ≡ true) [ inl less ↦ absurd (omega (arith, less)) | inr same ↦ same.1 ]
+    elim (goes x x next h) [ inl less ↦ absurd (omega (arith, less)) | inr same ↦ same.1 ]
+
+-- between two overlaid segments of DATA there is no plain one
+between : (g : GraphParts) (t u v : Ranked) → IsLocalOne g t → IsLocalOne g v → Earlier t u → Earlier u v
+    → group_number u.rank.group ≡ 2
+between g t u v a b h k =
+    let first = numbers_rise 2 (class_number u.rank.class) 2 (group_number u.rank.group) _
+    (rw (a.local.class, a.local.group) at h) in
+    let second = numbers_rise (class_number u.rank.class) 2 (group_number u.rank.group) 2 _
+    (rw (b.local.class, b.local.group) at k) in
+    let same = le_both _ _ first.roots second.roots in
+    sym (le_both _ _ (first.levels same) (second.levels (sym same)))
+  where
+    le_both : (x y : ℕ) → x ≤ y → y ≤ x → x ≡ y
+    le_both x y p q = omega (arith, p, q)
+
+-- an order, split at its overlaid segments
+pub record AreParts (g : GraphParts) (order : List Ranked) : Type 0 where
+  pub rest : List Ranked
+  pub are : order ≡ before_overlaid order ++ (overlaid_in order ++ rest)
+  pub before : Every (IsLone g) (before_overlaid order)
+  pub locals : Every (IsLocalOne g) (overlaid_in order)
+  pub after : Every (IsPlain g) rest
+
+-- each of an order is plain, or overlaid DATA
+pub data IsEither (g : GraphParts) (t : Ranked) : Type 0 where
+  OnePlain : t.own ≡ None → IsLone g t → IsEither g t
+  OneLocal : (unit : ℕ) → t.own ≡ Some unit → IsLocalOne g t → IsEither g t
+
+plain_of : (g : GraphParts) (ts : List Ranked) → Every (IsLone g) ts → Every (IsPlain g) ts
+plain_of g [] h = tt
+plain_of g (t ∷ ts) h = (h.0.lone, plain_of g ts h.1)
+
+-- after an overlaid segment come overlaid ones, and then plain ones
+rest_after : (g : GraphParts) (t : Ranked) (more : List Ranked) → IsLocalOne g t → Every (Earlier t) more
+    → Pairs Earlier more → AreParts g more → (bs os : List Ranked) → (rest : List Ranked) → more ≡ bs ++ (os ++ rest)
+    → Every (IsLone g) bs → Every (IsLocalOne g) os → Every (IsPlain g) rest
+    → (later : List Ranked) × (more ≡ os ++ later) × Every (IsPlain g) later
+rest_after g t more one first pairs p [] os rest are lone local plain = (rest, are, plain)
+rest_after g t more one first pairs p (b ∷ bs) [] rest are lone local plain =
+    (b ∷ bs ++ rest, are, (lone.0.lone, every_append (IsPlain g) bs rest (plain_of g bs lone.1) plain))
+rest_after g t more one first pairs p (b ∷ bs) (o ∷ os) rest are lone local plain =
+    let after = rw are at first in
+    let all = rw are at pairs in
+    absurd (lone.0.other (between g t b o one local.0 after.0 (every_right (Earlier b) bs (o ∷ os ++ rest) all.0).0))
+
+pub parts : (g : GraphParts) (order : List Ranked) → Every (IsEither g) order → Pairs Earlier order → AreParts g order
+parts g [] either rising = record { rest = []; are = refl; before = tt; locals = tt; after = tt }
+parts g (t ∷ more) either rising =
+    let p = parts g more either.1 rising.1 in
+    elim either.0 [
+      | OnePlain own lone ↦
+          let bare : is_some t.own ≡ false = ap is_some own in
+          record {
+            rest = p.rest;
+            are = rw bare (ap (λ (ts : List Ranked). t ∷ ts) p.are);
+            before = rw bare (lone, p.before);
+            locals = rw bare p.locals;
+            after = p.after;
+          }
+      | OneLocal unit own one ↦
+          let there : is_some t.own ≡ true = ap is_some own in
+          let later = rest_after g t more one rising.0 rising.1 p (before_overlaid more) (overlaid_in more) p.rest p.are
+          p.before p.locals p.after in
+          record {
+            rest = later.0;
+            are = rw there (ap (λ (ts : List Ranked). t ∷ ts) later.1);
+            before = rw there tt;
+            locals = rw there (one, p.locals);
+            after = later.2;
+          }
+    ]
+
+-- a plain segment is in no group of overlaid ones
+plain_groups : (j : JoinedSegment) (naming : Option ℕ) → group_number (group_unless_overlaid j naming) ≡ 2 → ⊥
+plain_groups j (Some naming) h = omega (arith, h)
+plain_groups j None h = elim (is_stack j) as (λ b. group_number (cond b Stack Plain) ≡ 2 → ⊥)
+    [ true ↦ λ k. omega (arith, k) | false ↦ λ k. omega (arith, k) ] h
+
+module _ (g : GraphParts) (controls : List (ℕ × Control)) (segments : List JoinedSegment)
+    (data_only : OverlaysData segments g) where
+  either : (t : Ranked) (own : Option ℕ) → IsRankedOf g controls segments t → t.own ≡ own → IsEither g t
+  either t None is h = OnePlain h (record {
+    lone = sym is.own ∙ h;
+    other = λ two. plain_groups t.segment (naming_of controls t.segment) (rw (is.rank, h) at two);
+  })
+  either t (Some unit) is h =
+      let own = own_is g t.number unit (sym is.own ∙ h) in
+      let told = data_only.data_only t.number unit t.segment own is.segment in
+      OneLocal unit h (record {
+        unit = unit;
+        own_is = h;
+        local = record {
+          own = own;
+          kind = told.0;
+          reloc = told.1;
+          class = rw (is.rank, told.0, told.1);
+          group = rw (is.rank, h);
+        };
+        no_argument = data_only.no_argument t.number unit own;
+      })
+
+  pub order_parts : AreParts g (order_of g controls segments)
+  order_parts =
+      parts g _ (every_weaker _ _ _ (λ t is. either t t.own is refl) (order_ranked g controls segments))
+      (order_rises g controls segments)
 
 module _ (g : GraphParts) (is : IsGraph g) where
   short : (unit count : ℕ) → EndsWalk g.edges unit count → count ≤ 1000
@@ -64,28 +244,16 @@ module _ (g : GraphParts) (is : IsGraph g) where
       omega (arith, walk_short (length g.units) g.edges is.units.edges is.no_cycle unit count walk, is.units.few_units)
 
   -- the overlaid segment that comes first is under no later root, and under the same root on no higher level
-  by_groups : (first second level next : ℕ) (rest : Bool)
-      → before_by 2 2 (group_before (Overlaid first level) (Overlaid second next) rest) ≡ true
-      → AreNotAfter first second level next
-  by_groups first second level next rest h =
-      numbers_rise first second level next rest
-      (after_same 2 (before_by first second (before_by level next rest))
-      (after_same 2 (group_before (Overlaid first level) (Overlaid second next) rest) h))
-
   ranks : (t u : Ranked) (v w : ℕ) → IsLocalData g t v → IsLocalData g u w → comes_before t.rank u.rank ≡ true
       → AreNotAfter (root_number g v) (root_number g w) (level_of g.edges v) (level_of g.edges w)
   ranks t u v w a b h =
       let rest : Bool = nat_lt t.rank.number u.rank.number in
-      let first =
-      subst (λ (c : Option Class). before_by (class_number c) (class_number u.rank.class)
-      (group_before t.rank.group u.rank.group rest) ≡ true) a.class h in
-      let second =
-      subst (λ (c : Option Class). before_by 2 (class_number c) (group_before t.rank.group u.rank.group rest)
-      ≡ true) b.class first in
-      let third = subst (λ (x : Group). before_by 2 2 (group_before x u.rank.group rest) ≡ true) a.group second in
-      by_groups (root_number g v) (root_number g w) (level_of g.edges v) (level_of g.edges w) rest
-      (subst (λ (x : Group). before_by 2 2 (group_before (Overlaid (root_number g v) (level_of g.edges v)) x rest)
-      ≡ true) b.group third)
+      let one = Overlaid (root_number g v) (level_of g.edges v) in
+      let two = Overlaid (root_number g w) (level_of g.edges w) in
+      numbers_rise (root_number g v) (root_number g w) (level_of g.edges v) (level_of g.edges w) rest
+      (after_same 2 (before_by (root_number g v) (root_number g w)
+      (before_by (level_of g.edges v) (level_of g.edges w) rest))
+      (after_same 2 (group_before one two rest) (rw (a.class, b.class, a.group, b.group) at h)))
 
   -- the root above a unit, or none
   abbrev test : ℕ → ℕ → Bool
@@ -109,27 +277,19 @@ module _ (g : GraphParts) (is : IsGraph g) where
   one_owner : (segment unit owner : ℕ) → IsOwn g unit segment → (IsArgument g segment → ⊥) → Owns g owner segment
       → owner ≡ unit
   one_owner segment unit owner own plain owns =
-      let same : owns.own ≡ unit =
-      same_Some owns.own unit (same_Some (Some owns.own) (Some unit) (sym owns.own_is ∙ own)) in
-      elim owns.owner as (λ _. owner ≡ unit) [ inl is_own ↦ is_own ∙ same | inr calls ↦ absurd (plain calls.0) ]
-
-  conflict_of : (s t : ℕ) → in_conflict g s t ≡ true → SegmentsConflict g s t
-  conflict_of s t h =
-      (segments_tell g is.units s t).0
-      (and_parts (not (nat_eq s t)) (are_owners_related g (owners_at g s) (owners_at g t)) h).1
+      let same : owns.own ≡ unit = cc (owns.own_is, own) in
+      elim owns.owner [ inl is_own ↦ is_own ∙ same | inr calls ↦ absurd (plain calls.0) ]
 
   related : (s t v w : ℕ) → IsOwn g v s → IsOwn g w t → (IsArgument g s → ⊥) → (IsArgument g t → ⊥)
       → SegmentsConflict g s t → AreRelated (joined_graph g) v w
   related s t v w own own' plain plain' (FirstPlain lone) = absurd (lone (v, own))
   related s t v w own own' plain plain' (SecondPlain lone) = absurd (lone (w, own'))
   related s t v w own own' plain plain' (Owners one two o o' r) =
-      subst (λ x. AreRelated (joined_graph g) x w) (one_owner s v one own plain o)
-      (subst (λ y. AreRelated (joined_graph g) one y) (one_owner t w two own' plain' o') r)
+      rw (← one_owner s v one own plain o, ← one_owner t w two own' plain' o') r
 
   -- under one root
   under_one : (s t v w : ℕ) → IsOwn g v s → IsOwn g w t → root_number g v ≡ root_number g w → root_number g v < 7
-      → level_of g.edges v ≤ level_of g.edges w
-      → AreRelated (joined_graph g) v w → Precedes g v w
+      → level_of g.edges v ≤ level_of g.edges w → AreRelated (joined_graph g) v w → Precedes g v w
   under_one s t v w own own' same below levels r =
       let x : ℕ = get_or vectors (root_number g v) 0 in
       let first : UnitLiesUnder g x v = root_above v below in
@@ -137,7 +297,7 @@ module _ (g : GraphParts) (is : IsGraph g) where
       subst (λ k. UnitLiesUnder g (get_or vectors k 0) w) (sym same) (root_above w (omega (arith, same, below))) in
       let owns : Owns g v s = record { own = v; own_is = own; owner = inl refl } in
       let owns' : Owns g w t = record { own = w; own_is = own'; owner = inl refl } in
-      elim r as (λ _. Precedes g v w) [
+      elim r [
         | Same e ↦ SameUnit e
         | Before reach ↦ Leads same reach
         | After reach ↦ absurd (omega (arith, levels, reach_rises g.edges short w v reach))
@@ -147,19 +307,47 @@ module _ (g : GraphParts) (is : IsGraph g) where
             (differ (is.one_root s v a x owns h first ∙ sym (is.one_root t w b x owns' h' second)))
       ]
 
-  pub precedes : (t u : Ranked) (v w : ℕ) → IsLocalData g t v → IsLocalData g u w → (IsArgument g t.number → ⊥)
-      → (IsArgument g u.number → ⊥)
-      → comes_before t.rank u.rank ≡ true → in_conflict g t.number u.number ≡ true → Precedes g v w
-  precedes t u v w a b plain plain' earlier conflict =
-      let rise = ranks t u v w a b earlier in
-      elim (cases_lt (root_number g v) (root_number g w)) as (λ _. Precedes g v w) [
+  pub precedes : (t u : Ranked) (a : IsLocalOne g t) (b : IsLocalOne g u) → Earlier t u
+      → in_conflict g t.number u.number ≡ true → Precedes g a.unit b.unit
+  precedes t u a b earlier conflict =
+      let v : ℕ = a.unit in
+      let w : ℕ = b.unit in
+      let rise = ranks t u v w a.local b.local earlier in
+      let r = related t.number u.number v w a.local.own b.local.own a.no_argument b.no_argument
+      ((segments_tell g is.units t.number u.number).0
+      (and_parts (not (nat_eq t.number u.number))
+      (are_owners_related g (owners_at g t.number) (owners_at g u.number)) conflict).1) in
+      elim (cases_lt (root_number g v) (root_number g w)) [
         | inl less ↦ EarlierRoot less
         | inr not_less ↦
             let same : root_number g v ≡ root_number g w = omega (arith, not_less, rise.roots) in
-            elim (cases_lt (root_number g v) 7) as (λ _. Precedes g v w) [
-              | inl below ↦
-                  under_one t.number u.number v w a.own b.own same below (rise.levels same)
-                  (related t.number u.number v w a.own b.own plain plain' (conflict_of t.number u.number conflict))
+            elim (cases_lt (root_number g v) 7) [
+              | inl below ↦ under_one t.number u.number v w a.local.own b.local.own same below (rise.levels same) r
               | inr end ↦ UnderNone (omega (arith, end, few_roots v)) (omega (arith, end, same, few_roots v))
             ]
       ]
+
+-- The order, split at its first overlaid segment, and the part before that.
+
+-- the segments from the first overlaid one on
+abbrev pub from_overlaid : List Ranked → List Ranked
+from_overlaid [] = []
+from_overlaid (t ∷ more) = cond (is_some t.own) (t ∷ more) (from_overlaid more)
+
+pub split : (order : List Ranked) → order ≡ before_overlaid order ++ from_overlaid order
+split [] = refl
+split (t ∷ more) = elim (cases_Bool (is_some t.own))
+    [ inl own ↦ rw own | inr none ↦ rw none (ap (λ (ts : List Ranked). t ∷ ts) (split more)) ]
+
+no_own : (own : Option ℕ) → is_some own ≡ false → own ≡ None
+no_own None h = refl
+no_own (Some unit) h = absurd (false≢true (sym h))
+
+-- those before it are plain
+pub lone_before : (g : GraphParts) (controls : List (ℕ × Control)) (segments : List JoinedSegment)
+    (order : List Ranked) → Every (IsRankedOf g controls segments) order → Every (IsPlain g) (before_overlaid order)
+lone_before g controls segments [] h = tt
+lone_before g controls segments (t ∷ more) h = elim (cases_Bool (is_some t.own)) [
+  | inl own ↦ rw own tt
+  | inr none ↦ rw none (sym h.0.own ∙ no_own t.own none, lone_before g controls segments more h.1)
+]

@@ -1,36 +1,365 @@
--- Overlaid DATA in its order, each segment on the run or on earlier ones: none ends too high.
-use Rattle.m51_place.proofs.Common.{◌≡◌, ℕ, suc, ◌+◌, ◌<◌, ◌≤◌, true, false, Bool, not, ◌&&◌, nat_eq, List, [], ◌∷◌}
-use Rattle.m51_place.proofs.Common.{◌++◌, get_or, Option, Some, None, Ok, refl, sym, ap, subst, ◌∙◌, arith}
-use Rattle.m51_place.proofs.Common.{append_assoc, nat_lt, option_map_or, All, AllPairs, Contains, sum_by, append-nil}
-use Rattle.m51_place.proofs.Common.{All-append, All-cons, All-contains, All-head, All-nil, All-tail, All-weaker}
-use Rattle.m51_place.proofs.Common.{sum_by-append, none-some, Direct, sum_along, vectors, IsWalk, GraphParts}
-use Rattle.m51_place.proofs.Common.{IsArgument, IsGraph, IsOwn, IsRootAt, Numbered, Ranked, are_owners_related}
-use Rattle.m51_place.proofs.Common.{in_conflict, is_argument_at, owners_at, owners_with, Group, before_by, class_number}
-use Rattle.m51_place.proofs.Common.{group_before, group_number, own_at, root_number, AreOneRun, base_for}
-use Rattle.m51_place.proofs.Common.{in_conflict_with, located_at, place_after}
-use Rattle.m51_control.specs.declared.control.Class.{Class}
-use Rattle.m51_place.proofs.After.{place_step}
+-- How high overlaid DATA is piled, and that each segment has a base where the run is long enough.
+use Rattle.m51_place.proofs.Common.{◌≡◌, inl, inr, ℕ, ◌+◌, true, false, Bool, ◌&&◌, cond, List, [], ◌∷◌, Option, Some}
+use Rattle.m51_place.proofs.Common.{None, refl, sym, ap, ◌∙◌, arith, is_some, slice_get, option_map_or, AllZip}
+use Rattle.m51_place.proofs.Common.{cases_Bool, false≢true, is_absolute, Control, Overlaid, is_overlaid_data}
+use Rattle.m51_place.proofs.Common.{JoinedSegment, GraphParts, Numbered, Ranked, order_of, own_at, ranked_from}
+use Rattle.m51_place.proofs.Common.{bytes_joined, overlaid_in, located_at, mark_of, zero, suc, ◌-◌, ◌<◌, ◌≤◌, nat_eq}
+use Rattle.m51_place.proofs.Common.{◌++◌, get_or, subst, cases_lt, nat_lt, sum_along, vectors, Edges, IsWalk, Reaches}
+use Rattle.m51_place.proofs.Common.{IsGraph, IsRootAt, root_number, AreOneRun, ◌*◌, ◌/◌, Ok, Err, append_assoc}
+use Rattle.m51_place.proofs.Common.{append-nil, Direct, UnitType, extent_of, Covers, Fits, L12, IsOwn, in_conflict}
+use Rattle.m51_place.proofs.Common.{base_for, conflicting, in_conflict_with, place_after, length, Chain, ChainsFrom}
+use Rattle.m51_place.proofs.Common.{ProgramGraph}
+use Rattle.m51_place.proofs.Free.{IsPlacedRanked, Answer, least_is_least, AtLow, IsOut, IsSeated, not_below, not_past}
+use Rattle.m51_place.proofs.Free.{OnTop, open_out, out_apart, ram, seated}
+use Rattle.m51_cells.proofs.Members.{Every, total, total_moved, total-append, every_all, every_append, every_in}
+use Rattle.m51_cells.proofs.Members.{every_weaker, In, in_cases, in_filter, in_map, every_of, Pairs}
+use Rattle.m51_place.proofs.Ranks.{AreFrom, from_head, from_start, from_tail, IsRankedOf, order_moves, Earlier}
+use Rattle.m51_place.proofs.Weights.{bytes, is_data, Local, along_total}
+use Rattle.std.proofs.lemmas.Bool.{eq-eqb, le-ltb, lt-ltb, ne_eqb}
+use Rattle.m51_module.specs.Walks.{last_of}
+use Rattle.m51_place.proofs.Ordered.{EarlierRoot, few_roots, Leads, Precedes, root_above, SameUnit, UnderNone}
+use Rattle.m51_place.proofs.Ordered.{IsLocalOne, precedes}
+use Rattle.m51_place.specs.Bases.{IsApart, IsFree}
 use Rattle.m51_place.proofs.Conflicting.{own_read}
-use Rattle.m51_place.proofs.Heights.{fresh, IsHigh, on_top, own_of, still_high, unit_bytes}
-use Rattle.m51_place.proofs.Ordered.{few_roots, IsLocalData, numbers_rise, precedes, root_above}
-use Rattle.m51_place.proofs.Ranks.{other_number}
-use Rattle.m51_place.proofs.Rising.{Earlier, head_pairs, tail_pairs}
-use Rattle.m51_place.proofs.Seated.{AtLow, IsSeated, not_below, not_past, OnTop, seated}
+use Rattle.m51_module.specs.Chains.{IsHeaviestWalk}
 
--- what is placed in the end has what was placed before
-pub record Extends (earlier located : List Numbered) : Type 0 where
-  pub later : List Numbered
-  pub are : located ≡ earlier ++ later
+-- The bytes of overlaid DATA in what is placed, in an order and among joined segments are one number.
 
-pub extends : (g : GraphParts) (order : List Ranked) (earlier located : List Numbered) → place_after g earlier order
-    ≡ Ok located → Extends earlier located
-extends g [] earlier located h = let same : earlier ≡ located = cc h in
-    record { later = []; are = sym same ∙ sym (append-nil earlier) }
-extends g (t ∷ more) earlier located h =
-    let next = place_step g earlier t more located (base_for g earlier t) refl h in
-    let e : Numbered = located_at t next.0 in
-    let rest = extends g more (earlier ++ e ∷ []) located next.2 in
-    record { later = e ∷ rest.later; are = rest.are ∙ append_assoc earlier (e ∷ []) rest.later }
+-- the own unit of an extent, if it is overlaid
+abbrev pub own_of : GraphParts → Numbered → Option ℕ
+own_of g e = option_map_or (own_at g) e.number None
+
+abbrev pub local_at : GraphParts → Numbered → Local
+local_at g e = record { base = e.placed.base; size = cond (is_data e.placed) e.placed.size 0; own = own_of g e }
+
+-- its bytes, where its own unit passes a test; those of a ranked segment, wherever it is placed
+abbrev pub placed_bytes : GraphParts → (ℕ → Bool) → Numbered → ℕ
+placed_bytes g test e = bytes test (local_at g e)
+
+abbrev pub ranked_bytes : GraphParts → (ℕ → Bool) → Ranked → ℕ
+ranked_bytes g test t = placed_bytes g test (located_at t 0)
+
+no_bytes : (own : Option ℕ) (test : ℕ → Bool) (size : ℕ) → own ≡ None → cond (option_map_or test own false) size 0 ≡ 0
+no_bytes own test size none = rw none
+
+-- the bytes of a joined segment
+one_joined : (test : ℕ → Bool) (j : JoinedSegment) (own : Option ℕ)
+    → cond (option_map_or test own false) (cond (is_overlaid_data j.kind j.reloc (mark_of own)) j.size 0) 0
+    ≡ cond (is_overlaid_data j.kind j.reloc Overlaid && option_map_or test own false) j.size 0
+one_joined test j None = grind arith
+one_joined test j (Some unit) = grind arith
+
+none_joined : (d : Bool) (own : Option ℕ) (test : ℕ → Bool) (size : ℕ) → own ≡ None
+    → 0 ≡ cond (d && option_map_or test own false) size 0
+none_joined d own test size none = rw none (grind arith)
+
+module _ (g : GraphParts) (test : ℕ → Bool) where
+  pub bare_sum : (es : List Numbered) → Every (λ e. own_of g e ≡ None) es → total (placed_bytes g test) es ≡ 0
+  bare_sum [] h = refl
+  bare_sum (e ∷ es) h = rw h.0 (omega (arith, bare_sum es h.1))
+
+  pub zip_sum : (order : List Ranked) (later : List Numbered) → AllZip IsPlacedRanked order later
+      → total (placed_bytes g test) later ≡ total (ranked_bytes g test) order
+  zip_sum [] [] h = refl
+  zip_sum [] (e ∷ later) h = absurd h
+  zip_sum (t ∷ order) [] h = absurd h
+  zip_sum (t ∷ order) (e ∷ later) h =
+      omega (arith, ap (placed_bytes g test) h.0.is, zip_sum order later h.1)
+
+  module _ (segments : List JoinedSegment) (controls : List (ℕ × Control))
+      (bare : (n : ℕ) (j : JoinedSegment) → slice_get segments n ≡ Some j → is_absolute j.reloc ≡ true → own_at g n
+      ≡ None) where
+    joined_sum : (number : ℕ) (rest : List JoinedSegment) → AreFrom segments number rest
+        → total (ranked_bytes g test) (ranked_from g controls number rest) ≡ bytes_joined g test number rest
+    joined_sum number [] from = refl
+    joined_sum number (j ∷ more) from =
+        let rest = joined_sum (number + 1) more (from_tail segments number j more from) in
+        elim (cases_Bool (is_absolute j.reloc)) [
+          | inl abs ↦
+              let none = bare number j (from_head segments number j more from) abs in
+              rw abs (omega (
+                arith,
+                rest,
+                none_joined (is_overlaid_data j.kind j.reloc Overlaid) (own_at g number) test j.size none,
+              ))
+          | inr rel ↦ rw rel (omega (arith, rest, one_joined test j (own_at g number)))
+        ]
+
+    -- the overlaid segments of an order have all the bytes that count
+    overlaid_sum : (order : List Ranked) → Every (IsRankedOf g controls segments) order
+        → total (ranked_bytes g test) (overlaid_in order) ≡ total (ranked_bytes g test) order
+    overlaid_sum [] h = refl
+    overlaid_sum (t ∷ more) h = elim (cases_Bool (is_some t.own)) [
+      | inl own ↦ rw own (omega (arith, overlaid_sum more h.1))
+      | inr none ↦ rw none (omega (
+        arith,
+        overlaid_sum more h.1,
+        no_bytes (own_at g t.number) test (cond (is_data (located_at t 0).placed) t.segment.size 0)
+            (sym h.0.own ∙ bare_own t.own none),
+      ))
+    ]
+      where
+        bare_own : (own : Option ℕ) → is_some own ≡ false → own ≡ None
+        bare_own None is = refl
+        bare_own (Some unit) is = absurd (false≢true (sym is))
+
+    pub order_all : total (ranked_bytes g test) (order_of g controls segments) ≡ bytes_joined g test 0 segments
+    order_all = sym (total_moved (ranked_bytes g test) _ _ (order_moves g controls segments))
+        ∙ joined_sum 0 segments (from_start segments)
+
+    pub order_sum : Every (IsRankedOf g controls segments) (order_of g controls segments)
+        → total (ranked_bytes g test) (overlaid_in (order_of g controls segments)) ≡ bytes_joined g test 0 segments
+    order_sum ranked = overlaid_sum (order_of g controls segments) ranked ∙ order_all
+
+-- How high overlaid DATA is piled: no segment ends above the heaviest walks of the roots before its own, a walk to its
+-- unit, and the segments of that unit that lie below it.
+
+-- a walk that is followed by another
+joined_walk : (edges : Edges) (u : ℕ) (more later : List ℕ) → IsWalk edges u more → IsWalk edges (last_of u more) later
+    → IsWalk edges u (more ++ later)
+joined_walk edges u [] later walk on = on
+joined_walk edges u (v ∷ more) later walk on = (walk.0, joined_walk edges v more later walk.1 on)
+
+joined_end : (u : ℕ) (more later : List ℕ) → last_of u (more ++ later) ≡ last_of (last_of u more) later
+joined_end u [] later = refl
+joined_end u (v ∷ more) later = joined_end v more later
+
+-- the last unit of a list weighs no more than the list
+last_weighs : (w : ℕ → ℕ) (v : ℕ) (more : List ℕ) → w (last_of v more) ≤ total w (v ∷ more)
+last_weighs w v [] = omega arith
+last_weighs w v (x ∷ more) = omega (arith, last_weighs w x more)
+
+-- What overlaid segments are placed over: a graph and the weights of its units, the run that the extents before them
+-- leave open, a height for each root, and which units lie under none.
+pub record Scene : Type 0 where
+  pub g : GraphParts
+  pub kept : IsGraph g
+  pub w : ℕ → ℕ
+  pub top : ℕ → ℕ
+  pub rises : (k : ℕ) → k < 7 → top k ≤ top (suc k)
+  pub holds : (k root : ℕ) (more : List ℕ) → k < 7 → IsRootAt g (get_or vectors k 0) root → IsWalk g.edges root more
+      → top k + sum_along w (root ∷ more) ≤ top (suc k)
+  pub free : ℕ → Bool
+  pub is_free : (unit : ℕ) → root_number g unit ≡ 7 → free unit ≡ true
+  pub low : ℕ
+  pub high : ℕ
+  pub front : List Numbered
+  pub run : AreOneRun front low high
+  pub plain : Every (λ e. own_of g e ≡ None) front
+
+module _ (s : Scene) where
+  abbrev number : ℕ → ℕ
+  number unit = root_number s.g unit
+
+  -- a walk from the root above the unit to it, on which the units before it weigh at least `before`
+  record IsWalked (unit before : ℕ) : Type 0 where
+    root : ℕ
+    more : List ℕ
+    is_root : IsRootAt s.g (get_or vectors (number unit) 0) root
+    walk : IsWalk s.g.edges root more
+    ends : last_of root more ≡ unit
+    weighs : before + s.w unit ≤ total s.w (root ∷ more)
+
+  -- the units whose bytes lie below a segment of a unit: it itself, or all under no root
+  abbrev mine : ℕ → ℕ → Bool
+  mine unit = cond (nat_lt (number unit) 7) (nat_eq unit) s.free
+
+  abbrev pub sum : (ℕ → Bool) → List Numbered → ℕ
+  sum test es = total (placed_bytes s.g test) es
+
+  -- how high a segment of the unit ends
+  pub record IsHigh (done : List Numbered) (unit end : ℕ) : Type 0 where
+    before : ℕ
+    own : ℕ
+    walked : number unit < 7 → IsWalked unit before
+    bare : number unit ≡ 7 → before ≡ 0
+    few : own ≤ sum (mine unit) done
+    high : end ≤ s.low + s.top (number unit) + before + own
+
+  of_root : (unit : ℕ) (done : List Numbered) → number unit < 7 → sum (mine unit) done ≡ sum (nat_eq unit) done
+  of_root unit done below = rw (lt-ltb (number unit) 7 below)
+
+  of_none : (unit : ℕ) (done : List Numbered) → number unit ≡ 7 → sum (mine unit) done ≡ sum s.free done
+  of_none unit done end = rw (le-ltb (number unit) 7 (omega (arith, end)))
+
+  -- heights rise from root to root
+  tops_rise : (gap k : ℕ) → gap + k ≤ 7 → s.top k ≤ s.top (gap + k)
+  tops_rise zero k h = let same : zero + k ≡ k = omega arith in rw same (omega arith)
+  tops_rise (suc gap) k h =
+      let next : suc gap + k ≡ suc (gap + k) = omega arith in
+      rw next (omega (arith, tops_rise gap k (omega (arith, h)), s.rises (gap + k) (omega (arith, h))))
+
+  tops_to : (k n : ℕ) → k ≤ n → n ≤ 7 → s.top k ≤ s.top n
+  tops_to k n h few =
+      let whole : n - k + k ≡ n = omega (arith, h) in rw whole at (tops_rise (n - k) k (omega (arith, h, few)))
+
+  -- a walk to a unit that lies under a root
+  first_walk : (unit : ℕ) → number unit < 7 → IsWalked unit 0
+  first_walk unit below =
+      let lies = root_above s.g s.kept unit below in
+      elim lies.leads [
+        | inl same ↦ record {
+          root = lies.root;
+          more = [];
+          is_root = lies.is_root;
+          walk = tt;
+          ends = same;
+          weighs = omega (arith, ap s.w same);
+        }
+        | inr reach ↦ record {
+          root = lies.root;
+          more = reach.next ∷ reach.more;
+          is_root = lies.is_root;
+          walk = reach.walk;
+          ends = reach.ends;
+          weighs = omega (arith, last_weighs s.w reach.next reach.more, ap s.w reach.ends);
+        }
+      ]
+
+  -- the walk continues to a unit that is reached
+  walk_on : (u v before : ℕ) → number u ≡ number v → Reaches s.g.edges u v → IsWalked u before
+      → IsWalked v (before + s.w u)
+  walk_on u v before same reach h =
+      let later : List ℕ = reach.next ∷ reach.more in
+      record {
+        root = h.root;
+        more = h.more ++ later;
+        is_root = subst (λ k. IsRootAt s.g (get_or vectors k 0) h.root) same h.is_root;
+        walk = joined_walk s.g.edges h.root h.more later h.walk (rw h.ends reach.walk);
+        ends = joined_end h.root h.more later ∙ ap (λ (x : ℕ). last_of x later) h.ends ∙ reach.ends;
+        weighs = omega (
+          arith,
+          total-append s.w (h.root ∷ h.more) later,
+          h.weighs,
+          last_weighs s.w reach.next reach.more,
+          ap s.w reach.ends,
+        );
+      }
+
+  -- no segment of a unit under a root ends above the next root's height
+  under_next : (done : List Numbered) (unit end : ℕ) → number unit < 7 → sum (nat_eq unit) done ≤ s.w unit
+      → IsHigh done unit end → end ≤ s.low + s.top (suc (number unit))
+  under_next done unit end below most h =
+      let walk = h.walked below in
+      omega (
+        arith,
+        h.high,
+        h.few,
+        of_root unit done below,
+        most,
+        walk.weighs,
+        along_total s.w (walk.root ∷ walk.more),
+        s.holds (number unit) walk.root walk.more below walk.is_root walk.walk,
+      )
+
+  -- so none ends above all roots and the segments under none
+  pub under_all : (done : List Numbered) (unit end : ℕ) → sum (nat_eq unit) done ≤ s.w unit → IsHigh done unit end
+      → end ≤ s.low + s.top 7 + sum s.free done
+  under_all done unit end most h = elim (cases_lt (number unit) 7) [
+    | inl below ↦ omega (
+      arith,
+      under_next done unit end below most h,
+      tops_to (suc (number unit)) 7 below (omega arith),
+    )
+    | inr above ↦
+        let seven : number unit ≡ 7 = omega (arith, above, few_roots s.g s.kept unit) in
+        omega (arith, h.high, h.few, h.bare seven, of_none unit done seven, ap s.top seven)
+  ]
+
+  pub still_high : (done later : List Numbered) (unit end : ℕ) → IsHigh done unit end → IsHigh (done ++ later) unit end
+  still_high done later unit end h = record {
+    before = h.before;
+    own = h.own;
+    walked = h.walked;
+    bare = h.bare;
+    few = omega (arith, h.few, total-append (placed_bytes s.g (mine unit)) done later);
+    high = h.high;
+  }
+
+  -- with one more segment of the unit
+  module _ (done : List Numbered) (e : Numbered) (unit : ℕ) (own_is : own_of s.g e ≡ Some unit)
+      (data_is : is_data e.placed ≡ true) where
+    abbrev size : ℕ
+    size = e.placed.size
+
+    abbrev more : List Numbered
+    more = done ++ e ∷ []
+
+    mine_own : mine unit unit ≡ true
+    mine_own = elim (cases_lt (number unit) 7) [
+      | inl below ↦ rw (lt-ltb (number unit) 7 below) (eq-eqb unit unit refl)
+      | inr above ↦ rw (le-ltb (number unit) 7 above)
+          (s.is_free unit (omega (arith, above, few_roots s.g s.kept unit)))
+    ]
+
+    pushed : sum (mine unit) more ≡ sum (mine unit) done + size
+    pushed =
+        let here : placed_bytes s.g (mine unit) e ≡ size = rw (own_is, data_is, mine_own) in
+        omega (arith, total-append (placed_bytes s.g (mine unit)) done (e ∷ []), here)
+
+    -- where it begins no higher than the roots before its own
+    pub fresh : (base : ℕ) → base ≤ s.low + s.top (number unit) → IsHigh more unit (base + size)
+    fresh base h = record {
+      before = 0;
+      own = size;
+      walked = first_walk unit;
+      bare = λ _. refl;
+      few = omega (arith, pushed);
+      high = omega (arith, h);
+    }
+
+    on_same : (base : ℕ) → IsHigh done unit base → IsHigh more unit (base + size)
+    on_same base h = record {
+      before = h.before;
+      own = h.own + size;
+      walked = h.walked;
+      bare = h.bare;
+      few = omega (arith, pushed, h.few);
+      high = omega (arith, h.high);
+    }
+
+    on_free : (base u : ℕ) → number u ≡ 7 → number unit ≡ 7 → IsHigh done u base → IsHigh more unit (base + size)
+    on_free base u end end' h = record {
+      before = 0;
+      own = h.own + size;
+      walked = λ below. absurd (omega (arith, below, end'));
+      bare = λ _. refl;
+      few = omega (arith, pushed, h.few, of_none u done end, of_none unit done end');
+      high = omega (arith, h.high, h.bare end, ap s.top end, ap s.top end');
+    }
+
+    on_caller : (base u : ℕ) → number u ≡ number unit → Reaches s.g.edges u unit → sum (nat_eq u) done ≤ s.w u
+        → IsHigh done u base → IsHigh more unit (base + size)
+    on_caller base u same reach most h = elim (cases_lt (number u) 7) [
+      | inl below ↦ record {
+        before = h.before + s.w u;
+        own = size;
+        walked = λ _. walk_on u unit h.before same reach (h.walked below);
+        bare = λ end. absurd (omega (arith, below, same, end));
+        few = omega (arith, pushed);
+        high = omega (arith, h.high, h.few, of_root u done below, most, ap s.top same);
+      }
+      | inr above ↦
+          let seven : number u ≡ 7 = omega (arith, above, few_roots s.g s.kept u) in
+          on_free base u seven (sym same ∙ seven) h
+    ]
+
+    -- where it begins at the end of an earlier one in conflict
+    pub on_top : (base u : ℕ) → sum (nat_eq u) done ≤ s.w u → Precedes s.g u unit → IsHigh done u base
+        → IsHigh more unit (base + size)
+    on_top base u most (EarlierRoot less) h =
+        let few = few_roots s.g s.kept unit in
+        fresh base (omega (
+          arith,
+          under_next done u base (omega (arith, less, few)) most h,
+          tops_to (suc (number u)) (number unit) less few,
+        ))
+    on_top base u most (SameUnit same) h = on_same base (rw same at h)
+    on_top base u most (Leads same reach) h = on_caller base u same reach most h
+    on_top base u most (UnderNone end end') h = on_free base u end end' h
+
+-- Overlaid DATA in its order, each segment on the run or on earlier ones: none ends too high, and each has a base where
+-- the run is long enough.
 
 -- an extent that is not overlaid is in conflict with each overlaid segment
 against_none : (g : GraphParts) (number unit : ℕ) (other : Option ℕ) → own_at g number ≡ Some unit
@@ -38,302 +367,316 @@ against_none : (g : GraphParts) (number unit : ℕ) (other : Option ℕ) → own
     → option_map_or (λ n. in_conflict g n number) other true ≡ true
 against_none g number unit None own plain = refl
 against_none g number unit (Some n) own plain =
-    let differ : nat_eq n number ≡ false =
-    other_number n number (λ same. none-some unit (sym plain ∙ ap (own_at g) same ∙ own)) in
-    let none : owners_at g n ≡ [] = ap (λ (o : Option ℕ). owners_with g (is_argument_at g n) o) plain in
-    ap (λ (b : Bool). not b && are_owners_related g (owners_at g n) (owners_at g number)) differ
-    ∙ ap (λ (us : List ℕ). are_owners_related g us (owners_at g number)) none
+    rw (ne_eqb n number (λ same. cc (own, plain, ap (own_at g) same)), plain)
 
 pub against_plain : (g : GraphParts) (number unit : ℕ) (e : Numbered) → IsOwn g unit number → own_of g e ≡ None
     → in_conflict_with g number e ≡ true
 against_plain g number unit e own plain = against_none g number unit e.number (own_read g number unit own) plain
 
--- a ranked segment is plain, or overlaid DATA
-pub data IsEither (g : GraphParts) (t : Ranked) : Type 0 where
-  OnePlain : own_at g t.number ≡ None → (group_number t.rank.group ≡ 2 → ⊥) → IsEither g t
-  OneLocal : (unit : ℕ) → IsLocalData g t unit → (IsArgument g t.number → ⊥) → IsEither g t
+-- the highest end of those in conflict, or the low end of the run
+record IsPeak (g : GraphParts) (done : List Numbered) (t : Ranked) (low : ℕ) (xs : List Numbered)
+    (base : ℕ) : Type 0 where
+  seat : IsSeated g done t low base
+  above : low ≤ base
+  clears : Every (λ e. in_conflict_with g t.number e ≡ true → 0 < e.placed.size → e.placed.base + e.placed.size ≤
+      base) xs
 
--- the numbers of the groups and the classes of three in their order
-squeezed : (class group : ℕ) (first second : Bool) → before_by 2 class (before_by 2 group first) ≡ true
-    → before_by class 2 (before_by group 2 second) ≡ true → group ≡ 2
-squeezed class group first second h k =
-    let a = numbers_rise 2 class 2 group first h in
-    let b = numbers_rise class 2 group 2 second k in
-    let same : 2 ≡ class = omega (arith, a.roots, b.roots) in
-    omega (arith, a.levels same, b.levels (sym same))
+module _ (g : GraphParts) (done : List Numbered) (t : Ranked) (low : ℕ) where
+  abbrev Clears : ℕ → Numbered → Type 0
+  Clears base e = in_conflict_with g t.number e ≡ true → 0 < e.placed.size → e.placed.base + e.placed.size ≤ base
 
--- between two overlaid segments of DATA there is no plain one
-between : (g : GraphParts) (t u v : Ranked) (unit other : ℕ) → IsLocalData g t unit → IsLocalData g v other
-    → Earlier t u → Earlier u v → group_number u.rank.group ≡ 2
-between g t u v unit other a b h k =
-    let rest : Bool = nat_lt t.rank.number u.rank.number in
-    let rest' : Bool = nat_lt u.rank.number v.rank.number in
-    let first =
-    subst (λ (c : Option Class). before_by (class_number c) (class_number u.rank.class)
-    (group_before t.rank.group u.rank.group rest) ≡ true) a.class h in
-    let second =
-    subst (λ (x : Group). before_by 2 (class_number u.rank.class) (group_before x u.rank.group rest) ≡ true)
-    a.group first in
-    let third =
-    subst (λ (c : Option Class). before_by (class_number u.rank.class) (class_number c)
-    (group_before u.rank.group v.rank.group rest') ≡ true) b.class k in
-    let fourth =
-    subst (λ (x : Group). before_by (class_number u.rank.class) 2 (group_before u.rank.group x rest') ≡ true)
-    b.group third in
-    squeezed (class_number u.rank.class) (group_number u.rank.group) _ _ second fourth
+  keeps : (x : Numbered) (xs : List Numbered) (base : ℕ) → Clears base x → IsPeak g done t low xs base
+      → IsPeak g done t low (x ∷ xs) base
+  keeps x xs base first h = record { seat = h.seat; above = h.above; clears = (first, h.clears) }
 
-abbrev pub IsPlain : GraphParts → Ranked → Type 0
-IsPlain g t = own_at g t.number ≡ None
+  peak : (xs : List Numbered) → Every (λ e. In e done) xs → (base : ℕ) × IsPeak g done t low xs base
+  peak [] inside = (low, record { seat = AtLow refl; above = omega arith; clears = tt })
+  peak (x ∷ xs) inside =
+      let rest = peak xs inside.1 in
+      let end : ℕ = x.placed.base + x.placed.size in
+      elim (cases_Bool (in_conflict_with g t.number x)) [
+        | inr apart ↦ (rest.0, keeps x xs rest.0 (λ is _. absurd (false≢true (sym apart ∙ is))) rest.1)
+        | inl conflict ↦ elim (cases_lt 0 x.placed.size) [
+          | inr none ↦ (rest.0, keeps x xs rest.0 (λ _ some. absurd (omega (arith, none, some))) rest.1)
+          | inl some ↦ elim (cases_lt rest.0 end) [
+            | inr below ↦ (rest.0, keeps x xs rest.0 (λ _ _. below) rest.1)
+            | inl higher ↦ (
+              end,
+              record {
+                seat = OnTop x inside.0 conflict some refl;
+                above = omega (arith, rest.1.above, higher);
+                clears = (
+                  λ _ _. omega arith,
+                  every_weaker (Clears rest.0) (Clears end) xs
+                      (λ e h is some. let low_end = h is some in omega (arith, low_end, higher)) rest.1.clears,
+                );
+              },
+            )
+          ]
+        ]
+      ]
 
--- plain segments that are placed
-pub record Adds (g : GraphParts) (earlier located : List Numbered) : Type 0 where
-  pub later : List Numbered
-  pub are : located ≡ earlier ++ later
-  pub plain : All (λ (e : Numbered). own_of g e ≡ None) later
-
-pub adds_plain : (g : GraphParts) (order : List Ranked) (earlier located : List Numbered) → All (IsPlain g) order
-    → place_after g earlier order ≡ Ok located → Adds g earlier located
-adds_plain g [] earlier located lone h =
-    let same : earlier ≡ located = cc h in
-    record {
-      later = [];
-      are = sym same ∙ sym (append-nil earlier);
-      plain =
-          All-nil (λ (e : Numbered). own_of g e ≡ None);
-    }
-adds_plain g (t ∷ more) earlier located lone h =
-    let next = place_step g earlier t more located (base_for g earlier t) refl h in
-    let e : Numbered = located_at t next.0 in
-    let rest = adds_plain g more (earlier ++ e ∷ []) located (All-tail (IsPlain g) t more lone) next.2 in
-    record {
-      later = e ∷ rest.later;
-      are = rest.are ∙ append_assoc earlier (e ∷ []) rest.later;
-      plain = All-cons (λ (x : Numbered). own_of g x ≡ None) e rest.later (All-head (IsPlain g) t more lone) rest.plain;
-    }
-
--- after an overlaid segment and a plain one all are plain
-pub lone_after : (g : GraphParts) (t u : Ranked) (unit : ℕ) → IsLocalData g t unit → Earlier t u
-    → (group_number u.rank.group ≡ 2 → ⊥) → (more : List Ranked) → All (Earlier u) more → All (IsEither g) more
-    → All (IsPlain g) more
-lone_after g t u unit local h other [] rising either = All-nil (IsPlain g)
-lone_after g t u unit local h other (v ∷ more) rising either =
-    let here : IsPlain g v = elim (All-head (IsEither g) v more either) as (λ _. IsPlain g v) [
-      | OnePlain lone group ↦ lone
-      | OneLocal unit' local' no_argument ↦ absurd
-          (other (between g t u v unit unit' local local' h (All-head (Earlier u) v more rising)))
-    ] in
-    All-cons (IsPlain g) v more here
-    (lone_after g t u unit local h other more (All-tail (Earlier u) v more rising)
-    (All-tail (IsEither g) v more either))
-
-module _ (g : GraphParts) (kept : IsGraph g) (w : ℕ → ℕ) (low high : ℕ) (top : ℕ → ℕ) (free : ℕ → Bool)
-    (rises : (k : ℕ) → k < 7 → top k ≤ top (suc k))
-    (holds : (k root : ℕ) (more : List ℕ) → k < 7 → IsRootAt g (get_or vectors k 0) root → IsWalk g.edges root more
-    → top k + sum_along w (root ∷ more) ≤ top (suc k))
-    (is_free : (unit : ℕ) → root_number g unit ≡ 7 → free unit ≡ true)
-    (front : List Numbered) (run : AreOneRun front low high)
-    (plain : (e : Numbered) → Contains front e → own_of g e ≡ None) where
-  abbrev pub Ends : List Numbered → ℕ → ℕ → Type 0
-  Ends done unit end = IsHigh g w low top free rises holds (root_above g kept) (few_roots g kept) is_free done unit end
-
+module _ (s : Scene) where
   -- an overlaid segment that is placed
   pub record IsLaid (done : List Numbered) (next : List Ranked) (e : Numbered) : Type 0 where
     pub t : Ranked
-    pub unit : ℕ
-    pub local : IsLocalData g t unit
-    pub no_argument : IsArgument g t.number → ⊥
+    pub one : IsLocalOne s.g t
     pub base : ℕ
     pub is : e ≡ located_at t base
-    pub before : All (Earlier t) next
-    pub from : 0 < t.segment.size → low ≤ base
-    pub till : 0 < t.segment.size → base + t.segment.size ≤ high
-    pub ends : 0 < t.segment.size → Ends done unit (base + t.segment.size)
+    pub before : Every (Earlier t) next
+    pub from : 0 < t.segment.size → s.low ≤ base
+    pub till : 0 < t.segment.size → base + t.segment.size ≤ s.high
+    pub ends : 0 < t.segment.size → IsHigh s done one.unit (base + t.segment.size)
 
-  kind_is : (done : List Numbered) (next : List Ranked) (e : Numbered) → IsLaid done next e → e.placed.kind ≡ Direct
-  kind_is done next e h = ap (λ (x : Numbered). x.placed.kind) h.is ∙ h.local.kind
+  -- the bytes of overlaid segments that are placed, and of those to come
+  pub record HasRoom (done : List Numbered) (next : List Ranked) (unrooted : ℕ) : Type 0 where
+    pub units : (u : ℕ) → sum s (nat_eq u) done + total (ranked_bytes s.g (nat_eq u)) next ≤ s.w u
+    pub others : sum s s.free done + total (ranked_bytes s.g s.free) next ≤ unrooted
 
-  module _ (done : List Numbered) (t : Ranked) (next : List Ranked) (unit base : ℕ) (local : IsLocalData g t unit)
-      (no_argument : IsArgument g t.number → ⊥)
-      (laid : All (IsLaid done (t ∷ next)) done) (most : (u : ℕ) → sum_by (unit_bytes g u) done ≤ w u) where
-    abbrev pub e : Numbered
-    e = located_at t base
+  -- one more segment
+  module _ (done : List Numbered) (t : Ranked) (next : List Ranked) (unrooted : ℕ) (one : IsLocalOne s.g t)
+      (before : Every (Earlier t) next) (laid : Every (IsLaid done (t ∷ next)) done)
+      (has : HasRoom done (t ∷ next) unrooted) where
+    abbrev len : ℕ
+    len = t.segment.size
 
-    own_is : own_of g e ≡ Some unit
-    own_is = own_read g t.number unit local.own
+    against : Every (λ e. in_conflict_with s.g t.number e ≡ true) s.front
+    against = every_weaker _ _ s.front (λ e. against_plain s.g t.number one.unit e one.local.own) s.plain
 
-    pub laid_at : (x : Numbered) → Contains done x → IsLaid done (t ∷ next) x
-    laid_at x there = All-contains (IsLaid done (t ∷ next)) done x laid there
+    direct : Every (λ e. e.placed.kind ≡ Direct) done
+    direct = every_weaker _ _ done
+        (λ e h. ap (λ (x : Numbered). x.placed.kind) h.is ∙ h.one.local.kind) laid
 
-    pub conflicts : (x : Numbered) → Contains front x → in_conflict_with g t.number x ≡ true
-    conflicts x there = against_plain g t.number unit x local.own (plain x there)
+    ends_at : (base : ℕ) → IsSeated s.g done t s.low base → IsHigh s (done ++ located_at t base ∷ []) one.unit
+        (base + len)
+    ends_at base seat =
+        let e : Numbered = located_at t base in
+        let own = own_read s.g t.number one.unit one.local.own in
+        let data_is : is_data e.placed ≡ true = rw (one.local.kind, one.local.reloc, one.own_is) in
+        elim seat [
+          | AtLow same ↦ fresh s done e one.unit own data_is base (omega (arith, same))
+          | OnTop x there conflict some end ↦
+              let below = every_in _ done x laid there in
+              let size_is = ap (λ (y : Numbered). y.placed.size) below.is in
+              let end_is : below.base + below.t.segment.size ≡ base =
+              omega (arith, ap (λ (y : Numbered). y.placed.base + y.placed.size) below.is, end) in
+              on_top s done e one.unit own data_is base below.one.unit (omega (arith, has.units below.one.unit))
+              (precedes s.g s.kept below.t t below.one one below.before.0 (rw below.is at conflict))
+              (rw end_is at (below.ends (omega (arith, size_is, some))))
+        ]
 
-    pub data_only : (x : Numbered) → Contains done x → x.placed.kind ≡ Direct
-    data_only x there = kind_is done (t ∷ next) x (laid_at x there)
-
-    pub ends_at : IsSeated g done t low base → Ends (done ++ e ∷ []) unit (base + t.segment.size)
-    ends_at seat = elim seat as (λ _. Ends (done ++ e ∷ []) unit (base + t.segment.size)) [
-      | AtLow same ↦ fresh g w low top free rises holds (root_above g kept)
-          (few_roots g kept) is_free done e unit own_is base (omega (arith, same))
-      | OnTop x there conflict size_some end ↦
-          let below = laid_at x there in
-          let size_is : x.placed.size ≡ below.t.segment.size = ap (λ (y : Numbered). y.placed.size) below.is in
-          let end_is : below.base + below.t.segment.size ≡ base =
-          omega (arith, ap (λ (y : Numbered). y.placed.base + y.placed.size) below.is, end) in
-          let meets : in_conflict g below.t.number t.number ≡ true =
-          sym (ap (λ (y : Numbered). in_conflict_with g t.number y) below.is) ∙ conflict in
-          let earlier : Earlier below.t t = All-head (Earlier below.t) t next below.before in
-          on_top g w low top free rises holds (root_above g kept)
-          (few_roots g kept) is_free done e unit own_is base below.unit (most below.unit)
-          (precedes g kept below.t t below.unit unit below.local local below.no_argument no_argument earlier meets)
-          (subst (λ n. Ends done below.unit n) end_is (below.ends (omega (arith, size_is, size_some))))
-    ]
-
-    laid_here : base_for g (front ++ done) t ≡ Some base → All (Earlier t) next → IsLaid (done ++ e ∷ []) next e
-    laid_here is before = record {
-      t = t;
-      unit = unit;
-      local = local;
-      no_argument = no_argument;
-      base = base;
-      is = refl;
-      before = before;
-      from = λ some. not_below g front done t low high base run conflicts data_only local.kind local.reloc some is;
-      till = λ some. not_past g front done t low high base run conflicts data_only local.kind local.reloc some is;
-      ends = λ some. ends_at
-          (seated g front done t low high base run conflicts data_only local.kind local.reloc some is);
+    room_after : (base : ℕ) → HasRoom (done ++ located_at t base ∷ []) next unrooted
+    room_after base = record {
+      units = λ u. omega
+          (arith, has.units u, total-append (placed_bytes s.g (nat_eq u)) done (located_at t base ∷ []));
+      others = omega (arith, has.others, total-append (placed_bytes s.g s.free) done (located_at t base ∷ []));
     }
 
-    laid_on : (x : Numbered) → IsLaid done (t ∷ next) x → IsLaid (done ++ e ∷ []) next x
-    laid_on x h = record {
-      t = h.t;
-      unit = h.unit;
-      local = h.local;
-      no_argument = h.no_argument;
-      base = h.base;
-      is = h.is;
-      before = All-tail (Earlier h.t) t next h.before;
-      from = h.from;
-      till = h.till;
-      ends = λ some. still_high g w low top free rises holds (root_above g kept) (few_roots g kept) is_free done
-          (e ∷ []) h.unit (h.base + h.t.segment.size) (h.ends some);
-    }
-
-    pub all_laid : base_for g (front ++ done) t ≡ Some base → All (Earlier t) next
-        → All (IsLaid (done ++ e ∷ []) next) (done ++ e ∷ [])
-    all_laid is before =
-        All-append (IsLaid (done ++ e ∷ []) next) done (e ∷ [])
-        (All-weaker (IsLaid done (t ∷ next)) (IsLaid (done ++ e ∷ []) next) laid_on done laid)
-        (All-cons (IsLaid (done ++ e ∷ []) next) e [] (laid_here is before) (All-nil (IsLaid (done ++ e ∷ []) next)))
-
-  -- all of an order, with room for the bytes of each unit
-  module _ (located : List Numbered) (total : (unit : ℕ) → sum_by (unit_bytes g unit) located ≤ w unit) where
-    -- the bytes of a unit that are placed are at most its weight
-    unit_most : (done : List Numbered) (next : List Ranked) → place_after g (front ++ done) next ≡ Ok located
-        → (unit : ℕ) → sum_by (unit_bytes g unit) done ≤ w unit
-    unit_most done next h unit =
-        let whole = extends g next (front ++ done) located h in
-        let f : Numbered → ℕ = unit_bytes g unit in
-        omega (
-          arith,
-          total unit,
-          ap (sum_by f) whole.are,
-          sum_by-append f (front ++ done) whole.later,
-          sum_by-append f front done,
+    laid_after : (base : ℕ) → base_for s.g (s.front ++ done) t ≡ Some base
+        → Every (IsLaid (done ++ located_at t base ∷ []) next) (done ++ located_at t base ∷ [])
+    laid_after base is =
+        let e : Numbered = located_at t base in
+        let on = λ (some : 0 < len). seated s.g s.front done t s.low s.high base s.run against direct one.local.kind
+        one.local.reloc some is in
+        every_append (IsLaid (done ++ e ∷ []) next) done (e ∷ [])
+        (every_weaker (IsLaid done (t ∷ next)) _ done (λ x h. record {
+          t = h.t;
+          one = h.one;
+          base = h.base;
+          is = h.is;
+          before = h.before.1;
+          from = h.from;
+          till = h.till;
+          ends = λ some. still_high s done (e ∷ []) h.one.unit _ (h.ends some);
+        }) laid) (
+          record {
+            t = t;
+            one = one;
+            base = base;
+            is = refl;
+            before = before;
+            from = λ some. not_below s.g s.front done t s.low s.high base s.run against direct one.local.kind
+                one.local.reloc some is;
+            till = λ some. not_past s.g s.front done t s.low s.high base s.run against direct one.local.kind
+                one.local.reloc some is;
+            ends = λ some. ends_at base (on some);
+          },
+          tt,
         )
 
-    -- what is placed in the end: the extents before the overlaid segments, these, and then plain ones
-    pub record ArePiled : Type 0 where
-      pub done : List Numbered
-      pub others : List Numbered
-      pub are : located ≡ (front ++ done) ++ others
-      pub laid : All (IsLaid done []) done
-      pub plain_others : All (λ (e : Numbered). own_of g e ≡ None) others
-
-    settled : (done : List Numbered) (next : List Ranked) (e : Numbered) → IsLaid done next e → IsLaid done [] e
-    settled done next e h = record {
-      t = h.t;
-      unit = h.unit;
-      local = h.local;
-      no_argument = h.no_argument;
-      base = h.base;
-      is = h.is;
-      before = All-nil (Earlier h.t);
-      from = h.from;
-      till = h.till;
-      ends = h.ends;
+    free_at_base : (base : ℕ) → base + len ≤ 0x80
+        → ((e : Numbered) → In e (s.front ++ done) → in_conflict_with s.g t.number e ≡ true
+        → IsOut base len e.placed)
+        → IsFree (conflicting s.g t.number (s.front ++ done)) t.segment.kind t.segment.reloc len base
+    free_at_base base h out = record {
+      fits =
+          let fits : Fits Direct UnitType base len = h in
+          rw (one.local.kind, one.local.reloc) fits;
+      apart = every_all _ _ (every_of (IsApart (extent_of t.segment.kind base len)) _ (λ p there.
+          let image = in_map (λ (e : Numbered). e.placed) _ p there in
+          let passes = in_filter (in_conflict_with s.g t.number) (s.front ++ done) image.0 image.1 in
+          rw (← image.2) (out_apart t.segment.kind base len image.0.placed one.local.kind
+          (out image.0 passes.0 passes.1))));
     }
 
-    abbrev Open : List Numbered → List Ranked → Type 0
-    Open done next = place_after g (front ++ done) next ≡ Ok located
+    -- an extent placed before the overlaid segments covers no byte of the run
+    front_out : (base : ℕ) → s.low ≤ base → base + len ≤ s.high → (e : Numbered) → In e s.front
+        → IsOut base len e.placed
+    front_out base above ends e there at from below =
+        let byte : ℕ = at / 8 in
+        let lower : 8 * byte ≤ at = omega arith in
+        let upper : at < 8 * (byte + 1) = omega arith in
+        let till : byte < s.high = omega (arith, lower, below, ends) in
+        let clear = (s.run.are byte (omega (arith, till, s.run.most))).1 (omega (arith, above, from, upper), till) in
+        every_in _ s.front e (open_out s.front byte clear) there at lower upper
 
-    -- one more segment, and then the rest
-    step : (t : Ranked) (more : List Ranked) (done : List Numbered) (unit : ℕ) → IsLocalData g t unit
-        → (IsArgument g t.number → ⊥) → AllPairs Earlier (t ∷ more) → All (IsLaid done (t ∷ more)) done
-        → Open done (t ∷ more)
-        → ((e : Numbered) → All (IsLaid (done ++ e ∷ []) more) (done ++ e ∷ []) → Open (done ++ e ∷ []) more → ArePiled)
-        → ArePiled
-    step t more done unit local no_argument rising laid h after =
-        let next = place_step g (front ++ done) t more located (base_for g (front ++ done) t) refl h in
-        let e : Numbered = located_at t next.0 in
-        after e (all_laid done t more unit next.0 local no_argument laid (unit_most done (t ∷ more) h) next.1
-        (head_pairs t more rising))
-        (subst (λ (es : List Numbered). place_after g es more ≡ Ok located) (append_assoc front done (e ∷ [])) next.2)
+    -- nor does an earlier segment in conflict that ends below
+    done_out : (base : ℕ) (e : Numbered) → In e done → (0 < e.placed.size → e.placed.base + e.placed.size ≤ base)
+        → IsOut base len e.placed
+    done_out base e there ends at from below covers =
+        let kind = every_in _ done e direct there in
+        let of = subst (λ k. Covers (extent_of k e.placed.base e.placed.size) (ram at)) kind covers in
+        let lower : 8 * e.placed.base ≤ at = of.from in
+        let upper : at < 8 * e.placed.base + 8 * e.placed.size = of.below in
+        let end = ends (omega (arith, lower, upper)) in
+        omega (arith, upper, from, end)
 
-    -- after the first overlaid segment
-    piled : (next : List Ranked) (done : List Numbered) (first : Ranked) (unit : ℕ) → IsLocalData g first unit
-        → All (Earlier first) next → All (IsEither g) next → AllPairs Earlier next
-        → All (IsLaid done next) done → Open done next → ArePiled
-    piled [] done first unit local before either rising laid h =
-        let same : front ++ done ≡ located = cc h in
-        record {
-          done = done;
-          others = [];
-          are = sym same ∙ sym (append-nil (front ++ done));
-          laid =
-              laid;
-          plain_others = All-nil (λ (e : Numbered). own_of g e ≡ None);
-        }
-    piled (t ∷ more) done first unit local before either rising laid h =
-        elim (All-head (IsEither g) t more either) as (λ _. ArePiled) [
-          | OneLocal unit' local' no_argument ↦
-              step t more done unit' local' no_argument rising laid h
-              (λ e laid' h'. piled more (done ++ e ∷ []) first unit local (All-tail (Earlier first) t more before)
-              (All-tail (IsEither g) t more either) (tail_pairs t more rising) laid' h')
-          | OnePlain lone group ↦
-              let later = head_pairs t more rising in
-              let all = All-cons (IsPlain g) t more lone
-              (lone_after g first t unit local (All-head (Earlier first) t more before) group more later
-              (All-tail (IsEither g) t more either)) in
-              let added = adds_plain g (t ∷ more) (front ++ done) located all h in
-              record {
-                done = done;
-                others = added.later;
-                are = added.are;
-                laid = All-weaker (IsLaid done (t ∷ more)) (IsLaid done []) (settled done (t ∷ more)) done laid;
-                plain_others = added.plain;
-              }
-        ]
+    -- there is a base where the run is long enough
+    some_base : s.low + s.top 7 + unrooted ≤ s.high → (base : ℕ)
+        × IsFree (conflicting s.g t.number (s.front ++ done)) t.segment.kind t.segment.reloc len base
+    some_base room = elim (cases_lt 0 len) [
+      | inr none ↦ (
+        0,
+        free_at_base 0 (omega (arith, none)) (λ e there conflict at from below covers. omega (arith, none, below)),
+      )
+      | inl some ↦
+          let h = peak s.g done t s.low done (every_of _ done (λ e there. there)) in
+          let after = room_after h.0 in
+          let high = under_all s (done ++ located_at t h.0 ∷ []) one.unit (h.0 + len)
+          (omega (arith, after.units one.unit)) (ends_at h.0 h.1.seat) in
+          let ends : h.0 + len ≤ s.high = omega (arith, high, after.others, room) in (
+            h.0,
+            free_at_base h.0 (omega (arith, ends, s.run.most))
+                (λ e there conflict. elim (in_cases s.front done e there) [
+                  | inl in_front ↦ front_out h.0 h.1.above ends e in_front
+                  | inr in_done ↦ done_out h.0 e in_done (every_in _ done e h.1.clears in_done conflict)
+                ]),
+          )
+    ]
 
-    -- from the first overlaid segment on
-    pub piled_from : (next : List Ranked) → ((t : Ranked) (more : List Ranked) → next ≡ t ∷ more → IsPlain g t → ⊥)
-        → All (IsEither g) next → AllPairs Earlier next → place_after g front next ≡ Ok located → ArePiled
-    piled_from [] first either rising h =
-        let same : front ≡ located = cc h in
-        record {
-          done = [];
-          others = [];
-          are = sym same ∙ sym (append-nil front)
-              ∙ sym (append-nil (front ++ []));
-          laid = All-nil (IsLaid [] []);
-          plain_others =
-              All-nil (λ (e : Numbered). own_of g e ≡ None);
-        }
-    piled_from (t ∷ more) first either rising h =
-        elim (All-head (IsEither g) t more either) as (λ _. ArePiled) [
-          | OnePlain lone group ↦ absurd (first t more refl lone)
-          | OneLocal unit local no_argument ↦
-              step t more [] unit local no_argument rising (All-nil (IsLaid [] (t ∷ more)))
-              (subst (λ (es : List Numbered). place_after g es (t ∷ more) ≡ Ok located) (sym (append-nil front)) h)
-              (λ e laid h'. piled more ([] ++ e ∷ []) t unit local (head_pairs t more rising)
-              (All-tail (IsEither g) t more either) (tail_pairs t more rising) laid h')
-        ]
+    no_base : base_for s.g (s.front ++ done) t ≡ None → s.high < s.low + s.top 7 + unrooted
+    no_base none = elim (cases_lt s.high (s.low + s.top 7 + unrooted)) [
+      | inl less ↦ less
+      | inr room ↦
+          let j = t.segment in
+          let free = some_base room in
+          let lacks = rw none at
+          (least_is_least (conflicting s.g t.number (s.front ++ done)) j.kind j.reloc j.size) in
+          absurd (lacks free.0 free.1)
+    ]
+
+  -- What placing overlaid segments answers: all are laid, or the run is too short.
+  pub record AreLaid (unrooted : ℕ) (located : List Numbered) : Type 0 where
+    pub done : List Numbered
+    pub are : located ≡ s.front ++ done
+    pub laid : Every (IsLaid done []) done
+    pub room : HasRoom done [] unrooted
+
+  abbrev pub Piles : ℕ → Answer → Type 0
+  Piles unrooted (Ok located) = AreLaid unrooted located
+  Piles unrooted (Err refusal) = s.high < s.low + s.top 7 + unrooted
+
+  piled_by : (t : Ranked) (more : List Ranked) (done : List Numbered) (unrooted : ℕ) (found : Option ℕ)
+      → base_for s.g (s.front ++ done) t ≡ found
+      → (base_for s.g (s.front ++ done) t ≡ None → s.high < s.low + s.top 7 + unrooted)
+      → ((base : ℕ) → base_for s.g (s.front ++ done) t ≡ Some base
+      → Piles unrooted (place_after s.g (s.front ++ (done ++ located_at t base ∷ [])) more))
+      → Piles unrooted (option_map_or (λ base. place_after s.g ((s.front ++ done) ++ located_at t base ∷ []) more) found
+      (Err (L12 t.segment.title)))
+  piled_by t more done unrooted None is short long = short is
+  piled_by t more done unrooted (Some base) is short long = rw append_assoc (long base is)
+
+  piled : (next : List Ranked) (done : List Numbered) (unrooted : ℕ) → Every (IsLocalOne s.g) next → Pairs Earlier next
+      → Every (IsLaid done next) done → HasRoom done next unrooted
+      → Piles unrooted (place_after s.g (s.front ++ done) next)
+  piled [] done unrooted ones rising laid has =
+      record { done = done; are = refl; laid = laid; room = has }
+  piled (t ∷ more) done unrooted ones rising laid has =
+      piled_by t more done unrooted (base_for s.g (s.front ++ done) t) refl
+      (no_base done t more unrooted ones.0 rising.0 laid has)
+      (λ base is. piled more (done ++ located_at t base ∷ []) unrooted ones.1 rising.1
+      (laid_after done t more unrooted ones.0 rising.0 laid has base is)
+      (room_after done t more unrooted ones.0 rising.0 laid has base))
+
+  pub piles : (next : List Ranked) (unrooted : ℕ) → Every (IsLocalOne s.g) next → Pairs Earlier next
+      → ((u : ℕ) → total (ranked_bytes s.g (nat_eq u)) next ≤ s.w u)
+      → total (ranked_bytes s.g s.free) next ≤ unrooted → Piles unrooted (place_after s.g s.front next)
+  piles next unrooted ones rising units others =
+      rw append-nil at (piled next [] unrooted ones rising tt
+      (record { units = λ u. omega (arith, units u); others = omega (arith, others) }))
+
+-- How high the segments of each root may reach: by the heaviest walks of the roots before it and its own.
+
+-- a height for each root: from one to the next there is room for each walk of the root
+pub record AreTops (p : ProgramGraph) (w : ℕ → ℕ) (at : List ℕ) (sum : ℕ) : Type 0 where
+  pub top : ℕ → ℕ
+  pub start : top 0 ≡ 0
+  pub rises : (k : ℕ) → k < length at → top k ≤ top (suc k)
+  pub holds : (k root : ℕ) (more : List ℕ) → k < length at → p.IsRoot (get_or at k 0) root → IsWalk p.edges root more
+      → top k + sum_along w (root ∷ more) ≤ top (suc k)
+  pub last : top (length at) ≡ sum
+
+-- the heights of the first root, and then those of the others above it
+abbrev above : ℕ → (ℕ → ℕ) → ℕ → ℕ
+above first tops zero = 0
+above first tops (suc k) = first + tops k
+
+-- each vector has at most one root
+module _ (p : ProgramGraph) (w : ℕ → ℕ) (one_root : (v a b : ℕ) → p.IsRoot v a → p.IsRoot v b → a ≡ b) where
+  joined : (v : ℕ) (more : List ℕ) (first sum : ℕ)
+      → ((root : ℕ) (walk : List ℕ) → p.IsRoot v root → IsWalk p.edges root walk → sum_along w (root ∷ walk) ≤ first)
+      → AreTops p w more sum → AreTops p w (v ∷ more) (first + sum)
+  joined v more first sum fits rest = record {
+    top = above first rest.top;
+    start = refl;
+    rises = rises;
+    holds = holds;
+    last = omega (arith, rest.last);
+  } where
+    rises : (k : ℕ) → k < length (v ∷ more) → above first rest.top k ≤ above first rest.top (suc k)
+    rises zero below = omega arith
+    rises (suc k) below = omega (arith, rest.rises k (omega (arith, below)))
+
+    holds : (k root : ℕ) (walk : List ℕ) → k < length (v ∷ more) → p.IsRoot (get_or (v ∷ more) k 0) root
+        → IsWalk p.edges root walk
+        → above first rest.top k + sum_along w (root ∷ walk) ≤ above first rest.top (suc k)
+    holds zero root walk below is_root is_walk = omega (arith, fits root walk is_root is_walk, rest.start)
+    holds (suc k) root walk below is_root is_walk =
+        omega (arith, rest.holds k root walk (omega (arith, below)) is_root is_walk)
+
+  -- a heaviest chain is as heavy as any walk of its root
+  as_heavy : (v : ℕ) (c : Chain) → p.IsRoot v c.root → IsHeaviestWalk p.edges w c → (root : ℕ) (walk : List ℕ)
+      → p.IsRoot v root → IsWalk p.edges root walk → sum_along w (root ∷ walk) ≤ c.bytes
+  as_heavy v c is_root heavy root walk other is_walk =
+      let same : root ≡ c.root = one_root v root c.root other is_root in
+      let most = heavy.most walk (subst (λ r. IsWalk p.edges r walk) same is_walk) in
+      rw same (elim most [ inl less ↦ omega (arith, less) | inr weight ↦ omega (arith, weight.0) ])
+
+  pub tops : (at : List ℕ) (chains : List Chain) → ChainsFrom p w at chains
+      → AreTops p w at (total (λ (c : Chain). c.bytes) chains)
+  tops [] [] h = record {
+    top = λ k. 0;
+    start = refl;
+    rises = λ k below. omega arith;
+    holds = λ k root more below. absurd (omega (arith, below));
+    last = refl;
+  }
+  tops [] (c ∷ chains) h = absurd h
+  tops (v ∷ more) [] h = joined v more 0 0 (λ root walk is_root. absurd (h.0 root is_root)) (tops more [] h.1)
+  tops (v ∷ more) (c ∷ chains) (inl h) =
+      let sum : ℕ = total (λ (x : Chain). x.bytes) (c ∷ chains) in
+      let none : 0 + sum ≡ sum = omega arith in
+      subst (AreTops p w (v ∷ more)) none
+      (joined v more 0 sum (λ root walk is_root. absurd (h.0 root is_root)) (tops more (c ∷ chains) h.1))
+  tops (v ∷ more) (c ∷ chains) (inr h) =
+      joined v more c.bytes (total (λ (x : Chain). x.bytes) chains) (as_heavy v c h.0 h.1) (tops more chains h.2)

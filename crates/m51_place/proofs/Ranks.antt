@@ -1,47 +1,207 @@
--- The relocatable segments in their order: each once.
-use Rattle.m51_place.proofs.Common.{◌≡◌, ◌≢◌, inl, inr, ℕ, suc, ◌+◌, ◌<◌, ◌≤◌, false, Bool, cond, nat_eq, List, [], ◌∷◌}
-use Rattle.m51_place.proofs.Common.{◌++◌, length, Option, Some, refl, sym, ap, subst, ◌∙◌, arith, slice_get, All}
-use Rattle.m51_place.proofs.Common.{sum_by, IsPermutation, false≢true, Decides-eqb, append-nil, length-map, All-nil}
-use Rattle.m51_place.proofs.Common.{All-cons, All-get_or, All-permutation, sum_by-IsPermutation, sum_by-cons}
-use Rattle.m51_place.proofs.Common.{slice_get_within, get_or_from_slice_get, Control, JoinedSegment, GraphParts}
-use Rattle.m51_place.proofs.Common.{is_absolute, cases_Bool, Numbered, Ranked, absolute, absolutes_from, comes_before}
-use Rattle.m51_place.proofs.Common.{order_of, own_at, put, put_all, ranked_of, ranked_from}
-use Rattle.std.proofs.lemmas.List.Sorted.{IsPermutation-append_right, IsPermutation-insert}
-use Rattle.std.proofs.lemmas.List.Sorted.{IsPermutation-middle, IsPermutation-refl, IsPermutation-sym}
-use Rattle.std.proofs.lemmas.List.Sorted.{IsPermutation-trans}
+-- The joined segments and their graph, and the relocatable ones in their order.
+use Rattle.m51_place.proofs.Common.{◌≡◌, ◌≢◌, inl, inr, ℕ, ◌+◌, ◌<◌, true, false, Bool, cond, List, [], ◌∷◌, ◌++◌}
+use Rattle.m51_place.proofs.Common.{get_or, Option, Some, None, Result, Ok, refl, sym, ap, subst, ◌∙◌, arith, All}
+use Rattle.m51_place.proofs.Common.{list_any, cases_Bool, All-nil, All-cons, All-head, All-tail, All-append, Code}
+use Rattle.m51_place.proofs.Common.{Number, Abs, Fits, Control, Refusal, ModuleParts, IsValid, JoinedSegment}
+use Rattle.m51_place.proofs.Common.{segments_of, GraphParts, graph_of, unless, leads, is_absolute, units_of, suc, ◌/◌}
+use Rattle.m51_place.proofs.Common.{◌≤◌, not, length, drop, unwrap_or, position, nat_lt, position_or_len, lies_under}
+use Rattle.m51_place.proofs.Common.{drop_rest, above_tells, Ranked, comes_before, put, nat_eq, slice_get, IsPermutation}
+use Rattle.m51_place.proofs.Common.{append-nil, length-map, All-get_or, All-permutation, slice_get_within}
+use Rattle.m51_place.proofs.Common.{get_or_from_slice_get, Numbered, absolutes_from, one_if, order_of, own_at, put_all}
+use Rattle.m51_place.proofs.Common.{ranked_of, ranked_from, ◌⊎◌, false≢true, before_by, class_number, group_number}
+use Rattle.std.proofs.lemmas.List.Elements.{All-map}
+use Rattle.m51_cells.proofs.KindLaws.{absolute_is, overlay_kind, overlay_reloc}
+use Rattle.m51_cells.specs.Fits.{allows}
+use Rattle.m51_module.specs.declared.segment.Segment.{Segment}
+use Rattle.m51_module.specs.Validity.{IsSegmentValid}
+use Rattle.m51_resolve.specs.Joining.{all_segments, are_parts, firsts, firsts_after}
+use Rattle.m51_resolve.specs.Joining.{joined_of}
+use Rattle.m51_graph.specs.Drawing.{edges_of, fixup_edges}
+use Rattle.m51_graph.specs.Graphs.{cyclic_from, first_under_two, judged, lacks_reset, on_cycles, parts_of}
+use Rattle.m51_graph.specs.Locals.{own_units}
+use Rattle.m51_graph.specs.Units.{roots_of, unit_titles}
+use Rattle.std.proofs.Common.{◌%◌}
+use Rattle.std.specs.List.{insert}
+use Rattle.std.proofs.lemmas.Bool.{false_from_ne_true}
+use Rattle.std.proofs.lemmas.Bool.Decides.{nat_tests}
+use Rattle.std.proofs.lemmas.List.Sums.{prefix_len-le-length}
+use Rattle.m51_graph.specs.Graph.{AreBits}
+use Rattle.std.proofs.lemmas.List.Sorted.{IsPermutation-append_right, IsPermutation-insert, IsPermutation-middle}
+use Rattle.std.proofs.lemmas.List.Sorted.{IsPermutation-refl, IsPermutation-sym, IsPermutation-trans}
+use Rattle.m51_place.specs.Order.{rank_of, first_sort_key, second_sort_key}
 use Rattle.m51_place.specs.Placement.{is_number}
 use Rattle.m51_place.specs.Ready.{IsPlaceable}
-use Rattle.m51_place.proofs.Putting.{place_in, put_is}
-use Rattle.m51_place.proofs.Segments.{IsJoined, IsOf}
+use Rattle.m51_place.proofs.Weights.{has_byte}
+use Rattle.m51_cells.proofs.Members.{all_every, Every, every_all, total, total_moved, every_weaker, Pairs, pairs_all}
+use Rattle.m51_place.specs.declared.ranked.Rank.{Rank}
+use Rattle.m51_place.specs.Laws.{IsInOrder}
+
+-- What is known of the joined segments of valid modules, and of their graph.
+
+-- a joined segment has a kind that allows its type; an absolute one has at least one byte, fits at its base and is not
+-- OVERLAYABLE, and one of program memory is not OVERLAYABLE
+pub record IsJoined (j : JoinedSegment) : Type 0 where
+  pub kind : j.kind ≢ Number
+  pub reloc : allows j.kind j.reloc ≡ true
+  pub some : is_absolute j.reloc ≡ true → 0 < j.size
+  pub fits : is_absolute j.reloc ≡ true → Fits j.kind Abs j.base j.size
+  pub plain : is_absolute j.reloc ≡ true → j.overlay ≡ false
+  pub code : j.overlay ≡ true → j.kind ≢ Code
+
+-- an absolute segment is joined with no other
+size_of_absolute : (all : List Segment) (s : Segment) → s.reloc ≡ Abs → (joined_of all s).size ≡ s.size
+size_of_absolute all s abs = rw abs (omega arith)
+
+joined_valid : (all : List Segment) (s : Segment) → IsSegmentValid s → IsJoined (joined_of all s)
+joined_valid all s h = record {
+  kind = h.kind;
+  reloc = h.reloc;
+  some = λ a. let abs = absolute_is s.reloc a in let v : 0 < s.size = (h.absolute abs).some in
+      omega (arith, v, size_of_absolute all s abs);
+  fits = λ a. let abs = absolute_is s.reloc a in
+      subst (λ n. Fits s.kind Abs s.base n) (sym (size_of_absolute all s abs)) (h.absolute abs).fits;
+  plain = λ a. elim (cases_Bool s.overlay) [
+    | inl marked ↦ absurd (overlay_reloc s.kind s.reloc (h.overlay marked) (absolute_is s.reloc a))
+    | inr bare ↦ bare
+  ];
+  code = λ marked. overlay_kind s.kind s.reloc (h.overlay marked);
+}
+
+-- all segments of valid modules are valid, those that are seen first too
+all_valid : (modules : List ModuleParts) → All IsValid modules → All IsSegmentValid (all_segments modules)
+all_valid [] h = All-nil IsSegmentValid
+all_valid (m ∷ more) h =
+    let first : IsValid m = All-head IsValid m more h in
+    All-append IsSegmentValid m.segments (all_segments more) first.segments (all_valid more (All-tail IsValid m more h))
+
+firsts_pass : (P : Segment → Type 0) (before xs : List Segment) → All P xs → All P (firsts_after before xs)
+firsts_pass P before [] h = All-nil P
+firsts_pass P before (s ∷ more) h =
+    let rest = firsts_pass P (before ++ s ∷ []) more (All-tail P s more h) in
+    elim (cases_Bool (list_any (are_parts s) before)) [
+      | inl seen ↦ rw seen rest
+      | inr new ↦ rw new (All-cons P s (firsts_after (before ++ s ∷ []) more) (All-head P s more h) rest)
+    ]
+
+pub all_joined : (modules : List ModuleParts) → All IsValid modules → All IsJoined (segments_of modules)
+all_joined modules h =
+    let all = all_segments modules in
+    All-map IsJoined (joined_of all) (firsts all)
+    (λ k d below. joined_valid all (get_or (firsts all) k d)
+    (firsts_pass IsSegmentValid [] all (all_valid modules h) k d below))
+
+-- the graph of modules and control lines has the units, roots, own units and marks of the joined segments
+pub record IsOf (segments : List JoinedSegment) (controls : List (ℕ × Control)) (g : GraphParts) : Type 0 where
+  pub units : g.units ≡ units_of segments
+  pub roots : g.roots ≡ roots_of segments
+  pub own : g.own ≡ own_units (unit_titles segments) controls segments
+
+unless_ok : {V : Type 0} (rule : Option Refusal) (after : Result V Refusal) (v : V) → unless rule after ≡ Ok v → after
+    ≡ Ok v
+unless_ok None after v h = h
+unless_ok (Some refusal) after v h = absurd (cc h)
+
+judged_is : (titles : List (List ℕ)) (p g : GraphParts) → judged titles p ≡ Ok g → p ≡ g
+judged_is titles p g h =
+    let reach : ℕ → ℕ → Bool = leads p.edges in
+    let two : Option Refusal = first_under_two reach p.roots p.own 0 titles in
+    let cycles : Option Refusal = on_cycles (cyclic_from reach 0 titles) in
+    let e : ◌≡◌ {A = Result GraphParts Refusal} (Ok p) (Ok g) =
+    unless_ok two (Ok p) g
+    (unless_ok cycles (unless two (Ok p)) g
+    (unless_ok (lacks_reset p.roots) (unless cycles (unless two (Ok p))) g h)) in
+    cc e
+
+pub graph_is : (modules : List ModuleParts) (controls : List (ℕ × Control)) (g : GraphParts) → graph_of modules controls
+    ≡ Ok g → IsOf (segments_of modules) controls g
+graph_is modules controls g h =
+    let segments = segments_of modules in
+    let titles = unit_titles segments in
+    let p : GraphParts = parts_of segments controls (edges_of titles controls (fixup_edges modules)) in
+    let is : p ≡ g = judged_is titles p g (unless_ok _ _ g (unless_ok _ _ g h)) in
+    subst (λ x. IsOf segments controls x) is (record { units = refl; roots = refl; own = refl })
+
+-- The order in which segments are placed.
+
+-- the index of the first that passes, or the end
+abbrev pub place_in : {X : Type 0} → (X → Bool) → List X → ℕ
+place_in p xs = unwrap_or (position p xs) (length xs)
+
+pub front_within : {X : Type 0} → (p : X → Bool) (xs : List X) → position_or_len p xs ≤ length xs
+front_within p xs = prefix_len-le-length (λ x. not (p x)) xs
+
+or_end : (index end : ℕ) → index ≤ end → unwrap_or (cond (nat_lt index end) (Some index) None) end ≡ index
+or_end index end below = grind (arith, nat_tests)
+
+pub place_is : {X : Type 0} → (p : X → Bool) (xs : List X) → place_in p xs ≡ position_or_len p xs
+place_is p xs = or_end (position_or_len p xs) (length xs) (front_within p xs)
+
+-- one more is put before the first that it comes before
+pub put_is : (t : Ranked) (order : List Ranked) → put t order
+    ≡ insert order (place_in (λ u. comes_before t.rank u.rank) order) t
+put_is t [] = refl
+put_is t (u ∷ more) =
+    let p : Ranked → Bool = λ v. comes_before t.rank v.rank in
+    elim (cases_Bool (p u)) [
+      | inl here ↦
+          let first : position_or_len p (u ∷ more) ≡ 0 = rw here in
+          rw (place_is, first, here)
+      | inr after ↦
+          let next : position_or_len p (u ∷ more) ≡ suc (place_in p more) = rw after (omega (arith, place_is p more)) in
+          ap (λ (b : Bool). cond b (t ∷ (u ∷ more)) (u ∷ put t more)) after
+          ∙ ap (λ (xs : List Ranked). u ∷ xs) (put_is t more)
+          ∙ sym (ap (λ (n : ℕ). insert (u ∷ more) n t) (place_is p (u ∷ more) ∙ next))
+    ]
+
+-- the lowest of the bits that say under which roots a unit lies
+module _ (g : GraphParts) (unit : ℕ) (xs : List ℕ) (bits i : ℕ) (below : i < length xs)
+    (are : AreBits g unit (drop i xs) bits) where
+  abbrev above : ℕ → Bool
+  above vector = lies_under (leads g.edges) g.roots vector unit
+
+  here : AreBits g unit (get_or xs i 0 ∷ drop (i + 1) xs) bits
+  here = rw (drop_rest xs i 0 below) at are
+
+  pub bit_set : bits % 2 ≡ 1 → position_or_len (λ vector. lies_under (leads g.edges) g.roots vector unit) (drop i xs)
+      ≡ 0
+  bit_set set = rw (drop_rest xs i 0 below, (above_tells g (get_or xs i 0) unit).1 (here.0.0 set))
+
+  pub bits_left : AreBits g unit (drop (i + 1) xs) (bits / 2)
+  bits_left = here.1
+
+  pub bit_clear : bits % 2 ≢ 1
+      → position_or_len (λ vector. lies_under (leads g.edges) g.roots vector unit) (drop i xs)
+      ≡ 1 + position_or_len (λ vector. lies_under (leads g.edges) g.roots vector unit) (drop (i + 1) xs)
+  bit_clear clear =
+      let fails = false_from_ne_true (above (get_or xs i 0))
+      (λ is. clear (here.0.1 ((above_tells g (get_or xs i 0) unit).0 is))) in
+      rw (drop_rest xs i 0 below, fails)
+
+-- The relocatable segments in their order: each once.
 
 -- the order is the segments, moved
-pub put_moves : (t : Ranked) (order : List Ranked) → IsPermutation (t ∷ order) (put t order)
-put_moves t order =
-    let index : ℕ = place_in (λ u. comes_before t.rank u.rank) order in
-    subst (λ (ts : List Ranked). IsPermutation (t ∷ order) ts) (sym (put_is t order))
-    (IsPermutation-insert order index t)
+put_moves : (t : Ranked) (order : List Ranked) → IsPermutation (t ∷ order) (put t order)
+put_moves t order = rw put_is (IsPermutation-insert order (place_in (λ u. comes_before t.rank u.rank) order) t)
 
 all_moves : (order ranked : List Ranked) → IsPermutation (ranked ++ order) (put_all order ranked)
 all_moves order [] = IsPermutation-refl order
 all_moves order (t ∷ more) =
-    IsPermutation-trans (t ∷ (more ++ order)) (more ++ put t order) (put_all (put t order) more)
-    (IsPermutation-trans (t ∷ (more ++ order)) (more ++ t ∷ order) (more ++ put t order)
-    (IsPermutation-sym (more ++ t ∷ order) (t ∷ (more ++ order)) (IsPermutation-middle more t order))
+    IsPermutation-trans _ (more ++ put t order) _
+    (IsPermutation-trans _ (more ++ t ∷ order) _ (IsPermutation-sym _ _ (IsPermutation-middle more t order))
     (IsPermutation-append_right more (t ∷ order) (put t order) (put_moves t order)))
     (all_moves (put t order) more)
 
 pub order_moves : (g : GraphParts) (controls : List (ℕ × Control)) (segments : List JoinedSegment)
     → IsPermutation (ranked_from g controls 0 segments) (order_of g controls segments)
-order_moves g controls segments =
-    let ranked = ranked_from g controls 0 segments in
-    subst (λ (ts : List Ranked). IsPermutation ts (order_of g controls segments)) (append-nil ranked)
-    (all_moves [] ranked)
+order_moves g controls segments = rw append-nil at (all_moves [] (ranked_from g controls 0 segments))
 
 -- the ranked is of a relocatable joined segment
-pub record IsRankedOf (g : GraphParts) (segments : List JoinedSegment) (t : Ranked) : Type 0 where
+pub record IsRankedOf (g : GraphParts) (controls : List (ℕ × Control)) (segments : List JoinedSegment)
+    (t : Ranked) : Type 0 where
   pub segment : slice_get segments t.number ≡ Some t.segment
   pub own : t.own ≡ own_at g t.number
   pub relocatable : is_absolute t.segment.reloc ≡ false
+  pub rank : t.rank ≡ rank_of g controls t.number t.segment t.own
 
 -- these are the joined segments from that number on
 abbrev pub AreFrom : List JoinedSegment → ℕ → List JoinedSegment → Type 0
@@ -49,38 +209,35 @@ AreFrom segments number rest = (k : ℕ) → slice_get rest k ≡ slice_get segm
 
 pub from_tail : (segments : List JoinedSegment) (number : ℕ) (j : JoinedSegment) (more : List JoinedSegment)
     → AreFrom segments number (j ∷ more) → AreFrom segments (number + 1) more
-from_tail segments number j more h k = let next : number + suc k ≡ number + 1 + k = omega arith in h (suc k)
-    ∙ ap (slice_get segments) next
+from_tail segments number j more h k = let next : number + suc k ≡ number + 1 + k = omega arith in rw next at
+    (h (suc k))
 
 pub from_head : (segments : List JoinedSegment) (number : ℕ) (j : JoinedSegment) (more : List JoinedSegment)
     → AreFrom segments number (j ∷ more) → slice_get segments number ≡ Some j
-from_head segments number j more h = let same : number ≡ number + 0 = omega arith in ap (slice_get segments) same
-    ∙ sym (h 0)
+from_head segments number j more h = let same : number + 0 ≡ number = omega arith in sym (rw same at (h 0))
 
 pub from_start : (segments : List JoinedSegment) → AreFrom segments 0 segments
-from_start segments k = let same : k ≡ 0 + k = omega arith in ap (slice_get segments) same
+from_start segments k = let same : 0 + k ≡ k = omega arith in rw same
 
-ranked_are : (g : GraphParts) (controls : List (ℕ × Control)) (segments : List JoinedSegment) (number : ℕ)
-    (rest : List JoinedSegment) → AreFrom segments number rest
-    → All (IsRankedOf g segments) (ranked_from g controls number rest)
-ranked_are g controls segments number [] h = All-nil (IsRankedOf g segments)
-ranked_are g controls segments number (j ∷ more) h =
-    let P : Ranked → Type 0 = IsRankedOf g segments in
-    let tail = ranked_are g controls segments (number + 1) more (from_tail segments number j more h) in
-    let all : List Ranked = ranked_from g controls (number + 1) more in
-    elim (cases_Bool (is_absolute j.reloc)) as (λ _. All P (ranked_from g controls number (j ∷ more))) [
-      | inl abs ↦ subst (λ (b : Bool). All P (cond b all (ranked_of g controls number j ∷ all))) (sym abs) tail
-      | inr rel ↦ subst (λ (b : Bool). All P (cond b all (ranked_of g controls number j ∷ all))) (sym rel)
-          (All-cons P (ranked_of g controls number j) all
-          (record { segment = from_head segments number j more h; own = refl; relocatable = rel }) tail)
-    ]
+module _ (g : GraphParts) (controls : List (ℕ × Control)) (segments : List JoinedSegment) where
+  ranked_are : (number : ℕ) (rest : List JoinedSegment) → AreFrom segments number rest
+      → Every (IsRankedOf g controls segments) (ranked_from g controls number rest)
+  ranked_are number [] h = tt
+  ranked_are number (j ∷ more) h =
+      let tail = ranked_are (number + 1) more (from_tail segments number j more h) in
+      elim (cases_Bool (is_absolute j.reloc)) [
+        | inl abs ↦ rw abs tail
+        | inr rel ↦ rw rel (
+          record { segment = from_head segments number j more h; own = refl; relocatable = rel; rank = refl },
+          tail,
+        )
+      ]
 
-pub order_ranked : (g : GraphParts) (controls : List (ℕ × Control)) (segments : List JoinedSegment)
-    → All (IsRankedOf g segments) (order_of g controls segments)
-order_ranked g controls segments =
-    All-permutation (IsRankedOf g segments) (ranked_from g controls 0 segments) (order_of g controls segments)
-    (order_moves g controls segments)
-    (ranked_are g controls segments 0 segments (from_start segments))
+  pub order_ranked : Every (IsRankedOf g controls segments) (order_of g controls segments)
+  order_ranked =
+      let P : Ranked → Type 0 = IsRankedOf g controls segments in
+      all_every P _ (All-permutation P _ _ (order_moves g controls segments)
+      (every_all P _ (ranked_are 0 segments (from_start segments))))
 
 -- a graph has an owner, or none, for each joined segment
 pub as_many_own : (segments : List JoinedSegment) (controls : List (ℕ × Control)) (g : GraphParts)
@@ -90,11 +247,11 @@ as_many_own segments controls g is = ap (λ (os : List (Option ℕ)). length os)
 pub joined_at : (P : JoinedSegment → Type 0) (segments : List JoinedSegment) (number : ℕ) (j : JoinedSegment)
     → All P segments → slice_get segments number ≡ Some j → P j
 joined_at P segments number j all is =
-    subst (λ x. P x) (get_or_from_slice_get segments number j j is)
+    subst P (get_or_from_slice_get segments number j j is)
     (All-get_or P segments number j (slice_get_within segments number j is) all)
 
 pub ready : (segments : List JoinedSegment) (controls : List (ℕ × Control)) (g : GraphParts) → IsOf segments controls g
-    → All IsJoined segments → (t : Ranked) → IsRankedOf g segments t → IsPlaceable g t
+    → All IsJoined segments → (t : Ranked) → IsRankedOf g controls segments t → IsPlaceable g t
 ready segments controls g is all t h =
     let joined : IsJoined t.segment = joined_at IsJoined segments t.number t.segment all h.segment in
     record {
@@ -106,84 +263,130 @@ ready segments controls g is all t h =
 
 -- how often a number occurs among ranked segments and among extents
 abbrev pub ranked_count : ℕ → Ranked → ℕ
-ranked_count m t = cond (nat_eq m t.number) 1 0
+ranked_count m t = one_if (nat_eq m t.number)
 
 abbrev pub extent_count : ℕ → Numbered → ℕ
-extent_count m e = cond (is_number m e) 1 0
-
-pub other_number : (m n : ℕ) → m ≢ n → nat_eq m n ≡ false
-other_number m n ne =
-    elim (cases_Bool (nat_eq m n)) as
-    (λ _. nat_eq m n ≡ false) [ inl e ↦ absurd (ne ((Decides-eqb m n).0 e)) | inr e ↦ e ]
+extent_count m e = one_if (is_number m e)
 
 -- of segments from a number on, each number occurs once, among absolute ones or among ranked
+next_count : (m number len : ℕ) → one_if (nat_eq m number) + one_if (has_byte (number + 1) len m)
+    ≡ one_if (has_byte number (suc len) m)
+next_count m number len = grind (arith, nat_tests)
+
+none_left : (m number : ℕ) → 0 ≡ one_if (has_byte number 0 m)
+none_left m number = grind (arith, nat_tests)
+
 module _ (g : GraphParts) (controls : List (ℕ × Control)) (m : ℕ) where
-  abbrev both : ℕ → List JoinedSegment → ℕ
-  both number rest =
-      sum_by (extent_count m) (absolutes_from number rest) + sum_by (ranked_count m)
+  counted : (number : ℕ) (rest : List JoinedSegment)
+      → total (extent_count m) (absolutes_from number rest) + total (ranked_count m)
       (ranked_from g controls number rest)
+      ≡ one_if (has_byte number (length rest) m)
+  counted number [] = none_left m number
+  counted number (j ∷ more) =
+      let rest = counted (number + 1) more in
+      let next = next_count m number (length more) in
+      elim (cases_Bool (is_absolute j.reloc))
+      [ inl abs ↦ rw abs (omega (arith, rest, next)) | inr rel ↦ rw rel (omega (arith, rest, next)) ]
 
-  abbrev mark : ℕ → ℕ
-  mark number = cond (nat_eq m number) 1 0
-
-  step : (number : ℕ) (j : JoinedSegment) (more : List JoinedSegment) → both number (j ∷ more)
-      ≡ mark number + both (number + 1) more
-  step number j more =
-      let e : Numbered = absolute number j in
-      let t : Ranked = ranked_of g controls number j in
-      let es : List Numbered = absolutes_from (number + 1) more in
-      let ts : List Ranked = ranked_from g controls (number + 1) more in
-      elim (cases_Bool (is_absolute j.reloc)) as (λ _. both number (j ∷ more) ≡ mark number + both (number + 1) more) [
-        | inl abs ↦
-            let first : sum_by (extent_count m) (absolutes_from number (j ∷ more))
-            ≡ mark number + sum_by (extent_count m) es =
-            ap (λ (b : Bool). sum_by (extent_count m) (cond b (e ∷ es) es)) abs ∙ sum_by-cons (extent_count m) e es in
-            let second : sum_by (ranked_count m) (ranked_from g controls number (j ∷ more))
-            ≡ sum_by (ranked_count m) ts =
-            ap (λ (b : Bool). sum_by (ranked_count m) (cond b ts (t ∷ ts))) abs in
-            omega (arith, first, second)
-        | inr rel ↦
-            let first : sum_by (extent_count m) (absolutes_from number (j ∷ more)) ≡ sum_by (extent_count m) es =
-            ap (λ (b : Bool). sum_by (extent_count m) (cond b (e ∷ es) es)) rel in
-            let second : sum_by (ranked_count m) (ranked_from g controls number (j ∷ more))
-            ≡ mark number + sum_by (ranked_count m) ts =
-            ap (λ (b : Bool). sum_by (ranked_count m) (cond b ts (t ∷ ts))) rel ∙ sum_by-cons (ranked_count m) t ts in
-            omega (arith, first, second)
-      ]
-
-  pub none_below : (number : ℕ) (rest : List JoinedSegment) → m < number → both number rest ≡ 0
-  none_below number [] below = refl
-  none_below number (j ∷ more) below =
-      let here : mark number ≡ 0 = ap (λ (b : Bool). cond b 1 0) (other_number m number (omega (arith, below))) in
-      omega (arith, step number j more, here, none_below (number + 1) more (omega (arith, below)))
-
-  pub once_from : (number : ℕ) (rest : List JoinedSegment) → number ≤ m → m < number + length rest → both number rest
-      ≡ 1
-  once_from number [] from below = absurd (omega (arith, from, below))
-  once_from number (j ∷ more) from below = elim (cases_Bool (nat_eq m number)) as (λ _. both number (j ∷ more) ≡ 1) [
-    | inl same ↦
-        let is : m ≡ number = (Decides-eqb m number).0 same in
-        let here : mark number ≡ 1 = ap (λ (b : Bool). cond b 1 0) same in
-        omega (arith, step number j more, here, none_below (number + 1) more (omega (arith, is)))
-    | inr other ↦
-        let here : mark number ≡ 0 = ap (λ (b : Bool). cond b 1 0) other in
-        let ne : m ≢ number = λ e. false≢true (sym other ∙ (Decides-eqb m number).1 e) in
-        omega (
-          arith,
-          step number j more,
-          here,
-          once_from (number + 1) more (omega (arith, from, ne))
-              (omega (arith, below)),
-        )
-  ]
+below_all : (m len : ℕ) → m < len → one_if (has_byte 0 len m) ≡ 1
+below_all m len h = grind (arith, nat_tests)
 
 -- each number of a joined segment occurs once, among absolute segments or in the order
 pub once : (g : GraphParts) (controls : List (ℕ × Control)) (segments : List JoinedSegment) (m : ℕ)
     → m < length segments
-    → sum_by (extent_count m) (absolutes_from 0 segments) + sum_by (ranked_count m) (order_of g controls segments) ≡ 1
+    → total (extent_count m) (absolutes_from 0 segments) + total (ranked_count m) (order_of g controls segments) ≡ 1
 once g controls segments m below =
-    let all = once_from g controls m 0 segments (omega arith) (omega (arith, below)) in
-    let moved =
-    sum_by-IsPermutation (ranked_count m) (ranked_from g controls 0 segments) (order_of g controls segments)
-    (order_moves g controls segments) in
-    omega (arith, all, moved)
+    omega (
+      arith,
+      counted g controls m 0 segments,
+      below_all m (length segments) below,
+      total_moved (ranked_count m) _ _ (order_moves g controls segments),
+    )
+
+-- The order rises by rank.
+
+-- one level of the order: a number, and what follows where the numbers are the same
+pub goes : (x y : ℕ) (next : Bool) → before_by x y next ≡ true → (x < y) ⊎ ((x ≡ y) × (next ≡ true))
+goes x y next h = grind (arith, nat_tests)
+
+abbrev Either : Bool → Bool → Type 0
+Either n m = (n ≡ true) ⊎ (m ≡ true)
+
+level_total : (x y : ℕ) (n m : Bool) → Either n m → Either (before_by x y n) (before_by y x m)
+level_total x y n m next = grind (arith, nat_tests)
+
+level_trans : (x y z : ℕ) (n m k : Bool) → (n ≡ true → m ≡ true → k ≡ true) → before_by x y n ≡ true → before_by y z m
+    ≡ true → before_by x z k ≡ true
+level_trans x y z n m k next h h' = grind (arith, nat_tests)
+
+-- of two ranks with different numbers one comes before the other
+numbers_total : (x y : ℕ) → x ≢ y → Either (nat_lt x y) (nat_lt y x)
+numbers_total x y ne = grind (arith, nat_tests)
+
+rank_total : (a b : Rank) → a.number ≢ b.number → Either (comes_before a b) (comes_before b a)
+rank_total a b ne =
+    level_total (class_number a.class) (class_number b.class) _ _
+    (level_total (group_number a.group) (group_number b.group) _ _
+    (level_total (first_sort_key a.group) (first_sort_key b.group) _ _
+    (level_total (second_sort_key a.group) (second_sort_key b.group) _ _ (numbers_total a.number b.number ne))))
+
+numbers_trans : (x y z : ℕ) → nat_lt x y ≡ true → nat_lt y z ≡ true → nat_lt x z ≡ true
+numbers_trans x y z h h' = grind (arith, nat_tests)
+
+rank_trans : (a b c : Rank) → comes_before a b ≡ true → comes_before b c ≡ true → comes_before a c ≡ true
+rank_trans a b c =
+    level_trans (class_number a.class) (class_number b.class) (class_number c.class) _ _ _
+    (level_trans (group_number a.group) (group_number b.group) (group_number c.group) _ _ _
+    (level_trans (first_sort_key a.group) (first_sort_key b.group) (first_sort_key c.group) _ _ _
+    (level_trans (second_sort_key a.group) (second_sort_key b.group) (second_sort_key c.group) _ _ _
+    (numbers_trans a.number b.number c.number))))
+
+abbrev pub Earlier : Ranked → Ranked → Type 0
+Earlier t u = comes_before t.rank u.rank ≡ true
+
+abbrev IsBelow : ℕ → Ranked → Type 0
+IsBelow number u = u.rank.number < number
+
+every_put : (P : Ranked → Type 0) (t : Ranked) (order : List Ranked) → P t → Every P order → Every P (put t order)
+every_put P t [] h all = (h, tt)
+every_put P t (u ∷ more) h all = elim (cases_Bool (comes_before t.rank u.rank)) [
+  | inl here ↦ rw here (h, all)
+  | inr after ↦ rw after (all.0, every_put P t more h all.1)
+]
+
+-- an order that rises still does with one more, whose number is above all of its numbers
+put_rises : (t : Ranked) (order : List Ranked) → Pairs Earlier order → Every (IsBelow t.rank.number) order
+    → Pairs Earlier (put t order)
+put_rises t [] h below = (tt, tt)
+put_rises t (u ∷ more) h below = elim (cases_Bool (comes_before t.rank u.rank)) [
+  | inl here ↦ rw here (
+    (here, every_weaker (Earlier u) (Earlier t) more (λ v. rank_trans t.rank u.rank v.rank here) h.0),
+    h,
+  )
+  | inr after ↦
+      let before : Earlier u t = elim (rank_total t.rank u.rank (λ same. omega (arith, same, below.0)))
+      [ inl e ↦ absurd (false≢true (sym after ∙ e)) | inr e ↦ e ] in
+      rw after (every_put (Earlier u) t more before h.0, put_rises t more h.1 below.1)
+]
+
+rises_from : (g : GraphParts) (controls : List (ℕ × Control)) (number : ℕ) (rest : List JoinedSegment)
+    (order : List Ranked) → Pairs Earlier order → Every (IsBelow number) order
+    → Pairs Earlier (put_all order (ranked_from g controls number rest))
+rises_from g controls number [] order h below = h
+rises_from g controls number (j ∷ more) order h below =
+    let t : Ranked = ranked_of g controls number j in
+    let higher = every_weaker (IsBelow number) (IsBelow (number + 1)) order (λ u h. omega (arith, h)) below in
+    elim (cases_Bool (is_absolute j.reloc)) [
+      | inl abs ↦ rw abs (rises_from g controls (number + 1) more order h higher)
+      | inr rel ↦ rw rel (rises_from g controls (number + 1) more (put t order) (put_rises t order h below)
+          (every_put (IsBelow (number + 1)) t order (omega arith) higher))
+    ]
+
+pub order_rises : (g : GraphParts) (controls : List (ℕ × Control)) (segments : List JoinedSegment)
+    → Pairs Earlier (order_of g controls segments)
+order_rises g controls segments = rises_from g controls 0 segments [] tt tt
+
+pub in_order : (g : GraphParts) (controls : List (ℕ × Control)) (segments : List JoinedSegment)
+    → IsInOrder g controls segments
+in_order g controls segments =
+    record { rises = pairs_all _ _ (order_rises g controls segments); once = order_moves g controls segments }

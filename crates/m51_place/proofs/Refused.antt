@@ -1,376 +1,288 @@
 -- L12 names an overlaid segment exactly if the run has fewer bytes than the weight.
-use Rattle.m51_place.proofs.Common.{◌≡◌, inl, inr, ℕ, ◌-◌, ◌<◌, true, false, Bool, cond, List, [], ◌∷◌, ◌++◌, length}
-use Rattle.m51_place.proofs.Common.{Option, Some, None, Result, Ok, Err, refl, sym, ap, subst, ◌∙◌, arith, is_some}
-use Rattle.m51_place.proofs.Common.{option_map, slice_get, option_map_or, All, AllPairs, Contains, cases_Bool, cases_lt}
-use Rattle.m51_place.proofs.Common.{false≢true, All-cons, All-contains, All-head, All-nil, All-tail}
-use Rattle.m51_place.proofs.Common.{Contains-append_left, Contains-append_right, is_absolute, Control, AreKept, Refusal}
-use Rattle.m51_place.proofs.Common.{L12, ModuleParts, IsValid, contains_behind, first_or_behind, JoinedSegment}
-use Rattle.m51_place.proofs.Common.{segments_of, GraphParts, IsGraph, IsOwn, graph_of, unless, Numbered, Ranked}
-use Rattle.m51_place.proofs.Common.{first_met, fixed_of, shared_after, shared_at, shared_extents, order_of, own_at}
-use Rattle.m51_place.proofs.Common.{before_overlaid, IsWeightOf, overlaid_in, OverlaysData, base_for, located_at}
-use Rattle.m51_place.proofs.Common.{located_of, place_after}
+use Rattle.m51_place.proofs.Common.{◌≡◌, ℕ, ◌+◌, ◌≤◌, Ok, Err, refl, arith, Numbered, place_after, overlaid_in, inl}
+use Rattle.m51_place.proofs.Common.{inr, zero, suc, ◌<◌, true, false, Bool, cond, not, ◌&&◌, List, [], ◌∷◌, Some, sym}
+use Rattle.m51_place.proofs.Common.{ap, ◌∙◌, slice_get, list_any, cases_lt, false≢true, list_any_at}
+use Rattle.m51_place.proofs.Common.{get_or_from_slice_get, slice_get_within, is_absolute, ModuleParts, JoinedSegment}
+use Rattle.m51_place.proofs.Common.{segments_of, ◌-◌, ◌++◌, Option, None, is_some, length, option_map, option_map_or}
+use Rattle.m51_place.proofs.Common.{Refusal, L12, GraphParts, unless, Ranked, first_met, shared_after, shared_at}
+use Rattle.m51_place.proofs.Common.{shared_extents, own_at, before_overlaid, IsWeightOf, OverlaysData, base_for}
+use Rattle.m51_place.proofs.Common.{located_at, located_of}
+use Rattle.m51_place.specs.Overlay.{OverlayFits, PlacesOverlaid, ExceedsRun, LeavesRun, OverlayRefused, PlacesBefore}
+use Rattle.m51_place.specs.Overlay.{RefusesOverlaid}
+use Rattle.m51_place.proofs.Free.{Answer, and_then, place_append}
+use Rattle.m51_place.proofs.Piled.{Piles}
+use Rattle.m51_place.proofs.Tight.{answer as settled, order, scene, Setting, unrooted, weighs, fixed, holds, Program}
+use Rattle.m51_place.proofs.Tight.{ranked, segments}
+use Rattle.std.specs.Str.{bytes_eq}
+use Rattle.std.proofs.lemmas.Slice.Eq.{bytes_eq-Decides}
+use Rattle.m51_cells.specs.Name.{title_at}
+use Rattle.m51_module.specs.declared.segment.Segment.{Segment}
+use Rattle.m51_resolve.specs.Joining.{all_segments, are_parts, firsts, joined_of, title_of}
+use Rattle.m51_resolve.proofs.FirstSight.{AreApart, firsts_apart}
+use Rattle.m51_cells.proofs.Members.{map_at, Every, every_in, In, in_filter, in_left, in_right}
 use Rattle.std.specs.Option.{option_or}
 use Rattle.m51_module.specs.declared.linked.Refusal.TheVariants.{L9}
-use Rattle.m51_place.specs.Overlay.{ExceedsRun, FindsRun, LeavesRun}
-use Rattle.m51_place.specs.Overlay.{OverlayRefused, PlacesBefore, RefusesOverlaid}
-use Rattle.m51_place.specs.Placement.{placing_from, placing_of}
+use Rattle.m51_place.specs.Placement.{placing_from}
 use Rattle.m51_place.proofs.Conflicting.{own_is, own_read}
-use Rattle.m51_place.proofs.FitAll.{overlay_fits}
-use Rattle.m51_place.proofs.Ordered.{IsLocalData}
-use Rattle.m51_place.proofs.Piled.{IsEither, IsPlain, lone_after, OneLocal, OnePlain}
-use Rattle.m51_place.proofs.Ranks.{IsRankedOf, order_ranked}
-use Rattle.m51_place.proofs.Rising.{Earlier, head_pairs, in_order, tail_pairs}
-use Rattle.m51_place.proofs.RunHolds.{holds}
-use Rattle.m51_place.proofs.Splitting.{all_from, begins, from_overlaid, lone_before, order_either, own_some, pairs_from}
-use Rattle.m51_place.proofs.Splitting.{split}
-use Rattle.m51_place.proofs.Titles.{one_title}
+use Rattle.m51_place.proofs.Ordered.{AreParts, IsPlain, order_parts, lone_before}
+use Rattle.m51_place.proofs.Ranks.{IsRankedOf}
 
--- one more is placed, or there is no base for it
-abbrev placed_on : GraphParts → List Numbered → Ranked → List Ranked → Option ℕ → Result (List Numbered) Refusal
-placed_on g earlier t more found =
-    option_map_or (λ base. place_after g (earlier ++ located_at t base ∷ []) more) found (Err (L12 t.segment.title))
+-- L12 comes for no overlaid segment where the run has as many bytes as the weight.
 
-on_by : (g : GraphParts) (earlier : List Numbered) (t : Ranked) (more later : List Ranked) (between : List Numbered)
-    (found : Option ℕ)
-    → ((base : ℕ) → place_after g (earlier ++ located_at t base ∷ []) more ≡ Ok between
-    → place_after g (earlier ++ located_at t base ∷ []) (more ++ later) ≡ place_after g between later)
-    → placed_on g earlier t more found ≡ Ok between → placed_on g earlier t (more ++ later) found
-    ≡ place_after g between later
-on_by g earlier t more later between None again h = absurd (cc h)
-on_by g earlier t more later between (Some base) again h = again base h
+pub placed : (t : Setting) → t.low + t.weight ≤ t.high → (found : Answer)
+    → place_after t.c.g t.front (overlaid_in (order t.c)) ≡ found → Piles (scene t) (unrooted t) found
+    → PlacesOverlaid t.c.g t.front (order t.c)
+placed t room (Ok located) is piles = record { located = located; is = is }
+placed t room (Err refusal) is piles = absurd (omega (arith, piles, room, weighs t))
 
-goes_on : (g : GraphParts) (first later : List Ranked) (earlier between : List Numbered) → place_after g earlier first
-    ≡ Ok between → place_after g earlier (first ++ later) ≡ place_after g between later
-goes_on g [] later earlier between h = let same : earlier ≡ between = cc h in
-    ap (λ (es : List Numbered). place_after g es later) same
-goes_on g (t ∷ more) later earlier between h =
-    on_by g earlier t more later between (base_for g earlier t)
-    (λ base k. goes_on g more later (earlier ++ located_at t base ∷ []) between k) h
+pub overlay_fits : OverlayFits
+overlay_fits modules controls g low high weight valid kept is graph_is shares data_only run h room =
+    let t : Setting = record {
+      c = record { modules = modules; controls = controls; g = g; valid = valid; kept = kept; is = is; of = graph_is };
+      low = low;
+      high = high;
+      weight = weight;
+      shares = shares;
+      data_only = data_only;
+      front = run.extents;
+      front_is = run.placed;
+      run = run.run;
+      weighed = h;
+    } in
+    placed t room _ refl (settled t)
 
-stops_by : (g : GraphParts) (earlier : List Numbered) (t : Ranked) (more later : List Ranked) (refusal : Refusal)
-    (found : Option ℕ)
-    → ((base : ℕ) → place_after g (earlier ++ located_at t base ∷ []) more ≡ Err refusal
-    → place_after g (earlier ++ located_at t base ∷ []) (more ++ later) ≡ Err refusal)
-    → placed_on g earlier t more found ≡ Err refusal → placed_on g earlier t (more ++ later) found ≡ Err refusal
-stops_by g earlier t more later refusal None again h = h
-stops_by g earlier t more later refusal (Some base) again h = again base h
+-- Relocatable joined segments of one title are one.
 
-stops : (g : GraphParts) (first later : List Ranked) (earlier : List Numbered) (refusal : Refusal)
-    → place_after g earlier first ≡ Err refusal → place_after g earlier (first ++ later) ≡ Err refusal
-stops g [] later earlier refusal h = absurd (cc h)
-stops g (t ∷ more) later earlier refusal h =
-    stops_by g earlier t more later refusal (base_for g earlier t)
-    (λ base k. stops g more later (earlier ++ located_at t base ∷ []) refusal k) h
+-- no two of the segments that are seen first are parts of one
+no_part : (s : Segment) (xs : List Segment) (n : ℕ) (t : Segment) → list_any (are_parts s) xs ≡ false → slice_get xs n
+    ≡ Some t → are_parts s t ≡ true → ⊥
+no_part s xs n t none at parts =
+    false≢true
+    (sym none
+    ∙ list_any_at (are_parts s) xs n t (slice_get_within xs n t at)
+    (ap (are_parts s) (get_or_from_slice_get xs n t t at) ∙ parts))
 
--- the refusal names one of the order
-record IsNamed (order : List Ranked) (refusal : Refusal) : Type 0 where
-  t : Ranked
-  there : Contains order t
-  named : refusal ≡ L12 t.segment.title
+two_parts : (xs : List Segment) (n m : ℕ) (s t : Segment) → AreApart xs → n < m → slice_get xs n ≡ Some s
+    → slice_get xs m ≡ Some t → are_parts s t ≡ true → ⊥
+two_parts [] n m s t apart less h k parts = absurd (cc h)
+two_parts (x ∷ xs) n zero s t apart less h k parts = absurd (omega (arith, less))
+two_parts (x ∷ xs) zero (suc m) s t apart less h k parts =
+    let same : x ≡ s = cc h in
+    no_part x xs m t apart.0 k (ap (λ (y : Segment). are_parts y t) same ∙ parts)
+two_parts (x ∷ xs) (suc n) (suc m) s t apart less h k parts =
+    two_parts xs n m s t apart.1 (omega (arith, less)) h k parts
+
+-- relocatable segments of one title are parts of one
+alike : (s t : Segment) → is_absolute s.reloc ≡ false → is_absolute t.reloc ≡ false → title_of s ≡ title_of t
+    → are_parts s t ≡ true
+alike s t a b same =
+    let name : s.name ≡ t.name = sym (ap (λ (r : Bool). cond (not r) s.name (title_at s.base)) a) ∙ same
+    ∙ ap (λ (r : Bool). cond (not r) t.name (title_at t.base)) b in
+    ap (λ (r : Bool). not r && not (is_absolute t.reloc) && bytes_eq s.name t.name) a
+    ∙ ap (λ (r : Bool). not r && bytes_eq s.name t.name) b ∙ (bytes_eq-Decides s.name t.name).1 name
+
+pub one_title : (modules : List ModuleParts) (n m : ℕ) (j k : JoinedSegment) → slice_get (segments_of modules) n
+    ≡ Some j → slice_get (segments_of modules) m ≡ Some k
+    → is_absolute j.reloc ≡ false → is_absolute k.reloc ≡ false → j.title ≡ k.title → n ≡ m
+one_title modules n m j k at at' a b same =
+    let all : List Segment = all_segments modules in
+    let f = map_at (joined_of all) (firsts all) n j at in
+    let f' = map_at (joined_of all) (firsts all) m k at' in
+    let reloc : is_absolute f.0.reloc ≡ false = ap (λ (x : JoinedSegment). is_absolute x.reloc) f.2 ∙ a in
+    let reloc' : is_absolute f'.0.reloc ≡ false = ap (λ (x : JoinedSegment). is_absolute x.reloc) f'.2 ∙ b in
+    let title : title_of f.0 ≡ title_of f'.0 = ap (λ (x : JoinedSegment). x.title) f.2 ∙ same
+    ∙ sym (ap (λ (x : JoinedSegment). x.title) f'.2) in
+    let apart : AreApart (firsts all) = firsts_apart [] all in
+    elim (cases_lt n m) [
+      | inl less ↦ absurd (two_parts (firsts all) n m f.0 f'.0 apart less f.1 f'.1 (alike f.0 f'.0 reloc reloc' title))
+      | inr not_less ↦ elim (cases_lt m n) [
+        | inl more ↦ absurd
+            (two_parts (firsts all) m n f'.0 f.0 apart more f'.1 f.1 (alike f'.0 f.0 reloc' reloc (sym title)))
+        | inr not_more ↦ omega (arith, not_less, not_more)
+      ]
+    ]
+
+-- L12 names an overlaid segment exactly if the run has fewer bytes than the weight.
+
+-- the refusal of placing names one of the order
+abbrev Names : List Ranked → Refusal → Type 0
+Names order refusal = (t : Ranked) × In t order × (refusal ≡ L12 t.segment.title)
 
 named_by : (g : GraphParts) (earlier : List Numbered) (t : Ranked) (more : List Ranked) (refusal : Refusal)
     (found : Option ℕ)
-    → ((base : ℕ) → place_after g (earlier ++ located_at t base ∷ []) more ≡ Err refusal → IsNamed more refusal)
-    → placed_on g earlier t more found ≡ Err refusal → IsNamed (t ∷ more) refusal
+    → ((base : ℕ) → place_after g (earlier ++ located_at t base ∷ []) more ≡ Err refusal → Names more refusal)
+    → option_map_or (λ base. place_after g (earlier ++ located_at t base ∷ []) more) found (Err (L12 t.segment.title))
+    ≡ Err refusal → Names (t ∷ more) refusal
 named_by g earlier t more refusal None again h =
-    let same : L12 t.segment.title ≡ refusal = cc h in
-    record { t = t; there = (0, omega arith, refl); named = sym same }
-named_by g earlier t more refusal (Some base) again h =
-    let rest = again base h in
-    record { t = rest.t; there = contains_behind t more rest.t rest.there; named = rest.named }
+    let same : L12 t.segment.title ≡ refusal = cc h in (t, inl refl, sym same)
+named_by g earlier t more refusal (Some base) again h = let rest = again base h in (rest.0, inr rest.1, rest.2)
 
 named_in : (g : GraphParts) (order : List Ranked) (earlier : List Numbered) (refusal : Refusal)
-    → place_after g earlier order ≡ Err refusal → IsNamed order refusal
+    → place_after g earlier order ≡ Err refusal → Names order refusal
 named_in g [] earlier refusal h = absurd (cc h)
 named_in g (t ∷ more) earlier refusal h =
     named_by g earlier t more refusal (base_for g earlier t)
     (λ base k. named_in g more (earlier ++ located_at t base ∷ []) refusal k) h
 
 -- L9 is not L12
-not_named : (e : Numbered) (rest : Option Refusal) (title : List ℕ) (found : Option Numbered)
+not_read : (e : Numbered) (rest : Option Refusal) (title : List ℕ) (found : Option Numbered)
     → (rest ≡ Some (L12 title) → ⊥)
     → option_or (option_map (λ (q : Numbered). L9 q.placed.title e.placed.title) found) rest ≡ Some (L12 title) → ⊥
-not_named e rest title None again h = again h
-not_named e rest title (Some q) again h = cc h
+not_read e rest title None again h = again h
+not_read e rest title (Some q) again h = cc h
 
-not_met : (earlier : List Numbered) (e : Numbered) (rest : Option Refusal) (title : List ℕ) (found : Option ℕ)
-    → (rest ≡ Some (L12 title) → ⊥)
-    → option_or (shared_at earlier e found) rest ≡ Some (L12 title) → ⊥
-not_met earlier e rest title None again h = again h
-not_met earlier e rest title (Some index) again h = not_named e rest title (slice_get earlier index) again h
+not_shared_at : (earlier : List Numbered) (e : Numbered) (rest : Option Refusal) (title : List ℕ) (found : Option ℕ)
+    → (rest ≡ Some (L12 title) → ⊥) → option_or (shared_at earlier e found) rest ≡ Some (L12 title) → ⊥
+not_shared_at earlier e rest title None again h = again h
+not_shared_at earlier e rest title (Some index) again h =
+    not_read e rest title (slice_get earlier index) again h
 
 not_shared : (fixed earlier : List Numbered) (title : List ℕ) → shared_after earlier fixed ≡ Some (L12 title) → ⊥
 not_shared [] earlier title h = cc h
 not_shared (e ∷ more) earlier title h =
-    not_met earlier e (shared_after (earlier ++ e ∷ []) more) title (first_met earlier e)
+    not_shared_at earlier e (shared_after (earlier ++ e ∷ []) more) title (first_met earlier e)
     (not_shared more (earlier ++ e ∷ []) title) h
 
--- overlaid segments of an order, and the plain ones after them
-record AreEnded (g : GraphParts) (next : List Ranked) : Type 0 where
-  rest : List Ranked
-  are : next ≡ overlaid_in next ++ rest
-  plain : All (IsPlain g) rest
+own_some : (own : Option ℕ) → is_some own ≡ true → (unit : ℕ) × (own ≡ Some unit)
+own_some None absent = absurd (false≢true absent)
+own_some (Some unit) there = (unit, refl)
 
-none_overlaid : (g : GraphParts) (segments : List JoinedSegment) (next : List Ranked) → All (IsRankedOf g segments) next
-    → All (IsPlain g) next → overlaid_in next ≡ []
-none_overlaid g segments [] ranked plain = refl
-none_overlaid g segments (t ∷ more) ranked plain =
-    let here : IsRankedOf g segments t = All-head (IsRankedOf g segments) t more ranked in
-    let bare : is_some t.own ≡ false = ap is_some (here.own ∙ All-head (IsPlain g) t more plain) in
-    ap (λ (b : Bool). cond b (t ∷ overlaid_in more) (overlaid_in more)) bare
-    ∙ none_overlaid g segments more (All-tail (IsRankedOf g segments) t more ranked) (All-tail (IsPlain g) t more plain)
+refused_by : (count : ℕ) (g : GraphParts) (answer : Answer) (refusal : Refusal) → placing_from g count answer
+    ≡ Err refusal → answer ≡ Err refusal
+refused_by count g (Ok located) refusal k = absurd (cc k)
+refused_by count g (Err other) refusal k = let same : other ≡ refusal = cc k in ap (λ (r : Refusal). Err r) same
 
-module _ (g : GraphParts) (segments : List JoinedSegment) where
-  owned_here : (t : Ranked) (unit : ℕ) → IsRankedOf g segments t → IsOwn g unit t.number → is_some t.own ≡ true
-  owned_here t unit ranked own = ap is_some (ranked.own ∙ own_read g t.number unit own)
+module _ (c : Program) (low high weight : ℕ) (data_only : OverlaysData (segments c) c.g)
+    (leaves : LeavesRun c.g (fixed c) (order c) low high) (h : IsWeightOf (segments c) c.g weight) where
+  parts : AreParts c.g (order c)
+  parts = order_parts c.g c.controls (segments c) data_only
 
-  -- after an overlaid one
-  ended_after : (t : Ranked) (unit : ℕ) (next : List Ranked) → IsLocalData g t unit → All (Earlier t) next
-      → All (IsRankedOf g segments) next → All (IsEither g) next → AllPairs Earlier next → AreEnded g next
-  ended_after t unit [] local before ranked either rising =
-      record { rest = []; are = refl; plain = All-nil (IsPlain g) }
-  ended_after t unit (u ∷ more) local before ranked either rising =
-      elim (All-head (IsEither g) u more either) as (λ _. AreEnded g (u ∷ more)) [
-        | OnePlain lone group ↦
-            let all : All (IsPlain g) (u ∷ more) = All-cons (IsPlain g) u more lone
-            (lone_after g t u unit local (All-head (Earlier t) u more before) group more (head_pairs u more rising)
-            (All-tail (IsEither g) u more either)) in
-            record {
-              rest = u ∷ more;
-              are =
-                  ap (λ (ts : List Ranked). ts ++ u ∷ more) (sym (none_overlaid g segments (u ∷ more) ranked all));
-              plain =
-                  all;
-            }
-        | OneLocal unit' local' no_argument ↦
-            let rest =
-            ended_after u unit' more local' (head_pairs u more rising) (All-tail (IsRankedOf g segments) u more ranked)
-            (All-tail (IsEither g) u more either) (tail_pairs u more rising) in
-            let own = owned_here u unit' (All-head (IsRankedOf g segments) u more ranked) local'.own in
-            record {
-              rest = rest.rest;
-              are = ap (λ (ts : List Ranked). u ∷ ts) rest.are
-                  ∙ ap (λ (b : Bool). cond b (u ∷ overlaid_in more) (overlaid_in more) ++ rest.rest) (sym own);
-              plain = rest.plain;
-            }
-      ]
+  -- placing the whole order, by its parts
+  abbrev first : Answer
+  first = place_after c.g (fixed c) (before_overlaid (order c))
 
-  -- from the first overlaid one on
-  ended : (next : List Ranked) → ((t : Ranked) (more : List Ranked) → next ≡ t ∷ more → is_some t.own ≡ true)
-      → All (IsRankedOf g segments) next → All (IsEither g) next → AllPairs Earlier next → AreEnded g next
-  ended [] first ranked either rising = record { rest = []; are = refl; plain = All-nil (IsPlain g) }
-  ended (t ∷ more) first ranked either rising =
-      elim (All-head (IsEither g) t more either) as (λ _. AreEnded g (t ∷ more)) [
-        | OnePlain lone group ↦ absurd
-            (own_some t.own (first t more refl) ((All-head (IsRankedOf g segments) t more ranked).own ∙ lone))
-        | OneLocal unit local no_argument ↦
-            let rest =
-            ended_after t unit more local (head_pairs t more rising) (All-tail (IsRankedOf g segments) t more ranked)
-            (All-tail (IsEither g) t more either) (tail_pairs t more rising) in
-            record {
-              rest = rest.rest;
-              are = ap (λ (ts : List Ranked). t ∷ ts) rest.are
-                  ∙ ap (λ (b : Bool). cond b (t ∷ overlaid_in more) (overlaid_in more) ++ rest.rest)
-                  (sym (first t more refl));
-              plain = rest.plain;
-            }
-      ]
+  abbrev later : List Numbered → Answer
+  later es = and_then (place_after c.g es (overlaid_in (order c))) (λ fs. place_after c.g fs parts.rest)
 
-overlaid_from : (order : List Ranked) → overlaid_in (from_overlaid order) ≡ overlaid_in order
-overlaid_from [] = refl
-overlaid_from (t ∷ more) =
-    elim (cases_Bool (is_some t.own)) as (λ _. overlaid_in (from_overlaid (t ∷ more)) ≡ overlaid_in (t ∷ more)) [
-      | inl own ↦ ap (λ (b : Bool). overlaid_in (cond b (t ∷ more) (from_overlaid more))) own
-      | inr none ↦
-          ap (λ (b : Bool). overlaid_in (cond b (t ∷ more) (from_overlaid more))) none ∙ overlaid_from more
-          ∙ ap (λ (b : Bool). cond b (t ∷ overlaid_in more) (overlaid_in more)) (sym none)
-    ]
-
-all_overlaid : (order : List Ranked) (t : Ranked) → Contains (overlaid_in order) t → Contains order t
-    × (is_some t.own ≡ true)
-all_overlaid [] t h = absurd (omega (arith, h.1))
-all_overlaid (u ∷ more) t h =
-    elim (cases_Bool (is_some u.own)) as (λ _. Contains (u ∷ more) t × (is_some t.own ≡ true)) [
-      | inl own ↦ elim
-          (first_or_behind u (overlaid_in more) t
-          (subst (λ (b : Bool). Contains (cond b (u ∷ overlaid_in more) (overlaid_in more)) t) own h)) as
-          (λ _. Contains (u ∷ more) t × (is_some t.own ≡ true)) [
-            | inl same ↦ ((0, omega arith, same), ap (λ (x : Ranked). is_some x.own) (sym same) ∙ own)
-            | inr behind ↦ let rest = all_overlaid more t behind in (contains_behind u more t rest.0, rest.1)
-          ]
-      | inr none ↦
-          let rest =
-          all_overlaid more t
-          (subst (λ (b : Bool). Contains (cond b (u ∷ overlaid_in more) (overlaid_in more)) t) none h) in
-          (contains_behind u more t rest.0, rest.1)
-    ]
-
-module _ (modules : List ModuleParts) (controls : List (ℕ × Control)) (g : GraphParts) (low high weight : ℕ)
-    (valid : All IsValid modules) (kept : AreKept controls) (is : IsGraph g)
-    (graph_is_of : graph_of modules controls ≡ Ok g)
-    (data_only : OverlaysData (segments_of modules) g)
-    (leaves : LeavesRun g (fixed_of modules controls (segments_of modules))
-    (order_of g controls (segments_of modules)) low high)
-    (h : IsWeightOf (segments_of modules) g weight) where
-  abbrev segments : List JoinedSegment
-  segments = segments_of modules
-
-  abbrev fixed : List Numbered
-  fixed = fixed_of modules controls segments
-
-  abbrev order : List Ranked
-  order = order_of g controls segments
-
-  ranked : All (IsRankedOf g segments) order
-  ranked = order_ranked g controls segments
-
-  either : All (IsEither g) order
-  either = order_either g controls segments data_only
-
-  end : AreEnded g (from_overlaid order)
-  end =
-      ended g segments (from_overlaid order) (begins order)
-      (all_from (IsRankedOf g segments) order ranked) (all_from (IsEither g) order either)
-      (pairs_from order (in_order g controls segments).rises)
-
-  parts : order ≡ before_overlaid order ++ (overlaid_in order ++ end.rest)
-  parts = split order
-      ∙ ap (λ (ts : List Ranked). before_overlaid order ++ ts)
-      (end.are ∙ ap (λ (ts : List Ranked). ts ++ end.rest) (overlaid_from order))
-
-  -- placing by the answer of placing after fixed extents that share no cell
-  placing_by : shared_extents fixed ≡ None → (refusal : Refusal) → place_after g fixed order ≡ Err refusal
-      → placing_of modules controls g ≡ Err refusal
-  placing_by shares refusal refused =
-      ap (λ (o : Option Refusal). placing_from g (length segments) (unless o (place_after g fixed order))) shares
-      ∙ ap (placing_from g (length segments)) refused
-
-  refused_by : (answer : Result (List Numbered) Refusal) (refusal : Refusal) → placing_from g (length segments) answer
-      ≡ Err refusal → answer ≡ Err refusal
-  refused_by (Ok located) refusal k = absurd (cc k)
-  refused_by (Err other) refusal k = let same : other ≡ refusal = cc k in ap (λ (r : Refusal). Err r) same
+  placing : place_after c.g (fixed c) (order c) ≡ and_then first later
+  placing =
+      let split = place_append c.g (before_overlaid (order c)) (overlaid_in (order c) ++ parts.rest) (fixed c) in
+      ap (place_after c.g (fixed c)) parts.are ∙ split
+      ∙ ap (and_then first) (λ i es. place_append c.g (overlaid_in (order c)) parts.rest es i)
 
   -- a plain segment of the order does not have the name of an overlaid one
-  not_plain : (r : RefusesOverlaid modules controls g) (t : Ranked) → Contains order t → IsPlain g t
+  not_plain : (r : RefusesOverlaid c.modules c.controls c.g) (t : Ranked) → In t (order c) → IsPlain c.g t
       → L12 r.segment.title ≡ L12 t.segment.title → ⊥
   not_plain r t there plain same =
-      let of : IsRankedOf g segments t = All-contains (IsRankedOf g segments) order t ranked there in
-      let title : r.segment.title ≡ t.segment.title = cc same in
+      let of = every_in (IsRankedOf c.g c.controls (segments c)) (order c) t (ranked c) there in
       let told = data_only.data_only r.number r.unit r.segment r.own r.is in
       let one =
-      one_title modules r.number t.number r.segment t.segment r.is of.segment
-      (ap is_absolute told.1) of.relocatable title in
-      own_some (own_at g t.number)
-      (ap is_some (own_read g t.number r.unit (subst (λ (n : ℕ). IsOwn g r.unit n) one r.own))) plain
+      one_title c.modules r.number t.number r.segment t.segment r.is of.segment
+      (ap is_absolute told.1) of.relocatable (cc same) in
+      absurd (cc (own_read c.g r.number r.unit r.own, ap (own_at c.g) one, plain))
 
-  plain_after : (t : Ranked) → Contains end.rest t → Contains order t × IsPlain g t
-  plain_after t there = (
-    subst (λ (ts : List Ranked). Contains ts t) (sym parts)
-        (Contains-append_right (before_overlaid order) (overlaid_in order ++ end.rest) t
-        (Contains-append_right (overlaid_in order) end.rest t there)),
-    All-contains (IsPlain g) end.rest t end.plain there,
-  )
+  in_order : (t : Ranked) → In t (before_overlaid (order c) ++ (overlaid_in (order c) ++ parts.rest)) → In t (order c)
+  in_order t there = rw parts.are there
 
-  -- fixed extents share no cell where L12 comes
-  shares_by : (r : RefusesOverlaid modules controls g) (o : Option Refusal) → shared_extents fixed ≡ o
-      → shared_extents fixed ≡ None
-  shares_by r None k = k
-  shares_by r (Some refusal) k =
-      let answer : ◌≡◌ {A = Result (List Numbered) Refusal} (Err refusal) (Err (L12 r.segment.title)) =
-      sym (ap (λ (o : Option Refusal). unless o (place_after g fixed order)) k)
-      ∙ refused_by (located_of modules controls g) (L12 r.segment.title) r.refused in
-      let same : refusal ≡ L12 r.segment.title = cc answer in
-      absurd (not_shared fixed [] r.segment.title (k ∙ ap (λ (x : Refusal). Some x) same))
+  abbrev setting : shared_extents (fixed c) ≡ None → PlacesBefore c.g (fixed c) (order c) → Setting
+  setting shares before = record {
+    c = c;
+    low = low;
+    high = high;
+    weight = weight;
+    shares = shares;
+    data_only = data_only;
+    front = before.extents;
+    front_is = before.is;
+    run = leaves before.extents before.is;
+    weighed = h;
+  }
 
-  shares_of : (r : RefusesOverlaid modules controls g) → shared_extents fixed ≡ None
-  shares_of r = shares_by r (shared_extents fixed) refl
+  module _ (r : RefusesOverlaid c.modules c.controls c.g) where
+    abbrev refusal : Refusal
+    refusal = L12 r.segment.title
 
-  placing_stops : (r : RefusesOverlaid modules controls g) → place_after g fixed order ≡ Err (L12 r.segment.title)
-  placing_stops r =
-      sym (ap (λ (o : Option Refusal). unless o (place_after g fixed order)) (shares_of r))
-      ∙ refused_by (located_of modules controls g) (L12 r.segment.title) r.refused
+    answer : located_of c.modules c.controls c.g ≡ Err refusal
+    answer = refused_by (length (segments c)) c.g (located_of c.modules c.controls c.g) refusal r.refused
 
-  -- what comes before is placed
-  before_by : (r : RefusesOverlaid modules controls g) (answer : Result (List Numbered) Refusal)
-      → place_after g fixed (before_overlaid order) ≡ answer → PlacesBefore g fixed order
-  before_by r (Ok extents) k = record { extents = extents; is = k }
-  before_by r (Err refusal) k =
-      let later : List Ranked = overlaid_in order ++ end.rest in
-      let stopped : place_after g fixed order ≡ Err refusal = ap (place_after g fixed) parts
-      ∙ stops g (before_overlaid order) later fixed refusal k in
-      let answer : ◌≡◌ {A = Result (List Numbered) Refusal} (Err refusal) (Err (L12 r.segment.title)) = sym stopped
-      ∙ placing_stops r in
-      let same : refusal ≡ L12 r.segment.title = cc answer in
-      let named = named_in g (before_overlaid order) fixed refusal k in
-      let there : Contains order named.t =
-      subst (λ (ts : List Ranked). Contains ts named.t) (sym parts)
-      (Contains-append_left (before_overlaid order) later named.t named.there) in
-      absurd (not_plain r named.t there
-      (All-contains (IsPlain g) (before_overlaid order) named.t (lone_before g segments order ranked) named.there)
-      (sym same ∙ named.named))
+    -- fixed extents share no cell
+    shares_by : (o : Option Refusal) → shared_extents (fixed c) ≡ o → unless o (place_after c.g (fixed c) (order c))
+        ≡ Err refusal → o ≡ None
+    shares_by None is k = refl
+    shares_by (Some other) is k =
+        let same : other ≡ refusal = cc k in
+        absurd (not_shared (fixed c) [] r.segment.title (is ∙ ap (λ (x : Refusal). Some x) same))
 
-  before_of : (r : RefusesOverlaid modules controls g) → PlacesBefore g fixed order
-  before_of r = before_by r (place_after g fixed (before_overlaid order)) refl
+    shares : shared_extents (fixed c) ≡ None
+    shares = shares_by (shared_extents (fixed c)) refl answer
 
-  -- and the weight exceeds the run
-  exceeds_of : (r : RefusesOverlaid modules controls g) → high - low < weight
-  exceeds_of r = elim (cases_lt (high - low) weight) as (λ _. high - low < weight) [
-    | inl less ↦ less
-    | inr not_less ↦
-        let before = before_of r in
-        let run = leaves before.extents before.is in
-        let finds : FindsRun g fixed order low high =
-        record { extents = before.extents; placed = before.is; run = run } in
-        let fit =
-        overlay_fits modules controls g low high weight valid kept is graph_is_of (shares_of r) data_only finds h
-        (omega (arith, not_less, run.order)) in
-        let on : place_after g fixed order ≡ place_after g fit.located end.rest =
-        ap (place_after g fixed) parts
-        ∙ goes_on g (before_overlaid order) (overlaid_in order ++ end.rest) fixed before.extents before.is
-        ∙ goes_on g (overlaid_in order) end.rest before.extents fit.located fit.is in
-        let named = named_in g end.rest fit.located (L12 r.segment.title) (sym on ∙ placing_stops r) in
-        let plain = plain_after named.t named.there in
-        absurd (not_plain r named.t plain.0 plain.1 named.named)
-  ]
+    -- the placing stops after what comes before
+    stopped : and_then first later ≡ Err refusal
+    stopped = sym placing ∙ ap (λ (o : Option Refusal). unless o (place_after c.g (fixed c) (order c))) (sym shares)
+        ∙ answer
 
-  exceeds : RefusesOverlaid modules controls g → ExceedsRun g fixed order low high weight
-  exceeds r = record { shares = shares_of r; before = before_of r; exceeds = exceeds_of r }
+    plain_only : (ts : List Ranked) → Every (IsPlain c.g) ts → ((t : Ranked) → In t ts → In t (order c))
+        → Names ts refusal → ⊥
+    plain_only ts plain there named =
+        not_plain r named.0 (there named.0 named.1) (every_in (IsPlain c.g) ts named.0 plain named.1) named.2
+
+    before_by : (found : Answer) → first ≡ found → and_then found later ≡ Err refusal
+        → PlacesBefore c.g (fixed c) (order c)
+    before_by (Ok extents) is k = record { extents = extents; is = is }
+    before_by (Err other) is k =
+        let same : other ≡ refusal = cc k in
+        absurd (plain_only (before_overlaid (order c)) (lone_before c.g c.controls (segments c) (order c) (ranked c))
+        (λ t there. in_order t (in_left (before_overlaid (order c)) (overlaid_in (order c) ++ parts.rest) t there))
+        (named_in c.g (before_overlaid (order c)) (fixed c) refusal (rw same at is)))
+
+    before : PlacesBefore c.g (fixed c) (order c)
+    before = before_by first refl stopped
+
+    exceeds : ExceedsRun c.g (fixed c) (order c) low high weight
+    exceeds = record {
+      shares = shares;
+      before = before;
+      exceeds = elim (cases_lt (high - low) weight) [
+        | inl less ↦ less
+        | inr not_less ↦
+            let t : Setting = setting shares before in
+            let fit = placed t (omega (arith, not_less, t.run.order)) _ refl (settled t) in
+            let last = rw fit.is at (rw before.is at stopped) in
+            absurd (plain_only parts.rest parts.after
+            (λ u there. in_order u (in_right (before_overlaid (order c)) (overlaid_in (order c) ++ parts.rest) u
+            (in_right (overlaid_in (order c)) parts.rest u there))) (named_in c.g parts.rest fit.located refusal last))
+      ];
+    }
 
   -- where it does, an overlaid segment has no base
-  refuses_by : (e : ExceedsRun g fixed order low high weight) (answer : Result (List Numbered) Refusal)
-      → place_after g e.before.extents (overlaid_in order) ≡ answer → RefusesOverlaid modules controls g
-  refuses_by e (Ok located) k =
-      let run = leaves e.before.extents e.before.is in
-      let fits =
-      holds modules controls g low high weight valid kept is graph_is_of e.shares e.before.extents e.before.is run
-      located k h in
-      absurd (omega (arith, fits, e.exceeds, run.order))
-  refuses_by e (Err refusal) k =
-      let named = named_in g (overlaid_in order) e.before.extents refusal k in
-      let there = all_overlaid order named.t named.there in
-      let of : IsRankedOf g segments named.t = All-contains (IsRankedOf g segments) order named.t ranked there.0 in
-      let unit = some_own named.t.own there.1 in
-      let stopped : place_after g fixed order ≡ Err refusal =
-      ap (place_after g fixed) parts
-      ∙ goes_on g (before_overlaid order) (overlaid_in order ++ end.rest) fixed e.before.extents e.before.is
-      ∙ stops g (overlaid_in order) end.rest e.before.extents refusal k in
+  refuses_by : (e : ExceedsRun c.g (fixed c) (order c) low high weight) (found : Answer)
+      → place_after c.g e.before.extents (overlaid_in (order c)) ≡ found → RefusesOverlaid c.modules c.controls c.g
+  refuses_by e (Ok located) is =
+      let t : Setting = setting e.shares e.before in absurd (omega (arith, holds t located is, e.exceeds, t.run.order))
+  refuses_by e (Err refusal) is =
+      let named = named_in c.g (overlaid_in (order c)) e.before.extents refusal is in
+      let there = in_filter (λ (t : Ranked). is_some t.own) (order c) named.0 named.1 in
+      let of = every_in (IsRankedOf c.g c.controls (segments c)) (order c) named.0 (ranked c) there.0 in
+      let unit = own_some named.0.own there.1 in
+      let stopped : place_after c.g (fixed c) (order c) ≡ Err refusal = placing
+      ∙ ap (λ (a : Answer). and_then a later) e.before.is
+      ∙ ap (λ (a : Answer). and_then a (λ fs. place_after c.g fs parts.rest)) is in
       record {
-        number = named.t.number;
+        number = named.0.number;
         unit = unit.0;
-        segment = named.t.segment;
+        segment = named.0.segment;
         is = of.segment;
-        own = own_is g named.t.number unit.0 (sym of.own ∙ unit.1);
-        refused = placing_by e.shares refusal stopped ∙ ap (λ (r : Refusal). Err r) named.named;
-      } where
-        some_own : (own : Option ℕ) → is_some own ≡ true → (unit : ℕ) × (own ≡ Some unit)
-        some_own None absent = absurd (false≢true absent)
-        some_own (Some unit) there = (unit, refl)
-
-  refuses : ExceedsRun g fixed order low high weight → RefusesOverlaid modules controls g
-  refuses e = refuses_by e (place_after g e.before.extents (overlaid_in order)) refl
+        own = own_is c.g named.0.number unit.0 (sym of.own ∙ unit.1);
+        refused =
+            ap (λ (o : Option Refusal). placing_from c.g (length (segments c))
+            (unless o (place_after c.g (fixed c) (order c)))) e.shares
+            ∙ ap (placing_from c.g (length (segments c))) stopped ∙ ap (λ (x : Refusal). Err x) named.2;
+      }
 
 pub overlay_is_refused : OverlayRefused
-overlay_is_refused modules controls g low high weight valid kept is graph_is_of data_only leaves h = (
-  exceeds modules controls g low high weight valid kept is graph_is_of data_only leaves h,
-  refuses modules controls g low high weight valid kept is graph_is_of data_only leaves h,
-)
+overlay_is_refused modules controls g low high weight valid kept is graph_is data_only leaves h =
+    let c : Program = record
+    { modules = modules; controls = controls; g = g; valid = valid; kept = kept; is = is; of = graph_is } in (
+      exceeds c low high weight data_only leaves h,
+      λ e. refuses_by c low high weight data_only leaves h e _ refl,
+    )

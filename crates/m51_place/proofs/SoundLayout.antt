@@ -1,116 +1,327 @@
--- The layout of what was placed is sound.
-use Rattle.m51_place.proofs.Common.{◌≡◌, ◌≢◌, inl, inr, ℕ, zero, suc, ◌+◌, ◌<◌, ◌≤◌, true, false, Bool, cond, List, []}
-use Rattle.m51_place.proofs.Common.{◌∷◌, ◌++◌, length, map, get_or, Option, Some, None, refl, sym, ap, subst, ◌∙◌}
-use Rattle.m51_place.proofs.Common.{arith, slice_get, option_map, option_map_or, Contains, range_with_len, Decides-eqb}
-use Rattle.m51_place.proofs.Common.{append-nil, length-map, All-get_or, Contains-append_cases, get_or_from_slice_get}
-use Rattle.m51_place.proofs.Common.{none-some, same_Some, slice_get-get_or, slice_get-map, slice_get_within, Code, Meet}
-use Rattle.m51_place.proofs.Common.{Control, LayoutParts, Absolute, Overlaid, Placed, extent_at, FirstPlain}
-use Rattle.m51_place.proofs.Common.{SecondPlain, Owners, IsSegment, layout_graph, owners_of, IsFit, IsSound, reach_edge}
-use Rattle.m51_place.proofs.Common.{contains_behind, first_or_behind, none_in_empty, JoinedSegment, GraphParts}
-use Rattle.m51_place.proofs.Common.{edge_test, IsGraph, SegmentsConflict, is_absolute, code_segments, units_of}
-use Rattle.m51_place.proofs.Common.{Numbered, in_conflict, is_argument_at, owners_at, owners_with, own_at}
+-- The layout of what was placed is sound, and each vector has at most one root.
+use Rattle.m51_place.proofs.Common.{◌≡◌, inl, inr, ℕ, zero, suc, ◌+◌, ◌<◌, ◌≤◌, true, false, Bool, cond, nat_eq, List}
+use Rattle.m51_place.proofs.Common.{[], ◌∷◌, get_or, map, Some, refl, sym, ap, subst, ◌∙◌, arith, slice_get, Contains}
+use Rattle.m51_place.proofs.Common.{list_any, list_any_at, and_parts, vectors, JoinedSegment, is_absolute}
+use Rattle.m51_place.proofs.Common.{code_segments, units_of, cases_Bool, ◌⊎◌, ◌≢◌, ◌++◌, Option, None, All, same_Some}
+use Rattle.m51_place.proofs.Common.{Cell, Code, Covers, Control, IsAllowed, extent_at, ModuleParts, GraphParts}
+use Rattle.m51_place.proofs.Common.{Numbered, in_conflict, absolute, absolutes_from, banks_of, fixed_of, reserves_of}
+use Rattle.m51_place.proofs.Common.{shared_extents, own_at, length, option_map_or, range_with_len, append-nil}
+use Rattle.m51_place.proofs.Common.{length-map, slice_get_within, Meet, LayoutParts, Overlaid, Placed, FirstPlain}
+use Rattle.m51_place.proofs.Common.{SecondPlain, Owners, IsSegment, layout_graph, owners_of, IsSound, reach_edge}
+use Rattle.m51_place.proofs.Common.{none_in_empty, edge_test, IsGraph, SegmentsConflict, is_argument_at, owners_at}
 use Rattle.m51_place.proofs.Common.{parts_of_layout}
-use Rattle.std.proofs.lemmas.List.FromFn.{get_or-range_with_len, length-range_with_len}
-use Rattle.std.proofs.lemmas.List.Kept.{AllPairs-filter}
+use Rattle.std.proofs.lemmas.Bool.{eq-eqb, cases_order, ne_eqb}
+use Rattle.m51_cells.specs.Kinds.{is_code}
+use Rattle.m51_graph.specs.Units.{is_root, roots_from, units_from}
+use Rattle.m51_cells.proofs.Members.{contains_in, Every, every_in, every_weaker, got_in, In, in_cons, map_at, map_got}
+use Rattle.m51_cells.proofs.Members.{map_in, Pairs, pairs_at, in_contains, in_right, pairs_in}
+use Rattle.m51_place.proofs.Ranks.{AreFrom, from_head, from_start, from_tail, joined_at, IsJoined, IsOf}
 use Rattle.m51_cells.proofs.KindLaws.{code_is}
+use Rattle.m51_module.specs.Cells.{code_cell}
+use Rattle.m51_place.proofs.Free.{KeepApart}
+use Rattle.m51_place.proofs.Whole.{fixed_apart, fixed_bare, IsSegmentOf, IsSpot, found, IsWhole, only}
+use Rattle.m51_place.proofs.Piled.{own_of}
+use Rattle.std.proofs.lemmas.List.FromFn.{get_or-range_with_len, length-range_with_len, get_or-map-range_with_len}
+use Rattle.std.proofs.lemmas.List.FromFn.{length-map-range_with_len}
+use Rattle.std.proofs.lemmas.List.Kept.{AllPairs-filter}
 use Rattle.m51_module.specs.Laws.{HaveSameUnits}
-use Rattle.m51_module.specs.Plan.{ExtentsConflict, IsCodeSegment, IsOverlaid, IsPlaced, IsRootAt}
-use Rattle.m51_module.specs.Plan.{Owns, UnitLiesUnder}
+use Rattle.m51_module.specs.Plan.{ExtentsConflict, IsCodeSegment, IsOverlaid, IsPlaced, IsRootAt, Owns, UnitLiesUnder}
 use Rattle.m51_module.specs.Rising.{Rises}
 use Rattle.m51_module.proofs.Conflicts.{conflict_back, related_there}
-use Rattle.m51_module.proofs.Owning.{owners_by, pair_of_owner}
 use Rattle.m51_graph.specs.Graph as graph
-use Rattle.m51_cells.specs.Kinds.{is_code}
-use Rattle.m51_graph.specs.Units.{roots_of}
 use Rattle.m51_place.specs.Conflicts.{callers_of}
-use Rattle.m51_place.specs.Placement.{owner_pairs, owners_of_extent, pairs_with, joined_index}
-use Rattle.m51_place.proofs.After.{conflicts, KeepApart}
+use Rattle.m51_place.specs.Placement.{owner_pairs, owners_of_extent, pairs_with, joined_index, joined_base}
+use Rattle.m51_place.specs.Placement.{placing_with}
 use Rattle.m51_place.proofs.Conflicting.{caller_edge, conflict_tells, own_read, owner_owns}
-use Rattle.m51_place.proofs.Segments.{IsOf}
-use Rattle.m51_place.proofs.Spots.{IsSegmentOf, IsSpot}
-use Rattle.m51_place.proofs.Ranks.{from_start, other_number}
-use Rattle.m51_place.proofs.UnitPlaces.{code_of_unit, is_root_at, root_absolute, root_found, root_there, unit_of_code}
-use Rattle.m51_place.proofs.UnitPlaces.{unit_there, units_rise, UnitAt}
-use Rattle.m51_place.proofs.Whole.{found, IsWhole, only, order_of_two}
+use Rattle.m51_place.specs.Places.{ArePlaces, IsPlacedAs, IsSegmentAt}
 
--- a list and its images
-pub image_in : {A B : Type 0} (f : A → B) (xs : List A) (k : ℕ) (x : A) → slice_get xs k ≡ Some x
-    → Contains (map f xs) (f x)
-image_in f xs k x h =
-    let at : slice_get (map f xs) k ≡ Some (f x) = slice_get-map f xs k ∙ ap (option_map f) h in
-    (k, slice_get_within (map f xs) k (f x) at, get_or_from_slice_get (map f xs) k (f x) (f x) at)
+-- Units, the segments that they are, and roots.
 
-pub map_at : {A B : Type 0} (f : A → B) (xs : List A) (k : ℕ) (y : B) (read : Option A) → slice_get xs k ≡ read
-    → slice_get (map f xs) k ≡ Some y → (x : A) × (slice_get xs k ≡ Some x) × (f x ≡ y)
-map_at f xs k y None is h = absurd (none-some y (sym (slice_get-map f xs k ∙ ap (option_map f) is) ∙ h))
-map_at f xs k y (Some x) is h = (x, is, same_Some (f x) y (sym (slice_get-map f xs k ∙ ap (option_map f) is) ∙ h))
+-- the segments that are units, each with its number
+abbrev picks : ℕ → List JoinedSegment → List (ℕ × JoinedSegment)
+picks number [] = []
+picks number (j ∷ more) =
+    cond (is_code j.kind) ((number, j) ∷ picks (number + 1) more) (picks (number + 1) more)
 
-contains_image : {A B : Type 0} (f : A → B) (xs : List A) (x : A) → Contains xs x → Contains (map f xs) (f x)
-contains_image f xs x h = image_in f xs h.0 x (slice_get-get_or xs h.0 x h.1 ∙ ap (λ y. Some y) h.2)
+abbrev pick_number : ℕ × JoinedSegment → ℕ
+pick_number p = p.0
 
--- the owners of placed extents
-number_of : (e : Numbered) (number : Option ℕ) → e.number ≡ number → (e.number ≡ None → ⊥) → (n : ℕ)
-    × (e.number ≡ Some n)
-number_of e None is h = absurd (h is)
-number_of e (Some n) is h = (n, is)
+abbrev pick_segment : ℕ × JoinedSegment → JoinedSegment
+pick_segment p = p.1
 
-pub owner_number : (g : GraphParts) (e : Numbered) (number : Option ℕ) (unit : ℕ) → e.number ≡ number
-    → Contains (owners_of_extent g e) unit → (n : ℕ) × (e.number ≡ Some n) × Contains (owners_at g n) unit
-owner_number g e None unit is h =
-    absurd (none_in_empty unit
-    (subst (λ (number : Option ℕ). Contains (option_map_or (owners_at g) number []) unit) is h))
-owner_number g e (Some n) unit is h =
-    (n, is, subst (λ (number : Option ℕ). Contains (option_map_or (owners_at g) number []) unit) is h)
+record IsPick (segments : List JoinedSegment) (number : ℕ) (p : ℕ × JoinedSegment) : Type 0 where
+  from : number ≤ p.0
+  segment : slice_get segments p.0 ≡ Some p.1
+  code : is_code p.1.kind ≡ true
 
--- the pairs of owners, from an index on
-record IsPaired (g : GraphParts) (first : ℕ) (es : List Numbered) (index unit : ℕ) : Type 0 where
-  k : ℕ
-  place_is : index ≡ first + k
-  e : Numbered
-  at : slice_get es k ≡ Some e
-  owner : Contains (owners_of_extent g e) unit
+record ArePicked (segments : List JoinedSegment) (number : ℕ) (rest : List JoinedSegment)
+    (ps : List (ℕ × JoinedSegment)) : Type 0 where
+  units : units_from number rest ≡ map pick_number ps
+  codes : code_segments rest ≡ map pick_segment ps
+  each : Every (IsPick segments number) ps
+  rise : Pairs (λ p q. p.0 < q.0) ps
+  all : (k : ℕ) (j : JoinedSegment) → slice_get rest k ≡ Some j → is_code j.kind ≡ true → In (number + k, j) ps
 
-pair_first : (index : ℕ) (owners : List ℕ) (s unit : ℕ) → Contains (pairs_with index owners) (s, unit) → (s ≡ index)
-    × Contains owners unit
-pair_first index [] s unit h = absurd (none_in_empty (s, unit) h)
-pair_first index (u ∷ us) s unit h =
-    elim (first_or_behind (index, u) (pairs_with index us) (s, unit) h) as (λ _. (s ≡ index) × Contains (u ∷ us) unit) [
-      | inl same ↦ (sym (ap (λ (p : ℕ × ℕ). p.0) same), (0, omega arith, ap (λ (p : ℕ × ℕ). p.1) same))
-      | inr behind ↦ let rest = pair_first index us s unit behind in (rest.0, contains_behind u us unit rest.1)
-    ]
+module _ (segments : List JoinedSegment) where
+  later : (number : ℕ) (ps : List (ℕ × JoinedSegment)) → Every (IsPick segments (number + 1)) ps
+      → Every (IsPick segments number) ps
+  later number ps h = every_weaker _ _ ps
+      (λ p is. record { from = omega (arith, is.from); segment = is.segment; code = is.code }) h
 
-paired : (g : GraphParts) (first : ℕ) (es : List Numbered) (index unit : ℕ)
-    → Contains (owner_pairs g first es) (index, unit) → IsPaired g first es index unit
-paired g first [] index unit h = absurd (none_in_empty (index, unit) h)
-paired g first (e ∷ es) index unit h =
-    elim (Contains-append_cases (pairs_with first (owners_of_extent g e)) (owner_pairs g (first + 1) es)
-    (index, unit) h) as (λ _. IsPaired g first (e ∷ es) index unit) [
-      | inl here ↦ let same = pair_first first (owners_of_extent g e) index unit here in
-          record { k = 0; place_is = omega (arith, same.0); e = e; at = refl; owner = same.1 }
-      | inr behind ↦ let rest = paired g (first + 1) es index unit behind in
-          record {
-            k = suc rest.k;
-            place_is = omega (arith, rest.place_is);
-            e = rest.e;
-            at = rest.at;
-            owner =
-                rest.owner;
-          }
-    ]
+  picked : (number : ℕ) (rest : List JoinedSegment) → AreFrom segments number rest
+      → ArePicked segments number rest (picks number rest)
+  picked number [] h = record { units = refl; codes = refl; each = tt; rise = tt; all = λ k j at. absurd (cc at) }
+  picked number (x ∷ more) h =
+      let ps : List (ℕ × JoinedSegment) = picks (number + 1) more in
+      let rest = picked (number + 1) more (from_tail segments number x more h) in
+      elim (cases_Bool (is_code x.kind)) [
+        | inl code ↦ record {
+          units = rw code (ap (λ (us : List ℕ). number ∷ us) rest.units);
+          codes = rw code (ap (λ (js : List JoinedSegment). x ∷ js) rest.codes);
+          each = rw code (
+            record { from = omega arith; segment = from_head segments number x more h; code = code },
+            later number ps rest.each,
+          );
+          rise = rw code (every_weaker _ _ ps (λ p is. omega (arith, is.from)) rest.each, rest.rise);
+          all = λ k j at is. rw code (elim (all_cases number k x j more at) [
+            | inl here ↦ inl here
+            | inr behind ↦ inr
+                (subst (λ n. In (n, j) ps) (sym behind.1) (rest.all behind.0 j behind.2 is))
+          ]);
+        }
+        | inr other ↦ record {
+          units = rw other rest.units;
+          codes = rw other rest.codes;
+          each = rw other (later number ps rest.each);
+          rise = rw other rest.rise;
+          all = λ k j at is. rw other (elim (all_cases number k x j more at) [
+            | inl here ↦ absurd (cc (other, is, ap (λ (p : ℕ × JoinedSegment). is_code p.1.kind) here))
+            | inr behind ↦ subst (λ n. In (n, j) ps) (sym behind.1) (rest.all behind.0 j behind.2 is)
+          ]);
+        }
+      ]
+    where
+      all_cases : (first k : ℕ) (y j : JoinedSegment) (ys : List JoinedSegment) → slice_get (y ∷ ys) k ≡ Some j
+          → ◌≡◌ {A = ℕ × JoinedSegment} (first, y) (first + k, j)
+          ⊎ ((i : ℕ) × (first + k ≡ first + 1 + i) × (slice_get ys i ≡ Some j))
+      all_cases first zero y j ys at = let same : first + 0 ≡ first = omega arith in
+          inl (rw same (ap (λ (z : JoinedSegment). (first, z)) (cc at)))
+      all_cases first (suc k) y j ys at = inr (k, omega arith, at)
 
-owners_head : (index s : ℕ) (owners : List ℕ) (more : List (ℕ × ℕ)) → index ≡ s
-    → owners_of (pairs_with index owners ++ more) s ≡ owners ++ owners_of more s
-owners_head index s [] more is = refl
-owners_head index s (u ∷ us) more is =
-    ap (λ (b : Bool). owners_by b (index, u) (pairs_with index us ++ more) s) ((Decides-eqb index s).1 is)
-    ∙ ap (λ (xs : List ℕ). u ∷ xs) (owners_head index s us more is)
+  all_picked : ArePicked segments 0 segments (picks 0 segments)
+  all_picked = picked 0 segments (from_start segments)
+
+  -- the unit of that number is this segment
+  pub record UnitAt (unit n : ℕ) (j : JoinedSegment) : Type 0 where
+    pub unit_is : slice_get (units_of segments) unit ≡ Some n
+    pub segment : slice_get segments n ≡ Some j
+    pub code_segment : slice_get (code_segments segments) unit ≡ Some j
+    pub code : is_code j.kind ≡ true
+
+  at_pick : (unit : ℕ) (p : ℕ × JoinedSegment) → slice_get (picks 0 segments) unit ≡ Some p → UnitAt unit p.0 p.1
+  at_pick unit p at =
+      let is = every_in _ (picks 0 segments) p all_picked.each (got_in (picks 0 segments) unit p at) in
+      record {
+        unit_is = rw all_picked.units (map_got pick_number (picks 0 segments) unit p at);
+        segment = is.segment;
+        code_segment = rw all_picked.codes (map_got pick_segment (picks 0 segments) unit p at);
+        code = is.code;
+      }
+
+  -- a unit is a segment of program memory, and such a segment is a unit
+  pub code_of_unit : (unit n : ℕ) → slice_get (units_of segments) unit ≡ Some n → (j : JoinedSegment) × UnitAt unit n j
+  code_of_unit unit n h =
+      let of = map_at pick_number (picks 0 segments) unit n (rw all_picked.units at h) in
+      (of.0.1, rw of.2 at (at_pick unit of.0 of.1))
+
+  pub unit_of_code : (unit : ℕ) (j : JoinedSegment) → slice_get (code_segments segments) unit ≡ Some j
+      → (n : ℕ) × UnitAt unit n j
+  unit_of_code unit j h =
+      let of = map_at pick_segment (picks 0 segments) unit j (rw all_picked.codes at h) in
+      (of.0.0, rw of.2 at (at_pick unit of.0 of.1))
+
+  pub unit_there : (k : ℕ) (j : JoinedSegment) → slice_get segments k ≡ Some j → is_code j.kind ≡ true
+      → In k (units_of segments)
+  unit_there k j at code =
+      let same : 0 + k ≡ k = omega arith in
+      rw all_picked.units
+      (map_in pick_number (picks 0 segments) (k, j) (rw same at (all_picked.all k j at code)))
+
+  -- the numbers of units rise
+  pub units_rise : (u v n m : ℕ) → u < v → slice_get (units_of segments) u ≡ Some n
+      → slice_get (units_of segments) v ≡ Some m → n < m
+  units_rise u v n m less h k =
+      let a = map_at pick_number (picks 0 segments) u n (rw all_picked.units at h) in
+      let b = map_at pick_number (picks 0 segments) v m (rw all_picked.units at k) in
+      let rise = pairs_at _ (picks 0 segments) u v a.0 b.0 all_picked.rise less a.1 b.1 in
+      omega (arith, rise, a.2, b.2)
+
+-- roots among segments of program memory
+pub root_there : (first : ℕ) (codes : List JoinedSegment) (unit : ℕ) (j : JoinedSegment) → slice_get codes unit ≡ Some j
+    → is_root j ≡ true → In (j.base, first + unit) (roots_from first codes)
+root_there first [] unit j h root = absurd (cc h)
+root_there first (x ∷ more) zero j h root =
+    let same : x ≡ j = cc h in
+    let number : first + 0 ≡ first = omega arith in
+    rw (same, root, number) (inl refl)
+root_there first (x ∷ more) (suc unit) j h root =
+    let number : first + 1 + unit ≡ first + suc unit = omega arith in
+    let rest =
+    subst (λ n. In (j.base, n) (roots_from (first + 1) more)) number (root_there (first + 1) more unit j h root) in
+    elim (cases_Bool (is_root x)) [ inl is ↦ rw is (inr rest) | inr other ↦ rw other rest ]
+
+pub record RootAt (first : ℕ) (codes : List JoinedSegment) (vector unit : ℕ) : Type 0 where
+  pub k : ℕ
+  pub number : unit ≡ first + k
+  pub j : JoinedSegment
+  pub segment : slice_get codes k ≡ Some j
+  pub root : is_root j ≡ true
+  pub base : j.base ≡ vector
+
+root_after : (first : ℕ) (x : JoinedSegment) (more : List JoinedSegment) (vector unit : ℕ)
+    → RootAt (first + 1) more vector unit → RootAt first (x ∷ more) vector unit
+root_after first x more vector unit h =
+    record { k = suc h.k; number = omega (arith, h.number); j = h.j; segment = h.segment; root = h.root; base = h.base }
+
+pub root_found : (first : ℕ) (codes : List JoinedSegment) (vector unit : ℕ)
+    → In (vector, unit) (roots_from first codes) → RootAt first codes vector unit
+root_found first [] vector unit h = absurd h
+root_found first (x ∷ more) vector unit h = elim (cases_Bool (is_root x)) [
+  | inl root ↦ elim (in_cons _ _ _ (rw root at h)) [
+    | inl here ↦
+        let number : first ≡ unit = ap (λ (p : ℕ × ℕ). p.1) here in
+        record {
+          k = 0;
+          number = omega (arith, number);
+          j = x;
+          segment = refl;
+          root = root;
+          base = ap (λ (p : ℕ × ℕ). p.0) here;
+        }
+    | inr after ↦ root_after first x more vector unit (root_found (first + 1) more vector unit after)
+  ]
+  | inr other ↦ root_after first x more vector unit (root_found (first + 1) more vector unit (rw other at h))
+]
+
+-- what a root is
+pub root_absolute : (j : JoinedSegment) → is_root j ≡ true → is_absolute j.reloc ≡ true
+root_absolute j h = (and_parts (is_absolute j.reloc) (list_any (nat_eq j.base) vectors) h).0
+
+pub is_root_at : (j : JoinedSegment) (vector : ℕ) → is_absolute j.reloc ≡ true → j.base ≡ vector
+    → Contains vectors vector → is_root j ≡ true
+is_root_at j vector abs base h =
+    rw (
+      abs,
+      list_any_at (nat_eq j.base) vectors h.0 vector h.1
+          (eq-eqb j.base (get_or vectors h.0 vector) (base ∙ sym h.2)),
+    )
+
+-- Where no two fixed extents share a cell, each vector has at most one root.
+
+-- an absolute segment is among the fixed extents
+absolute_there : (first : ℕ) (rest : List JoinedSegment) (k : ℕ) (j : JoinedSegment) → slice_get rest k ≡ Some j
+    → is_absolute j.reloc ≡ true → In (absolute (first + k) j) (absolutes_from first rest)
+absolute_there first [] k j h abs = absurd (cc h)
+absolute_there first (x ∷ more) zero j h abs =
+    let same : x ≡ j = cc h in
+    let number : first + 0 ≡ first = omega arith in
+    rw (same, abs, number) (inl refl)
+absolute_there first (x ∷ more) (suc k) j h abs =
+    let number : first + 1 + k ≡ first + suc k = omega arith in
+    let rest =
+    subst (λ n. In (absolute n j) (absolutes_from (first + 1) more)) number
+    (absolute_there (first + 1) more k j h abs) in
+    elim (cases_Bool (is_absolute x.reloc)) [ inl is ↦ rw is (inr rest) | inr rel ↦ rw rel rest ]
+
+-- a plain segment is in conflict with each other one
+plain_conflict : (g : GraphParts) (n m : ℕ) → n ≢ m → own_at g n ≡ None → in_conflict g n m ≡ true
+plain_conflict g n m ne plain = rw (ne_eqb n m ne, plain)
+
+module _ (g : GraphParts) (modules : List ModuleParts) (controls : List (ℕ × Control)) (segments : List JoinedSegment)
+    (is : IsOf segments controls g) (joined : All IsJoined segments)
+    (allowed : All (λ (line : ℕ × Control). IsAllowed line.1) controls)
+    (shares : shared_extents (fixed_of modules controls segments) ≡ None) where
+  abbrev fixed : List Numbered
+  fixed = fixed_of modules controls segments
+
+  there : (n : ℕ) (j : JoinedSegment) → slice_get segments n ≡ Some j → is_absolute j.reloc ≡ true
+      → In (absolute n j) fixed
+  there n j at abs =
+      let number : 0 + n ≡ n = omega arith in
+      in_right (banks_of modules ++ reserves_of controls) (absolutes_from 0 segments) (absolute n j)
+      (rw number at (absolute_there 0 segments n j at abs))
+
+  bare : (n : ℕ) (j : JoinedSegment) → In (absolute n j) fixed → own_at g n ≡ None
+  bare n j h = every_in (λ e. own_of g e ≡ None) fixed (absolute n j)
+      (fixed_bare g modules controls segments is joined allowed) h
+
+  pub bare_absolute : (n : ℕ) (j : JoinedSegment) → slice_get segments n ≡ Some j → is_absolute j.reloc ≡ true
+      → own_at g n ≡ None
+  bare_absolute n j at abs = bare n j (there n j at abs)
+
+  -- a root, as a fixed extent that covers its vector
+  record IsFixedRoot (vector unit : ℕ) : Type 0 where
+    n : ℕ
+    j : JoinedSegment
+    number : slice_get (units_of segments) unit ≡ Some n
+    there : In (absolute n j) fixed
+    covers : Covers (extent_at (absolute n j).placed) (code_cell vector)
+
+  fixed_root : (vector unit : ℕ) → graph.IsRootAt g vector unit → IsFixedRoot vector unit
+  fixed_root vector unit h =
+      let root = root_found 0 (code_segments segments) vector unit (in_contains _ _ (rw is.roots at h)) in
+      let at = unit_of_code segments root.k root.j root.segment in
+      let unit_is : unit ≡ root.k = omega (arith, root.number) in
+      let abs = root_absolute root.j root.root in
+      let some : 0 < root.j.size = (joined_at IsJoined segments at.0 root.j joined at.1.segment).some abs in
+      record {
+        n = at.0;
+        j = root.j;
+        number = ap (slice_get (units_of segments)) unit_is ∙ at.1.unit_is;
+        there = there at.0 root.j at.1.segment abs;
+        covers = rw (code_is root.j.kind at.1.code)
+            (record { space = refl; from = omega (arith, root.base); below = omega (arith, root.base, some) });
+      }
+
+  -- two fixed segments that cover one cell have one number
+  one_number : (n m : ℕ) (j k : JoinedSegment) (c : Cell) → n ≢ m → In (absolute n j) fixed → In (absolute m k) fixed
+      → Covers (extent_at (absolute n j).placed) c → Covers (extent_at (absolute m k).placed) c → ⊥
+  one_number n m j k c ne h h' covers covers' =
+      elim (pairs_in (KeepApart g) fixed (absolute n j) (absolute m k) (fixed_apart g fixed [] tt shares) h h') [
+        | inl same ↦ ne (same_Some n m (ap (λ (x : Numbered). x.number) same))
+        | inr pair ↦ elim pair [
+          | inl keep ↦ keep.none (plain_conflict g n m ne (bare n j h)) (c, covers, covers')
+          | inr keep ↦ keep.none (plain_conflict g m n (λ e. ne (sym e)) (bare m k h')) (c, covers', covers)
+        ]
+      ]
+
+  pub one_root_each : (vector a b : ℕ) → graph.IsRootAt g vector a → graph.IsRootAt g vector b → a ≡ b
+  one_root_each vector a b h h' =
+      let one = fixed_root vector a h in
+      let two = fixed_root vector b h' in
+      elim (cases_order a b) [
+        | inl same ↦ same
+        | inr rest ↦ absurd (one_number one.n two.n one.j two.j (code_cell vector) (λ e. elim rest [
+          | inl less ↦ let rise = units_rise segments a b one.n two.n less one.number two.number in
+              omega (arith, rise, e)
+          | inr less ↦ let rise = units_rise segments b a two.n one.n less two.number one.number in
+              omega (arith, rise, e)
+        ]) one.there two.there one.covers two.covers)
+      ]
+
+-- The layout of what was placed is sound.
+
+-- the owners of an index are those of the extent there
+owners_head : (index : ℕ) (owners : List ℕ) (more : List (ℕ × ℕ))
+    → owners_of (pairs_with index owners ++ more) index ≡ owners ++ owners_of more index
+owners_head index [] more = refl
+owners_head index (u ∷ us) more = rw (eq-eqb index index refl)
+    (ap (λ (xs : List ℕ). u ∷ xs) (owners_head index us more))
 
 owners_skip : (index s : ℕ) (owners : List ℕ) (more : List (ℕ × ℕ)) → index ≢ s
     → owners_of (pairs_with index owners ++ more) s ≡ owners_of more s
 owners_skip index s [] more ne = refl
-owners_skip index s (u ∷ us) more ne =
-    ap (λ (b : Bool). owners_by b (index, u) (pairs_with index us ++ more) s) (other_number index s ne)
-    ∙ owners_skip index s us more ne
+owners_skip index s (u ∷ us) more ne = rw (ne_eqb index s ne) (owners_skip index s us more ne)
 
 owners_before : (g : GraphParts) (first : ℕ) (es : List Numbered) (s : ℕ) → s < first
     → owners_of (owner_pairs g first es) s ≡ []
@@ -119,19 +330,33 @@ owners_before g first (e ∷ es) s less =
     owners_skip first s (owners_of_extent g e) (owner_pairs g (first + 1) es) (omega (arith, less))
     ∙ owners_before g (first + 1) es s (omega (arith, less))
 
-pub owners_there : (g : GraphParts) (first : ℕ) (es : List Numbered) (k : ℕ) (e : Numbered) → slice_get es k ≡ Some e
-    → owners_of (owner_pairs g first es) (first + k) ≡ owners_of_extent g e
-owners_there g first [] k e h = absurd (cc h)
-owners_there g first (x ∷ es) zero e h =
-    let same : x ≡ e = cc h in
-    let sum : first ≡ first + 0 = omega arith in
-    owners_head first (first + 0) (owners_of_extent g x) (owner_pairs g (first + 1) es) sum
-    ∙ ap (λ (us : List ℕ). owners_of_extent g x ++ us) (owners_before g (first + 1) es (first + 0) (omega arith))
-    ∙ append-nil (owners_of_extent g x) ∙ ap (owners_of_extent g) same
-owners_there g first (x ∷ es) (suc k) e h =
-    let same : first + suc k ≡ first + 1 + k = omega arith in
-    owners_skip first (first + suc k) (owners_of_extent g x) (owner_pairs g (first + 1) es) (omega arith)
-    ∙ ap (owners_of (owner_pairs g (first + 1) es)) same ∙ owners_there g (first + 1) es k e h
+owners_there : (g : GraphParts) (first : ℕ) (es : List Numbered) (k : ℕ)
+    → owners_of (owner_pairs g first es) (first + k) ≡ option_map_or (owners_of_extent g) (slice_get es k) []
+owners_there g first [] k = refl
+owners_there g first (e ∷ es) zero =
+    let sum : first + 0 ≡ first = omega arith in
+    let more : List (ℕ × ℕ) = owner_pairs g (first + 1) es in
+    rw sum (owners_head first (owners_of_extent g e) more
+    ∙ ap (λ (us : List ℕ). owners_of_extent g e ++ us) (owners_before g (first + 1) es first (omega arith))
+    ∙ append-nil (owners_of_extent g e))
+owners_there g first (e ∷ es) (suc k) =
+    let sum : first + suc k ≡ first + 1 + k = omega arith in
+    rw sum (owners_skip first (first + 1 + k) (owners_of_extent g e) (owner_pairs g (first + 1) es) (omega arith)
+    ∙ owners_there g (first + 1) es k)
+
+pub owners_are : (g : GraphParts) (located : List Numbered) (s : ℕ)
+    → owners_of (owner_pairs g 0 located) s ≡ option_map_or (owners_of_extent g) (slice_get located s) []
+owners_are g located s = let same : 0 + s ≡ s = omega arith in rw same at (owners_there g 0 located s)
+
+-- an extent with an owner is a joined segment
+owner_number : (g : GraphParts) (number : Option ℕ) (unit : ℕ) → Contains (option_map_or (owners_at g) number []) unit
+    → (n : ℕ) × (number ≡ Some n) × Contains (owners_at g n) unit
+owner_number g None unit h = absurd (none_in_empty unit h)
+owner_number g (Some n) unit h = (n, refl, h)
+
+number_of : (number : Option ℕ) → (number ≡ None → ⊥) → (n : ℕ) × (number ≡ Some n)
+number_of None h = absurd (h refl)
+number_of (Some n) h = (n, refl)
 
 -- the callers of a unit rise, and are others
 range_rises : (count : ℕ) → Rises (range_with_len 0 count)
@@ -150,7 +375,7 @@ callers_rise g unit =
     AllPairs-filter (λ x y. x < y) (λ caller. edge_test g.edges caller unit) (range_with_len 0 (length g.units))
     (range_rises (length g.units))
 
-abbrev pub others_of : GraphParts → Bool → ℕ → List ℕ
+abbrev others_of : GraphParts → Bool → ℕ → List ℕ
 others_of g argument own = cond argument (callers_of g own) []
 
 others_rise : (g : GraphParts) (argument : Bool) (own : ℕ) → Rises (others_of g argument own)
@@ -162,8 +387,8 @@ others_differ g is true own h = is.no_cycle own (reach_edge g.edges own own (cal
 others_differ g is false own h = none_in_empty own h
 
 owner_below : (g : GraphParts) → IsGraph g → (s u : ℕ) → graph.Owns g u s → u < length g.units
-owner_below g is s u owns = elim owns.owner as (λ _. u < length g.units) [
-  | inl same ↦ subst (λ n. n < length g.units) (sym same) (is.units.own owns.own s owns.own_is)
+owner_below g is s u owns = elim owns.owner [
+  | inl same ↦ rw same (is.units.own owns.own s owns.own_is)
   | inr calls ↦ (is.units.edges.within u owns.own calls.1).0
 ]
 
@@ -174,121 +399,94 @@ module _ (segments : List JoinedSegment) (controls : List (ℕ × Control)) (g :
   abbrev l : LayoutParts
   l = parts_of_layout g located
 
-  -- the extent at an index
-  record Stands (s : ℕ) (p : Placed) : Type 0 where
-    e : Numbered
-    at : slice_get located s ≡ Some e
-    is : e.placed ≡ p
-    spot : IsSpot g segments e
+  abbrev IsAt : ℕ → Numbered → Type 0
+  IsAt s e = slice_get located s ≡ Some e
 
-  pub spot_at : (s : ℕ) (e : Numbered) → slice_get located s ≡ Some e → IsSpot g segments e
-  spot_at s e at =
-      subst (λ x. IsSpot g segments x) (get_or_from_slice_get located s e e at)
-      (All-get_or (IsSpot g segments) located s e (slice_get_within located s e at) whole.spots)
+  pub spot_at : (s : ℕ) (e : Numbered) → IsAt s e → IsSpot g segments e
+  spot_at s e at = every_in (IsSpot g segments) located e whole.spots (got_in located s e at)
 
-  stands : (s : ℕ) (p : Placed) → IsPlaced l s p → Stands s p
-  stands s p h = let at = map_at (λ (e : Numbered). e.placed) located s p (slice_get located s) refl h in
-      record { e = at.0; at = at.1; is = at.2; spot = spot_at s at.0 at.1 }
+  stands : (s : ℕ) (p : Placed) → IsPlaced l s p → (e : Numbered) × IsAt s e × (e.placed ≡ p)
+  stands s p h = map_at (λ (e : Numbered). e.placed) located s p h
 
-  placed_at : (s : ℕ) (e : Numbered) → slice_get located s ≡ Some e → IsPlaced l s e.placed
-  placed_at s e at = slice_get-map (λ (x : Numbered). x.placed) located s
-      ∙ ap (option_map (λ (x : Numbered). x.placed)) at
+  placed_at : (s : ℕ) (e : Numbered) → IsAt s e → IsPlaced l s e.placed
+  placed_at s e at = map_got (λ (x : Numbered). x.placed) located s e at
 
   -- a segment has its number
-  record WithNumber (e : Numbered) : Type 0 where
-    n : ℕ
+  numbered : (s : ℕ) (e : Numbered) → IsAt s e → IsSegment e.placed.mark → (n : ℕ) × (e.number ≡ Some n)
+      × IsSegmentOf g segments n e.placed
+  numbered s e at segment =
+      let spot = spot_at s e at in
+      let n = number_of e.number (λ none. spot.free none segment) in
+      (n.0, n.1, spot.numbered n.0 n.1)
+
+  same_place : (n s t : ℕ) (e f : Numbered) → IsAt s e → IsAt t f → e.number ≡ Some n → f.number ≡ Some n → s ≡ t
+  same_place n s t e f h k p q =
+      let of = (spot_at s e h).numbered n p in
+      only located n s t e f (whole.once n (slice_get_within segments n of.j of.is)) h k p q
+
+  -- where the extent of a joined segment is
+  record Entry (n : ℕ) (j : JoinedSegment) : Type 0 where
+    e : Numbered
+    at : IsAt (joined_index located n) e
     number : e.number ≡ Some n
     of : IsSegmentOf g segments n e.placed
+    is : of.j ≡ j
 
-  numbered_spot : (e : Numbered) → IsSpot g segments e → IsSegment e.placed.mark → WithNumber e
-  numbered_spot e spot segment = let n = number_of e e.number refl (λ none. spot.free none segment) in
-      record { n = n.0; number = n.1; of = spot.numbered n.0 n.1 }
-
-  below : (n : ℕ) (j : JoinedSegment) → slice_get segments n ≡ Some j → n < length segments
-  below n j at = slice_get_within segments n j at
-
-  same_place : (n s t : ℕ) (e f : Numbered) (j : JoinedSegment) → slice_get segments n ≡ Some j → slice_get located s
-      ≡ Some e → slice_get located t ≡ Some f → e.number ≡ Some n → f.number ≡ Some n → s ≡ t
-  same_place n s t e f j at h k p q = only located n s t e f (whole.once n (below n j at)) h k p q
+  entry : (n : ℕ) (j : JoinedSegment) → slice_get segments n ≡ Some j → Entry n j
+  entry n j at =
+      let there = found g segments located whole n (slice_get_within segments n j at) in
+      let of = (spot_at (joined_index located n) there.e there.at).numbered n there.number in
+      record { e = there.e; at = there.at; number = there.number; of = of; is = cc (of.is, at) }
 
   -- the unit, its segment and its extent
   record Unit (unit s : ℕ) : Type 0 where
     n : ℕ
     j : JoinedSegment
-    at : UnitAt segments segments 0 unit n j
-    e : Numbered
-    there : slice_get located s ≡ Some e
-    number : e.number ≡ Some n
-    of : IsSegmentOf g segments n e.placed
-    is_it : of.j ≡ j
+    place : s ≡ joined_index located n
+    at : UnitAt segments unit n j
+    entry : Entry n j
 
   unit_at : (unit s : ℕ) → slice_get l.units unit ≡ Some s → Unit unit s
   unit_at unit s h =
-      let read = map_at (joined_index located) g.units unit s (slice_get g.units unit) refl h in
-      let n : ℕ = read.0 in
-      let in_units : slice_get (units_of segments) unit ≡ Some n =
-      ap (λ (us : List ℕ). slice_get us unit) (sym shape.units) ∙ read.1 in
-      let segment = code_of_unit segments 0 segments (from_start segments) unit n in_units in
-      let entry = found g segments located whole n (below n segment.0 segment.1.segment) in
-      let at : slice_get located s ≡ Some entry.e = ap (slice_get located) (sym read.2) ∙ entry.at in
-      let of = (spot_at s entry.e at).numbered n entry.number in
-      record {
-        n = n;
-        j = segment.0;
-        at = segment.1;
-        e = entry.e;
-        there = at;
-        number = entry.number;
-        of = of;
-        is_it =
-            same_Some of.j segment.0 (sym of.is ∙ segment.1.segment);
-      }
+      let read = map_at (joined_index located) g.units unit s h in
+      let of = code_of_unit segments unit read.0 (ap (λ (us : List ℕ). slice_get us unit) (sym shape.units) ∙ read.1) in
+      record { n = read.0; j = of.0; place = sym read.2; at = of.1; entry = entry read.0 of.0 of.1.segment }
 
   -- roots are those of the graph
   pub root_in : (vector unit : ℕ) → IsRootAt l vector unit → graph.IsRootAt g vector unit
   root_in vector unit h =
       let u = unit_at unit h.unit_is.segment h.unit_is.unit_is in
-      let same : u.e.placed ≡ h.is =
-      same_Some u.e.placed h.is (sym (placed_at h.unit_is.segment u.e u.there) ∙ h.unit_is.placed) in
-      let mark : u.e.placed.mark ≡ Absolute = ap (λ (p : Placed). p.mark) same ∙ h.absolute in
-      let abs : is_absolute u.of.j.reloc ≡ true = u.of.absolute mark in
-      let base : u.of.j.base ≡ vector = sym (u.of.fixed abs).1 ∙ ap (λ (p : Placed). p.base) same ∙ h.base in
-      let j = u.j in
-      let root =
-      is_root_at j vector (ap (λ (x : JoinedSegment). is_absolute x.reloc) (sym u.is_it) ∙ abs)
-      (ap (λ (x : JoinedSegment). x.base) (sym u.is_it) ∙ base) h.vector_is in
-      let pair = root_there 0 (code_segments segments) unit j u.at.code_segment root in
+      let same : u.entry.e.placed ≡ h.is =
+      cc (placed_at (joined_index located u.n) u.entry.e u.entry.at, h.unit_is.placed, u.place) in
+      let abs = u.entry.of.absolute (ap (λ (p : Placed). p.mark) same ∙ h.absolute) in
+      let base : u.entry.of.j.base ≡ vector =
+      sym (u.entry.of.fixed abs).1 ∙ ap (λ (p : Placed). p.base) same ∙ h.base in
       let number : 0 + unit ≡ unit = omega arith in
-      subst (λ (rs : List (ℕ × ℕ)). Contains rs (vector, unit)) (sym shape.roots)
-      (subst (λ b. Contains (roots_of segments) (b, unit)) (ap (λ (x : JoinedSegment). x.base) (sym u.is_it) ∙ base)
-      (subst (λ m. Contains (roots_of segments) (j.base, m)) number pair))
+      let pair =
+      root_there 0 (code_segments segments) unit u.j u.at.code_segment
+      (is_root_at u.j vector (rw u.entry.is at abs) (rw u.entry.is at base) h.vector_is) in
+      rw shape.roots (contains_in _ _ (rw (number, rw u.entry.is at base) at pair))
 
   pub root_out : (vector unit : ℕ) → graph.IsRootAt g vector unit → IsRootAt l vector unit
   root_out vector unit h =
-      let root =
-      root_found 0 (code_segments segments) vector unit
-      (subst (λ (rs : List (ℕ × ℕ)). Contains rs (vector, unit)) shape.roots h) in
-      let unit_is : root.k ≡ unit = omega (arith, root.number) in
-      let at = unit_of_code segments 0 segments (from_start segments) root.k root.j root.segment in
-      let n : ℕ = at.0 in
-      let entry = found g segments located whole n (below n root.j at.1.segment) in
-      let in_units : slice_get g.units unit ≡ Some n = ap (λ (us : List ℕ). slice_get us unit) shape.units
-      ∙ ap (slice_get (units_of segments)) (sym unit_is) ∙ at.1.unit_is in
-      let of = (spot_at (joined_index located n) entry.e entry.at).numbered n entry.number in
-      let same : of.j ≡ root.j = same_Some of.j root.j (sym of.is ∙ at.1.segment) in
-      let abs : is_absolute of.j.reloc ≡ true = ap (λ (x : JoinedSegment). is_absolute x.reloc) same
-      ∙ root_absolute root.j root.root in
+      let root = root_found 0 (code_segments segments) vector unit (in_contains _ _ (rw shape.roots at h)) in
+      let unit_is : unit ≡ root.k = omega (arith, root.number) in
+      let at = unit_of_code segments root.k root.j root.segment in
+      let there = entry at.0 root.j at.1.segment in
+      let units : slice_get g.units unit ≡ Some at.0 = ap (λ (us : List ℕ). slice_get us unit) shape.units
+      ∙ ap (slice_get (units_of segments)) unit_is ∙ at.1.unit_is in
+      let fixed = there.of.fixed (rw there.is (root_absolute root.j root.root)) in
       record {
         vector_is = (kept.units.roots vector unit h).0;
-        is = entry.e.placed;
+        is = there.e.placed;
         unit_is = record {
-          segment = joined_index located n;
-          unit_is = slice_get-map (joined_index located) g.units unit ∙ ap (option_map (joined_index located)) in_units;
-          placed = placed_at (joined_index located n) entry.e entry.at;
+          segment = joined_index located at.0;
+          unit_is = map_got (joined_index located) g.units unit at.0 units;
+          placed = placed_at (joined_index located at.0) there.e there.at;
         };
-        code = of.kind ∙ code_is of.j.kind (ap (λ (x : JoinedSegment). is_code x.kind) same ∙ at.1.code);
-        absolute = (of.fixed abs).0;
-        base = (of.fixed abs).1 ∙ ap (λ (x : JoinedSegment). x.base) same ∙ root.base;
+        code = there.of.kind ∙ ap (λ (x : JoinedSegment). x.kind) there.is ∙ code_is root.j.kind at.1.code;
+        absolute = fixed.0;
+        base = fixed.1 ∙ ap (λ (x : JoinedSegment). x.base) there.is ∙ root.base;
       }
 
   pub lies_in : (vector unit : ℕ) → UnitLiesUnder l vector unit → graph.UnitLiesUnder g vector unit
@@ -305,116 +503,88 @@ module _ (segments : List JoinedSegment) (controls : List (ℕ × Control)) (g :
   -- an owner, by the index of its segment
   record Owned (s unit : ℕ) : Type 0 where
     e : Numbered
-    there : slice_get located s ≡ Some e
+    there : IsAt s e
     n : ℕ
     number : e.number ≡ Some n
     owns : graph.Owns g unit n
     mark : e.placed.mark ≡ Overlaid
 
-  owned_at : (s : ℕ) (e : Numbered) (unit : ℕ) → slice_get located s ≡ Some e → Contains (owners_of_extent g e) unit
-      → Owned s unit
-  owned_at s e unit at owner =
-      let n = owner_number g e e.number unit refl owner in
-      let owns : graph.Owns g unit n.0 = owner_owns g n.0 unit n.2 in
+  owned_by : (s unit : ℕ) (read : Option Numbered) → slice_get located s ≡ read
+      → Contains (option_map_or (owners_of_extent g) read []) unit → Owned s unit
+  owned_by s unit None at h = absurd (none_in_empty unit h)
+  owned_by s unit (Some e) at h =
+      let n = owner_number g e.number unit h in
+      let owns = owner_owns g n.0 unit n.2 in
       record {
         e = e;
         there = at;
         n = n.0;
         number = n.1;
         owns = owns;
-        mark =
-            ((spot_at s e at).numbered n.0 n.1).owned owns.own (own_read g n.0 owns.own owns.own_is);
+        mark = ((spot_at s e at).numbered n.0 n.1).owned owns.own (own_read g n.0 owns.own owns.own_is);
       }
 
   owned : (s unit : ℕ) → Owns l unit s → Owned s unit
-  owned s unit h =
-      let pair = paired g 0 located s unit (pair_of_owner (owner_pairs g 0 located) s unit h) in
-      let same : pair.k ≡ s = omega (arith, pair.place_is) in
-      owned_at s pair.e unit (ap (slice_get located) (sym same) ∙ pair.at) pair.owner
+  owned s unit h = owned_by s unit (slice_get located s) refl (rw (owners_are g located s) at h)
 
   -- an overlaid extent has its own unit
   record HasOwn (s : ℕ) : Type 0 where
-    e : Numbered
-    at : slice_get located s ≡ Some e
     n : ℕ
-    number : e.number ≡ Some n
     own : ℕ
-    is : own_at g n ≡ Some own
+    owners : owners_of l.owners s ≡ own ∷ others_of g (is_argument_at g n) own
 
   overlaid : (s : ℕ) → IsOverlaid l s → HasOwn s
   overlaid s h =
       let at = stands s h.0 h.1 in
-      let mark : at.e.placed.mark ≡ Overlaid = ap (λ (p : Placed). p.mark) at.is ∙ h.2 in
-      let n = numbered_spot at.e at.spot (subst (λ m. IsSegment m) (sym mark) tt) in
-      let own = n.of.overlaid mark in
-      record { e = at.e; at = at.at; n = n.n; number = n.number; own = own.0; is = own.1 }
-
-  owners_are : (s : ℕ) → (o : HasOwn s) → owners_of l.owners s ≡ o.own ∷ others_of g (is_argument_at g o.n) o.own
-  owners_are s o =
-      let same : 0 + s ≡ s = omega arith in
-      ap (owners_of l.owners) (sym same) ∙ owners_there g 0 located s o.e o.at
-      ∙ ap (λ (number : Option ℕ). option_map_or (owners_at g) number []) o.number
-      ∙ ap (λ (own : Option ℕ). owners_with g (is_argument_at g o.n) own) o.is
+      let mark : at.0.placed.mark ≡ Overlaid = ap (λ (p : Placed). p.mark) at.2 ∙ h.2 in
+      let n = numbered s at.0 at.1 (subst IsSegment (sym mark) tt) in
+      let own = n.2.overlaid mark in
+      record { n = n.0; own = own.0; owners = owners_are g located s ∙ rw (at.1, n.1, own.1) }
 
   -- conflict of two extents
-  segments_conflict : (s t n m : ℕ) (e f : Numbered) → slice_get located s ≡ Some e → slice_get located t ≡ Some f
-      → e.number ≡ Some n → f.number ≡ Some m → ExtentsConflict l s t → SegmentsConflict g n m
+  segments_conflict : (s t n m : ℕ) (e f : Numbered) → IsAt s e → IsAt t f → e.number ≡ Some n → f.number ≡ Some m
+      → ExtentsConflict l s t → SegmentsConflict g n m
   segments_conflict s t n m e f h k p q (FirstPlain plain) = FirstPlain (λ o.
-      let of = (spot_at s e h).numbered n p in
-      plain (e.placed, placed_at s e h, of.owned o.0 (own_read g n o.0 o.1)))
+      plain (e.placed, placed_at s e h, ((spot_at s e h).numbered n p).owned o.0 (own_read g n o.0 o.1)))
   segments_conflict s t n m e f h k p q (SecondPlain plain) = SecondPlain (λ o.
-      let of = (spot_at t f k).numbered m q in
-      plain (f.placed, placed_at t f k, of.owned o.0 (own_read g m o.0 o.1)))
+      plain (f.placed, placed_at t f k, ((spot_at t f k).numbered m q).owned o.0 (own_read g m o.0 o.1)))
   segments_conflict s t n m e f h k p q (Owners one two o o' related) =
       let first = owned s one o in
       let second = owned t two o' in
-      let same_first : first.n ≡ n =
-      same_Some first.n n
-      (sym first.number ∙ ap (λ (x : Numbered). x.number) (same_Some first.e e (sym first.there ∙ h)) ∙ p) in
-      let same_second : second.n ≡ m =
-      same_Some second.n m
-      (sym second.number ∙ ap (λ (x : Numbered). x.number) (same_Some second.e f (sym second.there ∙ k)) ∙ q) in
-      Owners one two (subst (λ x. graph.Owns g one x) same_first first.owns)
-      (subst (λ x. graph.Owns g two x) same_second second.owns)
+      let same_first : first.e ≡ e = cc (first.there, h) in
+      let same_second : second.e ≡ f = cc (second.there, k) in
+      let first_is : first.n ≡ n = cc (first.number, p, ap (λ (x : Numbered). x.number) same_first) in
+      let second_is : second.n ≡ m = cc (second.number, q, ap (λ (x : Numbered). x.number) same_second) in
+      Owners one two (rw first_is at first.owns) (rw second_is at second.owns)
       (related_there (layout_graph l) (graph.joined_graph g) same_units one two related)
 
-  both_numbers : (s t : ℕ) (e f : Numbered) (a b : Option ℕ) → s ≢ t → slice_get located s ≡ Some e
-      → slice_get located t ≡ Some f → e.number ≡ a → f.number ≡ b → ExtentsConflict l s t
+  both_numbers : (s t : ℕ) (e f : Numbered) (a b : Option ℕ) → s ≢ t → IsAt s e → IsAt t f → e.number ≡ a
+      → f.number ≡ b → ExtentsConflict l s t
       → option_map_or (λ number. option_map_or (λ other. in_conflict g other number) a true) b true ≡ true
   both_numbers s t e f a None ne h k p q conflict = refl
   both_numbers s t e f None (Some m) ne h k p q conflict = refl
   both_numbers s t e f (Some n) (Some m) ne h k p q conflict =
-      let of = (spot_at s e h).numbered n p in
-      let different : n ≢ m = λ same. ne (same_place n s t e f of.j of.is h k p (q ∙ ap (λ x. Some x) (sym same))) in
-      (conflict_tells g kept.units n m different).1 (segments_conflict s t n m e f h k p q conflict)
+      (conflict_tells g kept.units n m (λ same. ne (same_place n s t e f h k p (rw same q)))).1
+      (segments_conflict s t n m e f h k p q conflict)
 
-  are_conflicting : (s t : ℕ) (e f : Numbered) → s ≢ t → slice_get located s ≡ Some e → slice_get located t ≡ Some f
-      → ExtentsConflict l s t → conflicts g e f ≡ true
-  are_conflicting s t e f ne h k conflict = both_numbers s t e f e.number f.number ne h k refl refl conflict
-
-  apart_at : (s t : ℕ) (e f : Numbered) → s < t → slice_get located s ≡ Some e → slice_get located t ≡ Some f
-      → KeepApart g e f
-  apart_at s t e f less h k =
-      subst (λ x. KeepApart g x f) (get_or_from_slice_get located s e e h)
-      (subst (λ y. KeepApart g (get_or located s e) y) (get_or_from_slice_get located t f e k)
-      (whole.apart s t e less (slice_get_within located t f k)))
+  clear_at : (s t : ℕ) (e f : Numbered) → s < t → IsAt s e → IsAt t f → ExtentsConflict l s t
+      → Meet (extent_at e.placed) (extent_at f.placed) → ⊥
+  clear_at s t e f less h k conflict =
+      (pairs_at (KeepApart g) located s t e f whole.apart less h k).none
+      (both_numbers s t e f e.number f.number (λ same. omega (arith, less, same)) h k refl refl conflict)
 
   clear : (s t : ℕ) (p q : Placed) → IsPlaced l s p → IsPlaced l t q → s ≢ t → ExtentsConflict l s t
       → Meet (extent_at p) (extent_at q) → ⊥
   clear s t p q h k ne conflict meet =
       let a = stands s p h in
       let b = stands t q k in
-      let first = subst (λ x. Meet (extent_at x) (extent_at q)) (sym a.is) meet in
-      let first_met : Meet (extent_at a.e.placed) (extent_at b.e.placed) =
-      subst (λ y. Meet (extent_at a.e.placed) (extent_at y)) (sym b.is) first in
-      elim (order_of_two s t) as (λ _. ⊥) [
-        | inl less ↦ (apart_at s t a.e b.e less a.at b.at).none
-            (are_conflicting s t a.e b.e ne a.at b.at conflict) first_met
-        | inr rest ↦ elim rest as (λ _. ⊥) [
-          | inl same ↦ ne same
-          | inr less ↦ (apart_at t s b.e a.e less b.at a.at).none
-              (are_conflicting t s b.e a.e (λ e. ne (sym e)) b.at a.at (conflict_back (layout_graph l) s t conflict))
-              (first_met.0, first_met.2, first_met.1)
+      let met : Meet (extent_at a.0.placed) (extent_at b.0.placed) = rw (a.2, b.2) meet in
+      elim (cases_order s t) [
+        | inl same ↦ ne same
+        | inr rest ↦ elim rest [
+          | inl less ↦ clear_at s t a.0 b.0 less a.1 b.1 conflict met
+          | inr less ↦ clear_at t s b.0 a.0 less b.1 a.1 (conflict_back (layout_graph l) s t conflict)
+              (met.0, met.2, met.1)
         ]
       ]
 
@@ -425,49 +595,44 @@ module _ (segments : List JoinedSegment) (controls : List (ℕ × Control)) (g :
   unit_once u v s h k =
       let a = unit_at u s h in
       let b = unit_at v s k in
-      let same : a.n ≡ b.n =
-      same_Some a.n b.n
-      (sym a.number ∙ ap (λ (x : Numbered). x.number) (same_Some a.e b.e (sym a.there ∙ b.there)) ∙ b.number) in
-      elim (order_of_two u v) as (λ _. u ≡ v) [
-        | inl less ↦ absurd (omega (arith, same, units_rise 0 segments u v a.n b.n less a.at.unit_is b.at.unit_is))
-        | inr rest ↦ elim rest as (λ _. u ≡ v) [
-          | inl e ↦ e
-          | inr less ↦ absurd (omega (arith, same, units_rise 0 segments v u b.n a.n less b.at.unit_is a.at.unit_is))
+      let one : a.entry.e ≡ b.entry.e = cc (a.entry.at, b.entry.at, a.place, b.place) in
+      let same : a.n ≡ b.n = cc (a.entry.number, b.entry.number, ap (λ (x : Numbered). x.number) one) in
+      elim (cases_order u v) [
+        | inl e ↦ e
+        | inr rest ↦ elim rest [
+          | inl less ↦ absurd
+              (omega (arith, same, units_rise segments u v a.n b.n less a.at.unit_is b.at.unit_is))
+          | inr less ↦ absurd
+              (omega (arith, same, units_rise segments v u b.n a.n less b.at.unit_is a.at.unit_is))
         ]
       ]
 
   is_a_unit : (s : ℕ) (p : Placed) → IsPlaced l s p → IsCodeSegment p → Contains l.units s
   is_a_unit s p h code =
       let at = stands s p h in
-      let mark : at.e.placed.mark ≡ p.mark = ap (λ (x : Placed). x.mark) at.is in
-      let n = numbered_spot at.e at.spot (subst (λ m. IsSegment m) (sym mark) code.segment) in
-      let kind : n.of.j.kind ≡ Code = sym n.of.kind ∙ ap (λ (x : Placed). x.kind) at.is ∙ code.kind in
-      let number : 0 + n.n ≡ n.n = omega arith in
-      let in_units : Contains g.units n.n = subst (λ (us : List ℕ). Contains us n.n) (sym shape.units)
-      (subst (λ m. Contains (units_of segments) m) number
-      (unit_there segments 0 segments n.n n.of.j n.of.is (ap is_code kind))) in
-      let entry = found g segments located whole n.n (below n.n n.of.j n.of.is) in
-      let same : joined_index located n.n ≡ s =
-      same_place n.n
-      (joined_index located n.n) s entry.e at.e n.of.j n.of.is entry.at at.at entry.number n.number in
-      subst (λ x. Contains l.units x) same (contains_image (joined_index located) g.units n.n in_units)
+      let n = numbered s at.0 at.1 (rw at.2 code.segment) in
+      let kind : n.2.j.kind ≡ Code = sym n.2.kind ∙ ap (λ (x : Placed). x.kind) at.2 ∙ code.kind in
+      let in_units = unit_there segments n.0 n.2.j n.2.is (ap is_code kind) in
+      let there = entry n.0 n.2.j n.2.is in
+      let same = same_place n.0 (joined_index located n.0) s there.e at.0 there.at at.1 there.number n.1 in
+      contains_in _ _ (rw same at
+      (map_in (joined_index located) g.units n.0 (subst (In n.0) (sym shape.units) in_units)))
 
   is_code_at : (u s : ℕ) → slice_get l.units u ≡ Some s → (p : Placed) × IsPlaced l s p × IsCodeSegment p
   is_code_at u s h =
       let a = unit_at u s h in (
-        a.e.placed,
-        placed_at s a.e a.there,
+        a.entry.e.placed,
+        subst (λ x. IsPlaced l x a.entry.e.placed) (sym a.place)
+            (placed_at (joined_index located a.n) a.entry.e a.entry.at),
         record {
-          kind = a.of.kind
-              ∙ code_is a.of.j.kind (ap (λ (x : JoinedSegment). is_code x.kind) a.is_it ∙ a.at.code);
-          segment =
-              a.of.segment;
+          kind = a.entry.of.kind ∙ ap (λ (x : JoinedSegment). x.kind) a.entry.is ∙ code_is a.j.kind a.at.code;
+          segment = a.entry.of.segment;
         },
       )
 
   pub sound : IsSound (parts_of_layout g located)
   sound = record {
-    fit = λ s p h. let at = stands s p h in subst (λ x. IsFit x) at.is at.spot.fit;
+    fit = λ s p h. let at = stands s p h in rw at.2 at (spot_at s at.0 at.1).fit;
     is_code = is_code_at;
     is_unit = is_a_unit;
     once = unit_once;
@@ -481,11 +646,45 @@ module _ (segments : List JoinedSegment) (controls : List (ℕ × Control)) (g :
     owners = λ s h. let o = overlaid s h in record {
       own = o.own;
       others = others_of g (is_argument_at g o.n) o.own;
-      are = owners_are s o;
+      are = o.owners;
       rising = others_rise g (is_argument_at g o.n) o.own;
       different = others_differ g kept (is_argument_at g o.n) o.own;
     };
     one_root = λ s u x y h under under'. let o = owned s u h in
         kept.one_root o.n u x y o.owns (lies_in x u under) (lies_in y u under');
     apart = clear;
+  }
+
+-- The bases of joined segments in what was placed.
+
+module _ (g : GraphParts) (segments : List JoinedSegment) (located : List Numbered)
+    (whole : IsWhole g segments located) where
+  segment_at : (number : ℕ) (j : JoinedSegment) → slice_get segments number ≡ Some j
+      → IsPlacedAs (parts_of_layout g located) (joined_base located number) j
+  segment_at number j at =
+      let entry = found g segments located whole number (slice_get_within segments number j at) in
+      let there = got_in located (joined_index located number) entry.e entry.at in
+      let of = (every_in (IsSpot g segments) located entry.e whole.spots there).numbered number entry.number in
+      let same : of.j ≡ j = cc (of.is, at) in
+      record {
+        placed = entry.e.placed;
+        there = contains_in _ _ (map_in (λ (e : Numbered). e.placed) located entry.e there);
+        begins = sym (ap (λ (o : Option Numbered). option_map_or (λ (e : Numbered). e.placed.base) o 0) entry.first);
+        is = subst (λ (x : JoinedSegment). IsSegmentAt x entry.e.placed) same (record {
+          title = of.title;
+          kind = of.kind;
+          reloc = of.reloc;
+          size = of.size;
+          absolute = of.fixed;
+          room = of.room;
+        });
+      }
+
+  pub places_are : ArePlaces segments (placing_with g (length segments) located)
+  places_are = record {
+    len = length-map-range_with_len (joined_base located) 0 (length segments);
+    each = λ number j at.
+        subst (λ (base : ℕ). IsPlacedAs (parts_of_layout g located) base j)
+        (sym (get_or-map-range_with_len (joined_base located) 0 (length segments) number number 0
+        (slice_get_within segments number j at) (omega arith))) (segment_at number j at);
   }

@@ -1,85 +1,308 @@
--- Placing covers by overlaid DATA as few bytes as it can.
-use Rattle.m51_place.proofs.Common.{◌≡◌, inl, inr, ℕ, zero, suc, ◌+◌, ◌-◌, ◌<◌, ◌≤◌, true, Bool, List, [], ◌∷◌, ◌++◌}
-use Rattle.m51_place.proofs.Common.{length, map, get_or, Option, Some, None, Result, Ok, Err, refl, sym, ap, subst, ◌∙◌}
-use Rattle.m51_place.proofs.Common.{arith, option_map_or, All, Contains, list_any, sum_by, and_parts, cases_lt}
-use Rattle.m51_place.proofs.Common.{All-append, All-contains, Contains-append_cases, sum_by-append, none-some, Control}
-use Rattle.m51_place.proofs.Common.{AreKept, Chain, Refusal, LayoutParts, ModuleParts, Mark, Overlaid, Placed}
-use Rattle.m51_place.proofs.Common.{sum_along, weight_of, IsSegment, layout_graph, vectors, IsSound, IsWalk, IsValid}
-use Rattle.m51_place.proofs.Common.{contains_behind, first_or_behind, none_in_empty, JoinedSegment, segments_of}
-use Rattle.m51_place.proofs.Common.{AreResolved, GraphParts, IsGraph, graph_of, tally, Numbered, Placing, Ranked}
-use Rattle.m51_place.proofs.Common.{bytes_passing, covers_byte, fixed_of, shared_extents, order_of, own_at, root_number}
-use Rattle.m51_place.proofs.Common.{before_overlaid, OverlaysData, located_of, parts_of_layout, place_after}
-use Rattle.std.proofs.lemmas.List.Folds.{Any-from_list_any}
-use Rattle.std.proofs.Math.Nat.{le_trans}
-use Rattle.m51_module.proofs.Units.{one_root}
-use Rattle.m51_graph.specs.Graph as graph
-use Rattle.m51_graph.proofs.Climbing.{tally_mono}
-use Rattle.m51_place.specs.Bound.{count_below, covered_bytes, IsWeight}
-use Rattle.m51_place.specs.Overlay.{FindsRun, PlacingIsTight}
+-- The weight of a graph and of its layouts, and how few bytes placing covers.
+use Rattle.m51_place.proofs.Common.{◌≡◌, ◌≢◌, inl, inr, ℕ, ◌+◌, ◌-◌, ◌<◌, ◌≤◌, true, false, Bool, cond, nat_eq, List}
+use Rattle.m51_place.proofs.Common.{[], ◌∷◌, ◌++◌, map, Option, Some, None, Ok, refl, sym, ap, ◌∙◌, arith, slice_get}
+use Rattle.m51_place.proofs.Common.{AllZip, Control, AreKept, Chain, Overlaid, Owners, AreRelated, vectors}
+use Rattle.m51_place.proofs.Common.{JoinedSegment, segments_of, GraphParts, IsGraph, joined_graph, All, IsValid}
+use Rattle.m51_place.proofs.Common.{ModuleParts, graph_of, Numbered, Ranked, fixed_of, nat_lt, shared_extents, order_of}
+use Rattle.m51_place.proofs.Common.{own_at, AreOneRun, before_overlaid, bytes_joined, IsWeightOf, overlaid_in}
+use Rattle.m51_place.proofs.Common.{OverlaysData, unit_weight, before_by, class_number, comes_before, group_number}
+use Rattle.m51_place.proofs.Common.{is_some, located_at, place_after, Result, Err, subst, suc, owners_of, option_map_or}
+use Rattle.m51_place.proofs.Common.{Refusal, LayoutParts, Placed, ChainsFrom, weight_of, layout_graph, AreResolved}
+use Rattle.m51_place.proofs.Common.{ProgramGraph, Placing, bytes_passing, is_argument_at, owners_at, owners_with}
+use Rattle.m51_place.proofs.Common.{located_of, parts_of_layout, list_any, and_parts, none-some, IsSegment, covers_byte}
+use Rattle.m51_place.proofs.Common.{zero, Kind, Direct, Reloc, UnitType, Mark, is_overlaid_data}
+use Rattle.std.proofs.Common.{min}
+use Rattle.std.proofs.lemmas.Bool.Decides.{nat_tests}
+use Rattle.m51_place.specs.declared.ranked.Rank.{Rank}
+use Rattle.m51_place.specs.Order.{first_sort_key, second_sort_key}
+use Rattle.m51_place.proofs.Free.{are_after, AreAfter, conflicts, IsPlacedRanked, KeepApart, zip_every, both_ok}
+use Rattle.m51_place.proofs.Free.{place_append}
+use Rattle.m51_place.proofs.Weights.{AreLocals, has_byte, has_byte_tells, tally_range, weight_bound, bytes, data_byte}
+use Rattle.m51_place.proofs.Weights.{is_data}
+use Rattle.m51_place.proofs.Weights.{IsLocal, KeptApart, Local, first_of_list, local_of, locals, passing_is, weight_is}
+use Rattle.m51_place.proofs.Weights.{count_is, least, data_kind}
+use Rattle.m51_place.proofs.Conflicting.{conflict_tells, own_is}
+use Rattle.m51_place.proofs.Piled.{Scene, AreLaid, IsLaid, Piles, piles, AreTops, tops, bare_sum, local_at, order_sum}
+use Rattle.m51_place.proofs.Piled.{own_of, placed_bytes, ranked_bytes, zip_sum, order_all, under_all}
+use Rattle.m51_cells.proofs.Members.{Every, every_append, every_both, every_filter, every_map, every_of, every_weaker}
+use Rattle.m51_cells.proofs.Members.{Pairs, pairs_both, pairs_map, pairs_filter, total, total-append, total_map}
+use Rattle.m51_cells.proofs.Members.{total_sum, every_in, In, in_cases, in_contains, in_map}
+use Rattle.m51_place.proofs.SoundLayout.{bare_absolute, one_root_each, lies_in, lies_out, owners_are, root_in, root_out}
+use Rattle.m51_place.proofs.SoundLayout.{sound}
+use Rattle.m51_place.proofs.Ordered.{AreParts, no_root, order_parts, lone_before}
+use Rattle.m51_place.proofs.Ranks.{IsRankedOf, order_ranked, Earlier, order_rises, all_joined, graph_is, IsJoined, IsOf}
+use Rattle.m51_place.proofs.Whole.{fixed_apart, fixed_bare, IsWhole, placed_whole, unless_none, IsSpot}
+use Rattle.std.specs.Prelude.{◌↔◌}
+use Rattle.m51_module.specs.Chains.{IsHeaviestWalk}
+use Rattle.m51_place.specs.Bound.{IsWeight, count_below, covered_bytes, overlaid_bytes, overlays_byte}
+use Rattle.m51_place.specs.Overlay.{WeightsAgree, FindsRun, PlacingIsTight, FigureIsWeight}
 use Rattle.m51_place.specs.Placement.{placing_from, placing_with}
-use Rattle.m51_place.proofs.Bytes.{all_bytes, bytes_below, has_byte, has_byte_tells, none_yet, some_yet}
-use Rattle.m51_place.proofs.Heights.{free_bytes, own_of, under_all, unit_bytes}
-use Rattle.m51_place.proofs.LeastWeight.{count_is, least}
-use Rattle.m51_place.proofs.Ordered.{few_roots, no_root, root_above}
-use Rattle.m51_place.proofs.Piled.{adds_plain, ArePiled, IsEither, IsLaid, piled_from}
-use Rattle.m51_place.proofs.Ranks.{order_ranked}
-use Rattle.m51_place.proofs.Rising.{in_order}
-use Rattle.m51_place.proofs.Segments.{all_joined, graph_is, IsJoined, IsOf}
-use Rattle.m51_place.proofs.SoundLayout.{lies_in, root_out, sound}
-use Rattle.m51_place.proofs.Splitting.{all_from, first_is_not, fixed_bare, from_overlaid, lone_before, order_either}
-use Rattle.m51_place.proofs.Splitting.{pairs_from, place_on, split}
-use Rattle.m51_place.proofs.Spots.{IsSpot}
-use Rattle.m51_place.proofs.Tops.{AreTops, tops}
-use Rattle.m51_place.proofs.Totals.{free_total, unit_total}
-use Rattle.m51_place.proofs.Whole.{IsWhole, placed_whole, unless_none}
-use Rattle.m51_place.proofs.WalkWeights.{data_kind, is_data}
+use Rattle.std.proofs.lemmas.List.Folds.{Any-from_list_any}
+use Rattle.m51_graph.proofs.Climbing.{tally_mono}
 
--- no more bytes than the length of a range lie in it
-pub range_most : (n base size : ℕ) → bytes_below n base size ≤ size
-range_most n base size = elim (cases_lt n base) as (λ _. bytes_below n base size ≤ size) [
-  | inl before ↦ omega (arith, none_yet n base size (omega (arith, before)))
-  | inr from ↦ elim (cases_lt n (base + size)) as (λ _. bytes_below n base size ≤ size) [
-    | inl inside ↦ omega (arith, some_yet n base size from (omega (arith, inside)), inside)
-    | inr past ↦ omega (arith, all_bytes n base size past)
-  ]
-]
+-- Placing valid modules over their graph, as far as the overlaid segments: what they are placed over, and what that
+-- answers.
 
-pub tally_range : (n base size : ℕ) → tally (has_byte base size) n ≡ bytes_below n base size
-tally_range zero base size = refl
-tally_range (suc n) base size = omega (arith, tally_range n base size)
+-- valid modules, control lines and their graph
+pub record Program : Type 0 where
+  pub modules : List ModuleParts
+  pub controls : List (ℕ × Control)
+  pub g : GraphParts
+  pub valid : All IsValid modules
+  pub kept : AreKept controls
+  pub is : IsGraph g
+  pub of : graph_of modules controls ≡ Ok g
 
-both_ways : (a b : ℕ) → a ≤ b → b ≤ a → a ≡ b
-both_ways a b h k = omega (arith, h, k)
+module _ (c : Program) where
+  abbrev pub segments : List JoinedSegment
+  segments = segments_of c.modules
 
--- what lies in a range counts no more than its length
-in_range_most : (n : ℕ) (test : ℕ → Bool) (base size : ℕ)
-    → ((byte : ℕ) → test byte ≡ true → (base ≤ byte) × (byte < base + size)) → count_below test n ≤ size
-in_range_most n test base size h =
-    let mono =
-    tally_mono test (has_byte base size) n (λ byte passes. (has_byte_tells base size byte).1 (h byte passes)) in
-    omega (arith, mono, tally_range n base size, range_most n base size, count_is test n)
+  abbrev pub fixed : List Numbered
+  fixed = fixed_of c.modules c.controls segments
 
--- the extent that is placed so
-record IsImage (xs : List Numbered) (p : Placed) : Type 0 where
-  e : Numbered
-  there : Contains xs e
-  is : e.placed ≡ p
+  abbrev pub order : List Ranked
+  order = order_of c.g c.controls segments
 
-from_image : (xs : List Numbered) (p : Placed) → Contains (map (λ (e : Numbered). e.placed) xs) p → IsImage xs p
-from_image [] p h = absurd (none_in_empty p h)
-from_image (x ∷ xs) p h =
-    elim (first_or_behind x.placed (map (λ (e : Numbered). e.placed) xs) p h) as (λ _. IsImage (x ∷ xs) p) [
-      | inl same ↦ record { e = x; there = (0, omega arith, refl); is = same }
-      | inr behind ↦ let rest = from_image xs p behind in
-          record { e = rest.e; there = contains_behind x xs rest.e rest.there; is = rest.is }
-    ]
+  pub shape : IsOf segments c.controls c.g
+  shape = graph_is c.modules c.controls c.g c.of
 
--- an overlaid extent has an own unit
-pub not_bare : (g : GraphParts) (segments : List JoinedSegment) (e : Numbered) (number : Option ℕ) → IsSpot g segments e
-    → e.number ≡ number → e.placed.mark ≡ Overlaid → option_map_or (own_at g) number None ≡ None → ⊥
-not_bare g segments e None spot is mark none = spot.free is (subst (λ (m : Mark). IsSegment m) (sym mark) tt)
-not_bare g segments e (Some n) spot is mark none = let own = (spot.numbered n is).overlaid mark in
-    none-some own.0 (sym none ∙ own.1)
+  pub joined : All IsJoined segments
+  joined = all_joined c.modules c.valid
+
+  pub ranked : Every (IsRankedOf c.g c.controls segments) order
+  ranked = order_ranked c.g c.controls segments
+
+  pub bare : Every (λ e. own_of c.g e ≡ None) fixed
+  bare = fixed_bare c.g c.modules c.controls segments shape joined c.kept.each
+
+  module _ (shares : shared_extents fixed ≡ None) where
+    pub apart : Pairs (KeepApart c.g) fixed
+    apart = fixed_apart c.g fixed [] tt shares
+
+    -- the overlaid segments of the order have the bytes of the joined segments
+    pub order_bytes : (test : ℕ → Bool) → total (ranked_bytes c.g test) (overlaid_in order)
+        ≡ bytes_joined c.g test 0 segments
+    order_bytes test =
+        order_sum c.g test segments c.controls
+        (bare_absolute c.g c.modules c.controls segments shape joined c.kept.each shares) ranked
+
+-- ranked segments of one number are one, which does not come before itself
+all_same : (a b c d n : ℕ) → before_by a a (before_by b b (before_by c c (before_by d d (nat_lt n n)))) ≡ true → ⊥
+all_same a b c d n h = grind (arith, nat_tests)
+
+not_before : (r : Rank) → comes_before r r ≡ true → ⊥
+not_before r h =
+    all_same (class_number r.class) (group_number r.group) (first_sort_key r.group) (second_sort_key r.group) r.number h
+
+pub differ : (g : GraphParts) (controls : List (ℕ × Control)) (segments : List JoinedSegment) (t u : Ranked)
+    → IsRankedOf g controls segments t → IsRankedOf g controls segments u → Earlier t u → t.number ≢ u.number
+differ g controls segments t u a b earlier same =
+    let segment : t.segment ≡ u.segment = cc (a.segment, b.segment, same) in
+    let rank : t.rank ≡ u.rank = cc (a.rank, b.rank, a.own, b.own, segment, same) in
+    not_before u.rank (rw rank at earlier)
+
+zip_pairs : (R : Ranked → Ranked → Type 0) (S : Numbered → Numbered → Type 0) (ts : List Ranked)
+    (later : List Numbered)
+    → ((t u : Ranked) (e f : Numbered) → IsPlacedRanked t e → IsPlacedRanked u f → R t u → S e f)
+    → AllZip IsPlacedRanked ts later → Pairs R ts → Pairs S later
+zip_pairs R S [] [] f h all = tt
+zip_pairs R S [] (e ∷ later) f h all = absurd h
+zip_pairs R S (t ∷ ts) [] f h all = absurd h
+zip_pairs R S (t ∷ ts) (e ∷ later) f h all = (
+  zip_every (R t) (S e) ts later (λ u x is r. f t u e x h.0 is r) h.1 all.0,
+  zip_pairs R S ts later f h.1 all.1,
+)
+
+-- What the overlaid segments of an order are placed over: extents that are placed before them and leave one run, and
+-- the weight of the graph.
+pub record Setting : Type 0 where
+  pub c : Program
+  pub low : ℕ
+  pub high : ℕ
+  pub weight : ℕ
+  pub shares : shared_extents (fixed c) ≡ None
+  pub data_only : OverlaysData (segments c) c.g
+  pub front : List Numbered
+  pub front_is : place_after c.g (fixed c) (before_overlaid (order c)) ≡ Ok front
+  pub run : AreOneRun front low high
+  pub weighed : IsWeightOf (segments c) c.g weight
+
+module _ (t : Setting) where
+  pub all_parts : AreParts t.c.g (order t.c)
+  all_parts = order_parts t.c.g t.c.controls (segments t.c) t.data_only
+
+  before : AreAfter t.c.g (fixed t.c) (before_overlaid (order t.c)) t.front
+  before = are_after t.c.g (before_overlaid (order t.c)) (fixed t.c) t.front (apart t.c t.shares) t.front_is
+
+  -- the extents placed before the overlaid segments are plain
+  pub plain : Every (λ e. own_of t.c.g e ≡ None) t.front
+  plain = rw before.are (every_append _ (fixed t.c) before.later (bare t.c)
+      (zip_every _ _ (before_overlaid (order t.c)) before.later (λ u e is lone. rw is.is lone) before.each
+      (lone_before t.c.g t.c.controls (segments t.c) (order t.c) (ranked t.c))))
+
+  pub heights : AreTops (joined_graph t.c.g) (unit_weight (segments t.c) t.c.g) vectors
+      (total (λ (x : Chain). x.bytes) t.weighed.chains)
+  heights =
+      tops (joined_graph t.c.g) (unit_weight (segments t.c) t.c.g)
+      (one_root_each t.c.g t.c.modules t.c.controls (segments t.c) (shape t.c) (joined t.c) t.c.kept.each t.shares)
+      vectors t.weighed.chains
+      t.weighed.heaviest
+
+  abbrev pub scene : Scene
+  scene = record {
+    g = t.c.g;
+    kept = t.c.is;
+    w = unit_weight (segments t.c) t.c.g;
+    top = heights.top;
+    rises = heights.rises;
+    holds = heights.holds;
+    free = t.weighed.free;
+    is_free = λ unit end. (t.weighed.tells unit).1 (no_root t.c.g t.c.is unit end);
+    low = t.low;
+    high = t.high;
+    front = t.front;
+    run = t.run;
+    plain = plain;
+  }
+
+  abbrev pub unrooted : ℕ
+  unrooted = bytes_joined t.c.g t.weighed.free 0 (segments t.c)
+
+  pub weighs : heights.top 7 + unrooted ≡ t.weight
+  weighs = omega (arith, heights.last, t.weighed.is, total_sum (λ (x : Chain). x.bytes) t.weighed.chains)
+
+  pub pairs : Pairs Earlier (overlaid_in (order t.c))
+  pairs = pairs_filter Earlier (λ (u : Ranked). is_some u.own) (order t.c)
+      (order_rises t.c.g t.c.controls (segments t.c))
+
+  -- they are all laid, or the run is too short
+  pub answer : Piles scene unrooted (place_after t.c.g t.front (overlaid_in (order t.c)))
+  answer =
+      piles scene (overlaid_in (order t.c)) unrooted all_parts.locals pairs
+      (λ u. omega (arith, order_bytes t.c t.shares (nat_eq u))) (omega (arith, order_bytes t.c t.shares t.weighed.free))
+
+  module _ (located : List Numbered) (located_is : place_after t.c.g t.front (overlaid_in (order t.c)) ≡ Ok located)
+    where
+      pub laid : AreLaid scene unrooted located
+      laid = rw located_is at answer
+
+      after : AreAfter t.c.g t.front (overlaid_in (order t.c)) located
+      after = are_after t.c.g (overlaid_in (order t.c)) t.front located before.apart located_is
+
+      abbrev xs : List Local
+      xs = map (local_at t.c.g) located
+
+      all_sum : (test : ℕ → Bool) → total (bytes test) xs ≡ bytes_joined t.c.g test 0 (segments t.c)
+      all_sum test =
+          omega (
+            arith,
+            total_map (bytes test) (local_at t.c.g) located,
+            ap (λ (es : List Numbered). total (placed_bytes t.c.g test) es) after.are,
+            total-append (placed_bytes t.c.g test) t.front after.later,
+            bare_sum t.c.g test t.front plain,
+            zip_sum t.c.g test (overlaid_in (order t.c)) after.later after.each,
+            order_bytes t.c t.shares test,
+          )
+
+      -- each of them lies in the run
+      own_none : (e : Numbered) (u : ℕ) → own_of t.c.g e ≡ None → own_of t.c.g e ≡ Some u → ⊥
+      own_none e u none own = cc (none, own)
+
+      local_each : Every (λ e. IsLocal (joined_graph t.c.g) (local_at t.c.g e)) located
+      local_each =
+          rw laid.are (every_append _ t.front laid.done
+          (every_weaker _ _ t.front (λ e none. record {
+            ends = λ u own. absurd (own_none e u none own);
+            one_root = λ u a b own. absurd (own_none e u none own);
+          }) plain)
+          (every_weaker _ _ laid.done (λ e l. rw l.is (record {
+            ends = λ u own some. ends l.base l.t.segment.size (is_data (located_at l.t l.base).placed) l.till some;
+            one_root = λ u a b own. t.c.is.one_root l.t.number u a b
+                (record { own = u; own_is = own_is t.c.g l.t.number u own; owner = inl refl });
+          })) laid.laid))
+        where
+          ends : (base size : ℕ) (d : Bool) → (0 < size → base + size ≤ t.high) → 0 < cond d size 0
+              → base + cond d size 0 ≤ 256
+          ends base size true till some = omega (arith, till some, t.run.most)
+          ends base size false till some = absurd (omega (arith, some))
+
+      met : Every (λ e. (byte o : ℕ) → own_of t.c.g e ≡ Some o
+          → has_byte e.placed.base (cond (is_data e.placed) e.placed.size 0) byte ≡ true
+          → has_byte t.low (t.high - t.low) byte ≡ true) located
+      met =
+          rw laid.are (every_append _ t.front laid.done
+          (every_weaker _ _ t.front (λ e none byte o own. absurd (own_none e o none own)) plain)
+          (every_weaker _ _ laid.done (λ e l. rw l.is (λ byte o own has.
+          let inside = data_byte (located_at l.t l.base).placed byte has in
+          let some : 0 < l.t.segment.size = omega (arith, inside.2, inside.3) in
+          let from = l.from some in
+          let till = l.till some in
+          (has_byte_tells t.low (t.high - t.low) byte).1
+          (omega (arith, from, inside.2), omega (arith, till, inside.3, t.run.order))
+          )) laid.laid))
+
+      -- two of related owners share no byte
+      abbrev Against : Numbered → Numbered → Type 0
+      Against e f = (a b : ℕ) → own_of t.c.g e ≡ Some a → own_of t.c.g f ≡ Some b → AreRelated (joined_graph t.c.g) a b
+          → conflicts t.c.g e f ≡ true
+
+      different : Pairs Against after.later
+      different =
+          zip_pairs _ _ (overlaid_in (order t.c)) after.later
+          (λ r u e f is is' other. rw (is.is, is'.is) (λ a b own own' related.
+          (conflict_tells t.c.g t.c.is.units r.number u.number other).1
+          (Owners a b (record { own = a; own_is = own_is t.c.g r.number a own; owner = inl refl })
+          (record { own = b; own_is = own_is t.c.g u.number b own'; owner = inl refl }) related))) after.each
+          (numbers (overlaid_in (order t.c)) (every_filter _ (λ (u : Ranked). is_some u.own) (order t.c) (ranked t.c))
+          pairs)
+        where
+          numbers : (rs : List Ranked) → Every (IsRankedOf t.c.g t.c.controls (segments t.c)) rs → Pairs Earlier rs
+              → Pairs (λ (r u : Ranked). r.number ≢ u.number) rs
+          numbers [] all rising = tt
+          numbers (r ∷ rs) all rising = (
+            every_both _ _ _ rs (λ u a e. differ t.c.g t.c.controls (segments t.c) r u all.0 a e) all.1 rising.0,
+            numbers rs all.1 rising.1,
+          )
+
+      apart_locals : Pairs (λ e f. KeptApart (joined_graph t.c.g) (local_at t.c.g e) (local_at t.c.g f)) located
+      apart_locals =
+          pairs_both (KeepApart t.c.g) Against
+          (λ e f. KeptApart (joined_graph t.c.g) (local_at t.c.g e) (local_at t.c.g f)) located
+          (λ e f keep other. record {
+            none = λ a b byte own own' related has has'.
+                keep.none (other a b own own' related)
+                (_, (data_byte e.placed byte has).4, (data_byte f.placed byte has').4);
+          }) after.apart (rw after.are (plain_pairs t.front plain))
+        where
+          plain_pairs : (es : List Numbered) → Every (λ e. own_of t.c.g e ≡ None) es
+              → Pairs Against (es ++ after.later)
+          plain_pairs [] none = different
+          plain_pairs (e ∷ es) none = (
+            every_of _ (es ++ after.later) (λ f there a b own. absurd (own_none e a none.0 own)),
+            plain_pairs es none.1,
+          )
+
+      -- the run has as many bytes as the weight
+      pub holds : t.low + t.weight ≤ t.high
+      holds =
+          let each : Every (IsLocal (joined_graph t.c.g)) xs = every_map _ _ located local_each in
+          let apart : Pairs (KeptApart (joined_graph t.c.g)) xs = pairs_map _ _ located apart_locals in
+          let items : AreLocals (joined_graph t.c.g) xs = record { each = each; apart = apart } in
+          let most =
+          weight_bound (joined_graph t.c.g) xs (unit_weight (segments t.c) t.c.g) t.weighed.chains t.weighed.free
+          (has_byte t.low (t.high - t.low))
+          items
+          t.c.is.no_cycle (λ u. sym (all_sum (nat_eq u))) t.weighed.heaviest
+          (λ unit is_free. (t.weighed.tells unit).0 is_free)
+          (every_map _ _ located met) in
+          in_run _ _ _ _ _ _ _ t.weighed.is most (all_sum t.weighed.free) (tally_range t.low (t.high - t.low) 256)
+          t.run.order
+        where
+          in_run : (bytes free free' met low high weight : ℕ) → weight ≡ bytes + free' → bytes + free ≤ met
+              → free ≡ free' → met ≡ min 256 (low + (high - low)) - min 256 low → low ≤ high → low + weight ≤ high
+          in_run bytes free free' met low high weight a b c d e = omega (arith, a, b, c, d, e)
+
+-- The weight of a graph is that of each layout that placing gives over it.
 
 -- the layout of a placing is that of what was placed
 pub record IsOfLocated (g : GraphParts) (count : ℕ) (found : Result (List Numbered) Refusal)
@@ -93,107 +316,182 @@ pub of_located : (g : GraphParts) (count : ℕ) (found : Result (List Numbered) 
 of_located g count (Ok located) p h = record { located = located; is = refl; placing = cc h }
 of_located g count (Err refusal) p h = absurd (cc h)
 
-module _ (modules : List ModuleParts) (controls : List (ℕ × Control)) (g : GraphParts) (low high weight : ℕ)
-    (valid : All IsValid modules) (resolved : AreResolved modules) (kept : AreKept controls) (is : IsGraph g)
-    (graph_is_of : graph_of modules controls ≡ Ok g)
-    (data_only : OverlaysData (segments_of modules) g)
-    (finds : FindsRun g (fixed_of modules controls (segments_of modules))
-    (order_of g controls (segments_of modules)) low high)
-    (located : List Numbered) (located_is : located_of modules controls g ≡ Ok located)
-    (h : IsWeight (parts_of_layout g located) weight) where
-  abbrev segments : List JoinedSegment
-  segments = segments_of modules
+-- the first owner of an extent is its own unit
+first_with : (g : GraphParts) (argument : Bool) (own : Option ℕ) → first_of_list (owners_with g argument own) ≡ own
+first_with g argument None = refl
+first_with g argument (Some own) = refl
 
-  abbrev fixed : List Numbered
-  fixed = fixed_of modules controls segments
+first_is_own : (g : GraphParts) (number : Option ℕ)
+    → first_of_list (option_map_or (owners_at g) number []) ≡ option_map_or (own_at g) number None
+first_is_own g None = refl
+first_is_own g (Some n) = first_with g (is_argument_at g n) (own_at g n)
 
-  abbrev order : List Ranked
-  order = order_of g controls segments
+-- the segments of the layout are the extents
+locals_are : (g : GraphParts) (located : List Numbered) (number : ℕ) (rest : List Numbered)
+    → ((k : ℕ) → slice_get rest k ≡ slice_get located (number + k))
+    → locals (parts_of_layout g located) number (map (λ (e : Numbered). e.placed) rest) ≡ map (local_at g) rest
+locals_are g located number [] from = refl
+locals_are g located number (e ∷ more) from =
+    let here : number + 0 ≡ number = omega arith in
+    let at : slice_get located number ≡ Some e = sym (rw here at (from 0)) in
+    let first : local_of e.placed (owners_of (parts_of_layout g located).owners number) ≡ local_at g e =
+    rw (owners_are g located number, at, first_is_own) in
+    let rest =
+    locals_are g located (number + 1) more
+    (λ k. let next : number + suc k ≡ number + 1 + k = omega arith in rw next at (from (suc k))) in
+    cc (first, rest)
 
-  abbrev l : LayoutParts
-  l = parts_of_layout g located
+-- chains by the roots of one program are chains by those of another with the same edges
+chains_there : (p q : ProgramGraph) (w : ℕ → ℕ) →
+    ((c : Chain) → IsHeaviestWalk p.edges w c → IsHeaviestWalk q.edges w c)
+    → ((v u : ℕ) → p.IsRoot v u → q.IsRoot v u) → ((v u : ℕ) → q.IsRoot v u → p.IsRoot v u) → (at : List ℕ)
+    (chains : List Chain) → ChainsFrom p w at chains → ChainsFrom q w at chains
+chains_there p q w heavy there back [] [] h = tt
+chains_there p q w heavy there back [] (c ∷ chains) h = absurd h
+chains_there p q w heavy there back (v ∷ more) [] h =
+    (λ unit root. h.0 unit (back v unit root), chains_there p q w heavy there back more [] h.1)
+chains_there p q w heavy there back (v ∷ more) (c ∷ chains) (inl h) =
+    inl (λ unit root. h.0 unit (back v unit root), chains_there p q w heavy there back more (c ∷ chains) h.1)
+chains_there p q w heavy there back (v ∷ more) (c ∷ chains) (inr h) =
+    inr (there v c.root h.0, heavy c h.1, chains_there p q w heavy there back more chains h.2)
 
-  shape : IsOf segments controls g
-  shape = graph_is modules controls g graph_is_of
+module _ (c : Program) (resolved : AreResolved c.modules) (located : List Numbered)
+    (located_is : located_of c.modules c.controls c.g ≡ Ok located) where
+  abbrev pub layout : LayoutParts
+  layout = parts_of_layout c.g located
 
-  joined : All IsJoined segments
-  joined = all_joined modules valid
+  pub whole : IsWhole c.g (segments c) located
+  whole = placed_whole c.modules c.controls c.g located c.of c.valid resolved c.kept located_is
 
-  whole : IsWhole g segments located
-  whole = placed_whole modules controls g located graph_is_of valid resolved kept located_is
+  pub rules : (shared_extents (fixed c) ≡ None) × (place_after c.g (fixed c) (order c) ≡ Ok located)
+  rules = unless_none (shared_extents (fixed c)) (place_after c.g (fixed c) (order c)) located located_is
 
-  layout_sound : IsSound l
-  layout_sound = sound segments controls g shape is located whole
-
-  -- placing from the first overlaid segment on
-  rest_placed : place_after g finds.extents (from_overlaid order) ≡ Ok located
-  rest_placed =
-      let rules = unless_none (shared_extents fixed) (place_after g fixed order) located located_is in
-      place_on g (before_overlaid order) (from_overlaid order) fixed finds.extents located finds.placed
-      (subst (λ (ts : List Ranked). place_after g fixed ts ≡ Ok located) (split order) rules.1)
-
-  -- the extents placed before it are plain
-  front_plain : All (λ (e : Numbered). own_of g e ≡ None) finds.extents
-  front_plain =
-      let added =
-      adds_plain g (before_overlaid order) fixed finds.extents
-      (lone_before g segments order (order_ranked g controls segments)) finds.placed in
-      subst (λ (es : List Numbered). All (λ (e : Numbered). own_of g e ≡ None) es) (sym added.are)
-      (All-append (λ (e : Numbered). own_of g e ≡ None) fixed added.later
-      (fixed_bare g modules controls segments shape joined kept.each) added.plain)
-
-  all_tops : AreTops (layout_graph l) (weight_of l) vectors (sum_by (λ (c : Chain). c.bytes) h.chains)
-  all_tops = tops (layout_graph l) (weight_of l) (one_root l layout_sound) vectors h.chains h.heaviest
-
-  holds : (k root : ℕ) (more : List ℕ) → k < 7 → graph.IsRootAt g (get_or vectors k 0) root → IsWalk g.edges root more
-      → all_tops.top k + sum_along (weight_of l) (root ∷ more) ≤ all_tops.top (suc k)
-  holds k root more below is_root walk =
-      all_tops.holds k root more below
-      (root_out segments controls g shape is located whole (get_or vectors k 0) root is_root) walk
-
-  free_there : (unit : ℕ) → root_number g unit ≡ 7 → h.free unit ≡ true
-  free_there unit end =
-      (h.tells unit).1
-      (λ vector lies. no_root g is unit end vector
-      (lies_in segments controls g shape is located whole vector unit lies))
-
-  total : (unit : ℕ) → sum_by (unit_bytes g unit) located ≤ weight_of l unit
-  total = unit_total segments controls g shape is located whole data_only
-
-  plain_at : (e : Numbered) → Contains finds.extents e → own_of g e ≡ None
-  plain_at e there = All-contains (λ (x : Numbered). own_of g x ≡ None) finds.extents e front_plain there
-
-  abbrev Piles : Type 0
-  Piles = ArePiled g is
-      (weight_of l)
-      low high all_tops.top h.free all_tops.rises holds free_there finds.extents finds.run plain_at located total
-
-  piles : Piles
-  piles =
-      piled_from g is
-      (weight_of l)
-      low high all_tops.top h.free all_tops.rises holds free_there finds.extents finds.run plain_at located total
-      (from_overlaid order) (first_is_not g controls segments data_only)
-      (all_from (IsEither g) order (order_either g controls segments data_only))
-      (pairs_from order (in_order g controls segments).rises) rest_placed
-
-  abbrev done : List Numbered
-  done = piles.done
-
-  abbrev Laid : Numbered → Type 0
-  Laid e = IsLaid g is
-      (weight_of l)
-      low high all_tops.top h.free all_tops.rises holds free_there finds.extents finds.run plain_at done [] e
-
-  -- sums over the overlaid segments are at most those over all
-  part_sum : (f : Numbered → ℕ) → sum_by f done ≤ sum_by f located
-  part_sum f =
+  passing_joined : (test : ℕ → Bool) → bytes_passing layout test 0 layout.placed ≡ bytes_joined c.g test 0 (segments c)
+  passing_joined test =
+      let after = are_after c.g (order c) (fixed c) located (apart c rules.0) rules.1 in
+      let same : locals layout 0 layout.placed ≡ map (local_at c.g) located =
+      locals_are c.g located 0 located (λ k. let none : 0 + k ≡ k = omega arith in rw none) in
+      passing_is layout test 0 layout.placed ∙ ap (λ (xs : List Local). total (bytes test) xs) same
+      ∙ total_map (bytes test) (local_at c.g) located
+      ∙ ap (λ (es : List Numbered). total (placed_bytes c.g test) es) after.are
+      ∙ total-append (placed_bytes c.g test) (fixed c) after.later
+      ∙ (let parts : total (placed_bytes c.g test) (fixed c) + total (placed_bytes c.g test) after.later
+      ≡ bytes_joined c.g test 0 (segments c) =
       omega (
         arith,
-        ap (sum_by f) piles.are,
-        sum_by-append f (finds.extents ++ done) piles.others,
-        sum_by-append f finds.extents done,
-      )
+        bare_sum c.g test (fixed c) (bare c),
+        zip_sum c.g test (order c) after.later after.each,
+        order_all c.g test (segments c) c.controls
+            (bare_absolute c.g c.modules c.controls (segments c) (shape c) (joined c) c.kept.each rules.0),
+      ) in parts)
+
+  same_weights : unit_weight (segments c) c.g ≡ weight_of layout
+  same_weights = λ i unit. sym (weight_is layout unit 0 layout.placed ∙ passing_joined (nat_eq unit)) i
+
+  same_roots : (v u : ℕ) → (layout_graph layout).IsRoot v u ↔ (joined_graph c.g).IsRoot v u
+  same_roots v u = (
+    root_in (segments c) c.controls c.g (shape c) c.is located whole v u,
+    root_out (segments c) c.controls c.g (shape c) c.is located whole v u,
+  )
+
+  pub agree : (weight : ℕ) → IsWeightOf (segments c) c.g weight → IsWeight layout weight
+  agree weight h = record {
+    chains = h.chains;
+    heaviest =
+        chains_there (joined_graph c.g) (layout_graph layout) (weight_of layout) (λ x heavy. heavy)
+        (λ v u. (same_roots v u).1) (λ v u. (same_roots v u).0) vectors h.chains
+        (subst (λ w. ChainsFrom (joined_graph c.g) w vectors h.chains) same_weights h.heaviest);
+    free = h.free;
+    tells = λ unit. (
+      λ f vector lies. (h.tells unit).0 f vector
+          (lies_in (segments c) c.controls c.g (shape c) c.is located whole vector unit lies),
+      λ none. (h.tells unit).1 (λ vector lies. none vector
+          (lies_out (segments c) c.controls c.g (shape c) c.is located whole vector unit lies)),
+    );
+    is = rw passing_joined h.is;
+  }
+
+  pub back : (weight : ℕ) → IsWeight layout weight → IsWeightOf (segments c) c.g weight
+  back weight h = record {
+    chains = h.chains;
+    heaviest = subst (λ w. ChainsFrom (joined_graph c.g) w vectors h.chains) (sym same_weights)
+        (chains_there (layout_graph layout) (joined_graph c.g) (weight_of layout) (λ x heavy. heavy)
+        (λ v u. (same_roots v u).0) (λ v u. (same_roots v u).1) vectors h.chains h.heaviest);
+    free = h.free;
+    tells = λ unit. (
+      λ f vector lies. (h.tells unit).0 f vector
+          (lies_out (segments c) c.controls c.g (shape c) c.is located whole vector unit lies),
+      λ none. (h.tells unit).1 (λ vector lies. none vector
+          (lies_in (segments c) c.controls c.g (shape c) c.is located whole vector unit lies)),
+    );
+    is = rw passing_joined at h.is;
+  }
+
+pub weights_agree : WeightsAgree
+weights_agree modules controls g p weight valid resolved kept is graph_is placed h =
+    let c : Program = record
+    { modules = modules; controls = controls; g = g; valid = valid; kept = kept; is = is; of = graph_is } in
+    let of = of_located g _ (located_of modules controls g) p placed in
+    subst (λ (x : Placing). IsWeight x.layout weight) of.placing (agree c resolved of.located of.is weight h)
+
+-- Placing covers by overlaid DATA as few bytes as it can.
+
+-- what lies in a range counts no more than its length
+in_range_most : (test : ℕ → Bool) (base size n : ℕ)
+    → ((byte : ℕ) → test byte ≡ true → (base ≤ byte) × (byte < base + size)) → count_below test n ≤ size
+in_range_most test base size n h =
+    omega (
+      arith,
+      tally_mono test (has_byte base size) n (λ byte passes. (has_byte_tells base size byte).1 (h byte passes)),
+      tally_range base size n,
+      count_is test n,
+    )
+
+-- an overlaid extent has an own unit
+not_bare : (g : GraphParts) (at : List JoinedSegment) (e : Numbered) (number : Option ℕ) → IsSpot g at e
+    → e.number ≡ number → e.placed.mark ≡ Overlaid → option_map_or (own_at g) number None ≡ None → ⊥
+not_bare g _ e None spot is mark none = spot.free is (subst IsSegment (sym mark) tt)
+not_bare g _ e (Some n) spot is mark none =
+    let own = (spot.numbered n is).overlaid mark in none-some own.0 (sym none ∙ own.1)
+
+both_ways : (a b run : ℕ) → a ≤ b → b ≤ a → a ≤ run → (a ≡ b) × (b ≤ run)
+both_ways a b run h k m = (omega (arith, h, k), omega (arith, k, m))
+
+module _ (c : Program) (low high weight : ℕ) (resolved : AreResolved c.modules)
+    (data_only : OverlaysData (segments c) c.g) (finds : FindsRun c.g (fixed c) (order c) low high)
+    (located : List Numbered) (located_is : located_of c.modules c.controls c.g ≡ Ok located)
+    (h : IsWeight (layout c resolved located located_is) weight) where
+  abbrev t : Setting
+  t = record {
+    c = c;
+    low = low;
+    high = high;
+    weight = weight;
+    shares = (rules c resolved located located_is).0;
+    data_only = data_only;
+    front = finds.extents;
+    front_is = finds.placed;
+    run = finds.run;
+    weighed = back c resolved located located_is weight h;
+  }
+
+  -- what is placed up to the last overlaid segment, and the rest
+  parts : AreParts c.g (order c)
+  parts = all_parts t
+
+  middle : (es : List Numbered) × (place_after c.g finds.extents (overlaid_in (order c)) ≡ Ok es)
+      × (place_after c.g es parts.rest ≡ Ok located)
+  middle =
+      let whole = rw parts.are at (rules c resolved located located_is).1 in
+      let later = rw finds.placed at (rw place_append at whole) in
+      both_ok (place_after c.g finds.extents (overlaid_in (order c))) (λ es. place_after c.g es parts.rest) located
+      (rw place_append at later)
+
+  done : AreLaid (scene t) (unrooted t) middle.0
+  done = laid t middle.0 middle.1
+
+  rest : AreAfter c.g middle.0 parts.rest located
+  rest = are_after c.g parts.rest middle.0 located (after t middle.0 middle.1).apart middle.2
 
   -- where an overlaid segment lies
   record IsIn (byte : ℕ) : Type 0 where
@@ -201,74 +499,116 @@ module _ (modules : List ModuleParts) (controls : List (ℕ × Control)) (g : Gr
     till : byte < high
     weighs : byte < low + weight
 
-  laid_in : (e : Numbered) (byte : ℕ) → Laid e → has_byte e.placed.base e.placed.size byte ≡ true → IsIn byte
-  laid_in e byte laid has =
+  laid_in : (e : Numbered) (byte : ℕ) → IsLaid (scene t) done.done [] e
+      → has_byte e.placed.base e.placed.size byte ≡ true → IsIn byte
+  laid_in e byte l has =
       let inside = (has_byte_tells e.placed.base e.placed.size byte).0 has in
-      let base : e.placed.base ≡ laid.base = ap (λ (x : Numbered). x.placed.base) laid.is in
-      let size : e.placed.size ≡ laid.t.segment.size = ap (λ (x : Numbered). x.placed.size) laid.is in
-      let some : 0 < laid.t.segment.size = omega (arith, inside.0, inside.1, size) in
-      let from = laid.from some in
-      let till = laid.till some in
-      let unit_most : sum_by (unit_bytes g laid.unit) done ≤ weight_of l laid.unit =
-      omega (arith, part_sum (unit_bytes g laid.unit), total laid.unit) in
+      let base : e.placed.base ≡ l.base = ap (λ (x : Numbered). x.placed.base) l.is in
+      let size : e.placed.size ≡ l.t.segment.size = ap (λ (x : Numbered). x.placed.size) l.is in
+      let some : 0 < l.t.segment.size = omega (arith, inside.0, inside.1, size) in
+      let from = l.from some in
+      let till = l.till some in
       let most =
-      under_all g (weight_of l) low all_tops.top h.free all_tops.rises holds (root_above g is)
-      (few_roots g is) free_there done laid.unit (laid.base + laid.t.segment.size) unit_most (laid.ends some) in
-      let free : sum_by (free_bytes g h.free) done ≤ bytes_passing l h.free 0 l.placed =
-      omega (
-        arith,
-        part_sum (free_bytes g h.free),
-        free_total segments controls g shape is located whole data_only h.free,
-      ) in
-      let last : all_tops.top 7 ≡ sum_by (λ (c : Chain). c.bytes) h.chains = all_tops.last in
+      under_all (scene t) done.done l.one.unit (l.base + l.t.segment.size)
+      (omega (arith, done.room.units l.one.unit)) (l.ends some) in
       record {
         from = omega (arith, from, base, inside.0);
         till = omega (arith, till, base, size, inside.1);
-        weighs = omega (arith, most, free, last, h.is, base, size, inside.1);
+        weighs = omega (arith, most, done.room.others, weighs t, base, size, inside.1);
       }
 
-  bare_out : (e : Numbered) → Contains located e → e.placed.mark ≡ Overlaid → own_of g e ≡ None → ⊥
+  bare_out : (e : Numbered) → In e located → e.placed.mark ≡ Overlaid → own_of c.g e ≡ None → ⊥
   bare_out e there mark none =
-      not_bare g segments e e.number (All-contains (IsSpot g segments) located e whole.spots there) refl mark none
+      not_bare c.g (segments c) e e.number
+      (every_in (IsSpot c.g (segments c)) located e (whole c resolved located located_is).spots there) refl mark none
 
-  covered_in : (byte : ℕ) → list_any (covers_byte byte) l.placed ≡ true → IsIn byte
+  -- the extents before the overlaid segments, these, and plain ones
+  sides : (e : Numbered) (byte : ℕ) → In e located → e.placed.mark ≡ Overlaid
+      → has_byte e.placed.base e.placed.size byte ≡ true → IsIn byte
+  sides e byte there mark has = elim (in_cases middle.0 rest.later e (rw rest.are at there)) [
+    | inr other ↦ absurd (bare_out e there mark
+        (every_in (λ e. own_of c.g e ≡ None) rest.later e
+        (zip_every (λ u. own_at c.g u.number ≡ None) (λ e. own_of c.g e ≡ None) parts.rest rest.later
+        (λ u e is lone. rw is.is lone) rest.each parts.after) other))
+    | inl first ↦ elim (in_cases finds.extents done.done e (rw done.are at first)) [
+      | inl front ↦ absurd (bare_out e there mark (every_in (λ e. own_of c.g e ≡ None) finds.extents e (plain t) front))
+      | inr in_done ↦ laid_in e byte (every_in (IsLaid (scene t) done.done []) done.done e done.laid in_done) has
+    ]
+  ]
+
+  covered_in : (byte : ℕ) → list_any (covers_byte byte) (map (λ (e : Numbered). e.placed) located) ≡ true → IsIn byte
   covered_in byte covers =
-      let any = Any-from_list_any (covers_byte byte) l.placed covers in
+      let any = Any-from_list_any (covers_byte byte) (map (λ (e : Numbered). e.placed) located) covers in
       let p : Placed = any.1 in
       let both = and_parts (is_data p) (has_byte p.base p.size byte) any.4 in
-      let image = from_image located p (any.0, any.2, any.3) in
-      let e : Numbered = image.e in
-      let mark : e.placed.mark ≡ Overlaid = ap (λ (x : Placed). x.mark) image.is
-      ∙ (data_kind p.kind p.reloc p.mark both.0).1 in
-      let has : has_byte e.placed.base e.placed.size byte ≡ true =
-      ap (λ (x : Placed). has_byte x.base x.size byte) image.is ∙ both.1 in
-      elim (Contains-append_cases (finds.extents ++ done) piles.others e
-      (subst (λ (es : List Numbered). Contains es e) piles.are image.there)) as (λ _. IsIn byte) [
-        | inr other ↦ absurd
-            (bare_out e image.there mark
-            (All-contains (λ (x : Numbered). own_of g x ≡ None) piles.others e piles.plain_others other))
-        | inl part ↦ elim (Contains-append_cases finds.extents done e part) as (λ _. IsIn byte) [
-          | inl front ↦ absurd (bare_out e image.there mark (plain_at e front))
-          | inr in_done ↦ laid_in e byte (All-contains Laid done e piles.laid in_done) has
-        ]
-      ]
+      let image = in_map (λ (e : Numbered). e.placed) located p (in_contains _ p (any.0, any.2, any.3)) in
+      sides image.0 byte image.1
+      (ap (λ (x : Placed). x.mark) image.2 ∙ (data_kind p.kind p.reloc p.mark both.0).1) (rw image.2 both.1)
 
-  tight : (covered_bytes l ≡ weight) × (low ≤ high) × (weight ≤ high - low)
+  pub tight : (covered_bytes (layout c resolved located located_is) ≡ weight) × (low ≤ high) × (weight ≤ high - low)
   tight =
-      let test : ℕ → Bool = λ byte. list_any (covers_byte byte) l.placed in
+      let test : ℕ → Bool = λ byte. list_any (covers_byte byte) (map (λ (e : Numbered). e.placed) located) in
       let most =
-      in_range_most 256 test low weight (λ byte covers. let at = covered_in byte covers in (at.from, at.weighs)) in
+      in_range_most test low weight 256 (λ byte covers. let at = covered_in byte covers in (at.from, at.weighs)) in
       let run_is : low + (high - low) ≡ high = omega (arith, finds.run.order) in
       let room =
-      in_range_most 256 test low (high - low)
+      in_range_most test low (high - low) 256
       (λ byte covers. let at = covered_in byte covers in (at.from, omega (arith, at.till, run_is))) in
-      let bound = least l weight layout_sound h in
-      (both_ways _ _ most bound, finds.run.order, le_trans bound room)
+      let bound =
+      least (layout c resolved located located_is) weight
+      (sound (segments c) c.controls c.g (shape c) c.is located (whole c resolved located located_is)) h in
+      let both = both_ways (covered_bytes (layout c resolved located located_is)) weight (high - low) most bound room in
+      (both.0, finds.run.order, both.1)
 
 pub placing_tight : PlacingIsTight
-placing_tight modules controls g p low high weight valid resolved kept is graph_is_of placed data_only finds h =
-    let of = of_located g (length (segments_of modules)) (located_of modules controls g) p placed in
-    let same : parts_of_layout g of.located ≡ p.layout = ap (λ (x : Placing). x.layout) of.placing in
-    subst (λ (l : LayoutParts). (covered_bytes l ≡ weight) × (low ≤ high) × (weight ≤ high - low)) same
-    (tight modules controls g low high weight valid resolved kept is graph_is_of data_only finds of.located of.is
-    (subst (λ (l : LayoutParts). IsWeight l weight) (sym same) h))
+placing_tight modules controls g p low high weight valid resolved kept is graph_is placed data_only finds h =
+    let c : Program = record
+    { modules = modules; controls = controls; g = g; valid = valid; kept = kept; is = is; of = graph_is } in
+    let of = of_located g _ (located_of modules controls g) p placed in
+    subst (λ (x : Placing). (covered_bytes x.layout ≡ weight) × (low ≤ high) × (weight ≤ high - low)) of.placing
+    (tight c low high weight resolved data_only finds of.located of.is
+    (subst (λ (x : Placing). IsWeight x.layout weight) (sym of.placing) h))
+
+-- Where overlaid segments are of DATA of type UNIT only, a map's figure of overlaid bytes is what they cover.
+
+same_data : (kind : Kind) (reloc : Reloc) (mark : Mark) → (mark ≡ Overlaid → (kind ≡ Direct) × (reloc ≡ UnitType))
+    → is_overlaid_data kind UnitType mark ≡ is_overlaid_data kind reloc mark
+same_data kind reloc mark h = grind arith
+
+-- so each extent counts in the one figure where it counts in the other
+module _ (g : GraphParts) (segments : List JoinedSegment) (data_only : OverlaysData segments g) where
+  of_data : (e : Numbered) (number : Option ℕ) → IsSpot g segments e → e.number ≡ number → e.placed.mark ≡ Overlaid
+      → (e.placed.kind ≡ Direct) × (e.placed.reloc ≡ UnitType)
+  of_data e None spot is mark = absurd (spot.free is (subst IsSegment (sym mark) tt))
+  of_data e (Some n) spot is mark =
+      let of = spot.numbered n is in
+      let own = of.overlaid mark in
+      let told = data_only.data_only n own.0 of.j (own_is g n own.0 own.1) of.is in
+      (of.kind ∙ told.0, of.reloc ∙ told.1)
+
+  any_same : (byte : ℕ) (es : List Numbered) → Every (IsSpot g segments) es
+      → list_any (overlays_byte byte) (map (λ (e : Numbered). e.placed) es)
+      ≡ list_any (covers_byte byte) (map (λ (e : Numbered). e.placed) es)
+  any_same byte [] spots = refl
+  any_same byte (e ∷ es) spots =
+      rw (
+        same_data e.placed.kind e.placed.reloc e.placed.mark (of_data e e.number spots.0 refl),
+        any_same byte es spots.1,
+      )
+
+  count_same : (es : List Numbered) (n : ℕ) → Every (IsSpot g segments) es
+      → count_below (λ byte. list_any (overlays_byte byte) (map (λ (e : Numbered). e.placed) es)) n
+      ≡ count_below (λ byte. list_any (covers_byte byte) (map (λ (e : Numbered). e.placed) es)) n
+  unfolding count_below
+  count_same es zero spots = refl
+  count_same es (suc n) spots =
+      let one : Bool → ℕ = λ b. cond b 1 0 in
+      omega (arith, ap one (any_same n es spots), count_same es n spots)
+
+pub figure_is_weight : FigureIsWeight
+figure_is_weight modules controls g p low high weight valid resolved kept is graph_is placed data_only finds h =
+    let of = of_located g _ (located_of modules controls g) p placed in
+    let whole = placed_whole modules controls g of.located graph_is valid resolved kept of.is in
+    subst (λ (x : Placing). overlaid_bytes x.layout ≡ covered_bytes x.layout) of.placing
+    (count_same g (segments_of modules) data_only of.located 256 whole.spots)
+    ∙ (placing_tight modules controls g p low high weight valid resolved kept is graph_is placed data_only finds h).0

@@ -1,31 +1,380 @@
--- What was placed: each joined segment once, and extents in conflict apart.
-use Rattle.m51_place.proofs.Common.{◌≡◌, ◌⊎◌, inl, inr, ℕ, zero, suc, ◌+◌, ◌<◌, ◌≤◌, true, false, Bool, cond, nat_eq}
-use Rattle.m51_place.proofs.Common.{List, [], ◌∷◌, length, get_or, Option, Some, None, Result, Ok, unwrap_or, refl, sym}
-use Rattle.m51_place.proofs.Common.{ap, subst, ◌∙◌, arith, slice_get, position, option_map_or, All, AllPairs, AllZip}
-use Rattle.m51_place.proofs.Common.{position_or_len, sum_by, false≢true, Decides-eqb, leb_tells, All-nil, All-cons}
-use Rattle.m51_place.proofs.Common.{All-append, All-head, All-tail, fails_before_first, sum_by-append, sum_by-cons}
-use Rattle.m51_place.proofs.Common.{slice_get-get_or, slice_get_within, Number, Abs, Control, AreKept, Refusal}
-use Rattle.m51_place.proofs.Common.{ModuleParts, Plain, JoinedSegment, IsValid, segments_of, AreResolved, GraphParts}
-use Rattle.m51_place.proofs.Common.{graph_of, unless, is_absolute, Numbered, Ranked, fixed_of, shared_extents, order_of}
-use Rattle.m51_place.proofs.Common.{ranked_of, ranked_from, located_of, place_after, IsNumbered}
-use Rattle.std.proofs.Common.{length-append}
+-- What each placed extent is, and that each joined segment is placed once.
+use Rattle.m51_place.proofs.Common.{◌≢◌, ◌≡◌, inl, inr, ℕ, zero, suc, ◌+◌, ◌*◌, ◌<◌, ◌≤◌, true, List, [], ◌∷◌, Option}
+use Rattle.m51_place.proofs.Common.{Some}
+use Rattle.m51_place.proofs.Common.{None, refl, sym, ap, subst, ◌∙◌, arith, slice_get, option_map_or, All, false≢true}
+use Rattle.m51_place.proofs.Common.{slice_get-map, same_Some, none-some, Kind, Code, Xdata, Direct, Idata, Bits, Number}
+use Rattle.m51_place.proofs.Common.{Reloc, Abs, extent_of, Fits, FitsMemory, Control, Absolute, Overlaid, Placed}
+use Rattle.m51_place.proofs.Common.{IsSegment, IsInside, IsFit, JoinedSegment, GraphParts, is_absolute, cases_Bool}
+use Rattle.m51_place.proofs.Common.{Numbered, Ranked, absolute, absolutes_from, own_at, located_at, mark_of, ◌-◌, false}
+use Rattle.m51_place.proofs.Common.{Bool, ◌++◌, length, get_or, append_assoc, position, position_or_len, append-nil}
+use Rattle.m51_place.proofs.Common.{fails_before_first, slice_get-get_or, Ram, IsAllowed, ModuleParts, extent_at}
+use Rattle.m51_place.proofs.Common.{banks_of, fixed_of, first_met, reserves_of, shared_at, shared_after, nat_eq, Result}
+use Rattle.m51_place.proofs.Common.{Ok, AllZip, one_if, slice_get_within, AreKept, Refusal, Plain, IsValid, segments_of}
+use Rattle.m51_place.proofs.Common.{AreResolved, graph_of, unless, shared_extents, order_of, ranked_from, located_of}
+use Rattle.m51_place.proofs.Common.{place_after, IsNumbered}
+use Rattle.std.proofs.lemmas.Bool.{true_from_ne_false, cases_order, eq-eqb, eqb-true}
+use Rattle.m51_graph.specs.Locals.{overlaid_by}
+use Rattle.m51_graph.specs.Units.{unit_titles}
+use Rattle.m51_cells.proofs.Members.{Every, all_every, every_append, every_of, every_weaker, Pairs, pairs_push, total}
+use Rattle.m51_cells.proofs.Members.{total-append, total_none, every_all, contains_in}
+use Rattle.m51_place.proofs.Ranks.{IsJoined, IsOf, AreFrom, from_head, from_tail, IsRankedOf, joined_at, place_is}
+use Rattle.m51_place.proofs.Ranks.{extent_count, from_start, all_joined, graph_is, as_many_own, once, order_moves}
+use Rattle.m51_place.proofs.Ranks.{order_ranked, ranked_count}
+use Rattle.std.proofs.Common.{codes, length-append}
+use Rattle.std.specs.List.{cons_option}
+use Rattle.std.proofs.lemmas.List.Quantifiers.{position-Some}
+use Rattle.m51_graph.proofs.Judged.{none_of_both}
+use Rattle.m51_cells.specs.declared.cell.Space.TheVariants.{Xram, Code as CodeSpace}
+use Rattle.m51_control.specs.declared.control.Control.TheVariants.{Reserve, Add, Cut, NoOverlay, Order}
+use Rattle.m51_place.specs.Bases.{share}
+use Rattle.m51_place.specs.Fixed.{bank, bank_if, reserve_as, reserve_of, uses, without_number}
+use Rattle.m51_place.proofs.Free.{KeepApart, share_tells, are_after, IsPlacedRanked, zip_every}
+use Rattle.m51_place.proofs.Piled.{own_of}
 use Rattle.std.specs.Prelude.{find}
 use Rattle.std.proofs.lemmas.List.Folds.{find_at}
-use Rattle.std.proofs.lemmas.List.Quantifiers.{position-Some}
 use Rattle.std.proofs.lemmas.List.Sorted.{length_permutation}
 use Rattle.m51_place.specs.Placement.{is_number, joined_index}
-use Rattle.m51_place.proofs.After.{are_after, IsPlacedRanked, KeepApart}
-use Rattle.m51_place.proofs.Putting.{place_is}
-use Rattle.m51_place.proofs.Segments.{all_joined, graph_is, IsJoined, IsOf}
-use Rattle.m51_place.proofs.Spots.{IsSpot, placed_spot}
-use Rattle.m51_place.proofs.Start.{fixed_apart, fixed_count, fixed_few, fixed_spots}
-use Rattle.m51_place.proofs.Ranks.{as_many_own, extent_count, IsRankedOf, once, order_moves, order_ranked, ranked_count}
+
+-- What each placed extent is.
+
+-- the extent is the joined segment of that number, whose owner is that
+pub record IsSegmentOf (g : GraphParts) (segments : List JoinedSegment) (number : ℕ) (p : Placed) : Type 0 where
+  pub j : JoinedSegment
+  pub is : slice_get segments number ≡ Some j
+  pub title : p.title ≡ j.title
+  pub kind : p.kind ≡ j.kind
+  pub reloc : p.reloc ≡ j.reloc
+  pub size : p.size ≡ j.size
+  pub room : p.kind ≡ Code → p.base + p.size ≤ 65536
+  pub segment : IsSegment p.mark
+  pub fixed : is_absolute j.reloc ≡ true → (p.mark ≡ Absolute) × (p.base ≡ j.base)
+  pub absolute : p.mark ≡ Absolute → is_absolute j.reloc ≡ true
+  pub overlaid : p.mark ≡ Overlaid → (unit : ℕ) × (own_at g number ≡ Some unit)
+  pub owned : (unit : ℕ) → own_at g number ≡ Some unit → p.mark ≡ Overlaid
+
+-- what a placed extent is
+pub record IsSpot (g : GraphParts) (segments : List JoinedSegment) (e : Numbered) : Type 0 where
+  pub fit : IsFit e.placed
+  pub numbered : (number : ℕ) → e.number ≡ Some number → IsSegmentOf g segments number e.placed
+  pub free : e.number ≡ None → IsSegment e.placed.mark → ⊥
+
+-- what fits lies inside its memory
+memory_inside : (reloc : Reloc) (base size at : ℕ) → FitsMemory reloc base size → base ≤ at → at < base + size
+    → at < 65536
+memory_inside reloc base size at h from below = grind arith
+
+direct_ends : (reloc : Reloc) (base size : ℕ) → Fits Direct reloc base size → base + size ≤ 0x80
+direct_ends reloc base size h = grind arith
+
+fits_inside : (kind : Kind) (reloc : Reloc) (base size : ℕ) → Fits kind reloc base size
+    → IsInside (extent_of kind base size)
+fits_inside Direct reloc base size h c covers =
+    let below : c.at < 8 * base + 8 * size = covers.below in
+    omega (arith, direct_ends reloc base size h, below)
+fits_inside Idata reloc base size h c covers =
+    let ends : base + size ≤ 0x100 = h in
+    let below : c.at < 8 * base + 8 * size = covers.below in
+    omega (arith, ends, below)
+fits_inside Bits reloc base size h c covers =
+    let ends : base + size ≤ 0x80 = h in
+    let below : c.at < 256 + base + size = covers.below in
+    omega (arith, ends, below)
+fits_inside Code reloc base size h c covers = memory_inside reloc base size c.at h covers.from covers.below
+fits_inside Xdata reloc base size h c covers = memory_inside reloc base size c.at h covers.from covers.below
+fits_inside Number reloc base size h c covers = absurd h
+
+-- what fits in program memory ends in it, but for an empty segment of a block, whose base is an address
+code_room : (reloc : Reloc) (base size : ℕ) → base ≤ 65536 → Fits Code reloc base size → base + size ≤ 65536
+code_room reloc base size low h = grind arith
+
+room_of : (kind : Kind) (reloc : Reloc) (base size : ℕ) → (Fits Code reloc base size → base ≤ 65536)
+    → Fits kind reloc base size → kind ≡ Code → base + size ≤ 65536
+room_of kind reloc base size low h code = let fits = rw code at h in code_room reloc base size (low fits) fits
+
+-- the own unit of a joined segment is that of the graph
+pub own_is_of : (segments : List JoinedSegment) (controls : List (ℕ × Control)) (g : GraphParts)
+    → IsOf segments controls g → (number : ℕ) (j : JoinedSegment) → slice_get segments number ≡ Some j
+    → own_at g number ≡ overlaid_by (unit_titles segments) controls j
+own_is_of segments controls g is number j at = rw (is.own, slice_get-map, at)
+
+module _ (segments : List JoinedSegment) (controls : List (ℕ × Control)) (g : GraphParts)
+    (is : IsOf segments controls g) (all : All IsJoined segments) where
+  marked : (number : ℕ) (j : JoinedSegment) (unit : ℕ) → slice_get segments number ≡ Some j → own_at g number
+      ≡ Some unit → j.overlay ≡ true
+  marked number j unit at owner = true_from_ne_false j.overlay
+      (λ bare. none-some unit (rw (own_is_of segments controls g is number j at, bare) at owner))
+
+  -- an absolute segment
+  absolute_spot : (number : ℕ) (j : JoinedSegment) → slice_get segments number ≡ Some j → is_absolute j.reloc ≡ true
+      → IsSpot g segments (absolute number j)
+  absolute_spot number j at abs =
+      let joined : IsJoined j = joined_at IsJoined segments number j all at in
+      record {
+        fit = record {
+          kind = joined.kind;
+          inside = fits_inside j.kind Abs j.base j.size (joined.fits abs);
+          absolute = λ _. joined.some abs;
+          code = λ _ e. cc e;
+        };
+        numbered = λ n e. subst (λ m. IsSegmentOf g segments m (absolute number j).placed) (same_Some number n e)
+            (record {
+              j = j;
+              is = at;
+              title = refl;
+              kind = refl;
+              reloc = refl;
+              size = refl;
+              room = room_of j.kind Abs j.base j.size
+                  (λ h. let ends : j.base + j.size ≤ 65536 = h in omega (arith, ends)) (joined.fits abs);
+              segment = tt;
+              fixed = λ _. (refl, refl);
+              absolute = λ _. abs;
+              overlaid = λ e. absurd (cc e);
+              owned = λ unit owner. absurd (false≢true (sym (joined.plain abs) ∙ marked number j unit at owner));
+            });
+        free = λ e. absurd (cc e);
+      }
+
+  -- a relocatable segment that is placed
+  plain_segment : (owner : Option ℕ) → IsSegment (mark_of owner)
+  plain_segment None = tt
+  plain_segment (Some unit) = tt
+
+  not_absolute : (owner : Option ℕ) → mark_of owner ≡ Absolute → ⊥
+  not_absolute None e = cc e
+  not_absolute (Some unit) e = cc e
+
+  has_owner : (owner : Option ℕ) → mark_of owner ≡ Overlaid → (unit : ℕ) × (owner ≡ Some unit)
+  has_owner None e = absurd (cc e)
+  has_owner (Some unit) e = (unit, refl)
+
+  pub placed_spot : (t : Ranked) (base : ℕ) → IsRankedOf g controls segments t → base < 65536
+      → Fits t.segment.kind t.segment.reloc base t.segment.size → IsSpot g segments (located_at t base)
+  placed_spot t base h low fits =
+      let j = t.segment in
+      let joined : IsJoined j = joined_at IsJoined segments t.number j all h.segment in
+      record {
+        fit = record {
+          kind = joined.kind;
+          inside = fits_inside j.kind j.reloc base j.size fits;
+          absolute = λ e. absurd (not_absolute t.own e);
+          code = λ code e. let owner = has_owner t.own e in
+              joined.code (marked t.number j owner.0 h.segment (sym h.own ∙ owner.1)) code;
+        };
+        numbered = λ n e. subst (λ m. IsSegmentOf g segments m (located_at t base).placed) (same_Some t.number n e)
+            (record {
+              j = j;
+              is = h.segment;
+              title = refl;
+              kind = refl;
+              reloc = refl;
+              size = refl;
+              room = room_of j.kind j.reloc base j.size (λ _. omega (arith, low)) fits;
+              segment = plain_segment t.own;
+              fixed = λ abs. absurd (false≢true (sym h.relocatable ∙ abs));
+              absolute = λ e. absurd (not_absolute t.own e);
+              overlaid = λ e. let owner = has_owner t.own e in (owner.0, sym h.own ∙ owner.1);
+              owned = λ unit owner. ap mark_of (h.own ∙ owner);
+            });
+        free = λ e. absurd (cc e);
+      }
+
+  -- absolute segments from a number on
+  pub absolute_spots : (number : ℕ) (rest : List JoinedSegment) → AreFrom segments number rest
+      → Every (IsSpot g segments) (absolutes_from number rest)
+  absolute_spots number [] h = tt
+  absolute_spots number (j ∷ more) h =
+      let tail = absolute_spots (number + 1) more (from_tail segments number j more h) in
+      elim (cases_Bool (is_absolute j.reloc)) [
+        | inl abs ↦ rw abs (absolute_spot number j (from_head segments number j more h) abs, tail)
+        | inr rel ↦ rw rel tail
+      ]
+
+-- The fixed extents: what each is, which joined numbers they have, and that no two of them share a cell.
+
+-- an extent that is no segment
+pub record IsFree (e : Numbered) : Type 0 where
+  pub number : e.number ≡ None
+  pub fit : IsFit e.placed
+  pub free : IsSegment e.placed.mark → ⊥
+
+free_of : (p : Placed) → p.kind ≢ Number → IsInside (extent_at p) → (IsSegment p.mark → ⊥) → IsFree (without_number p)
+free_of p kind inside free = record {
+  number = refl;
+  fit = record {
+    kind = kind;
+    inside = inside;
+    absolute = λ e. absurd (free (subst IsSegment (sym e) tt));
+    code = λ _ e. free (subst IsSegment (sym e) tt);
+  };
+  free = free;
+}
+
+bank_free : (title : List ℕ) (base : ℕ) → base ≤ 24 → IsFree (bank title base)
+bank_free title base low = free_of (bank title base).placed (λ e. cc e)
+    (λ c h. let below : c.at < 8 * base + 8 * 8 = h.below in omega (arith, low, below)) (λ h. h)
+
+bank_if_free : (used : Bool) (title : List ℕ) (base : ℕ) → base ≤ 24 → Every IsFree (bank_if used title base)
+    × (length (bank_if used title base) ≤ 1)
+bank_if_free true title base low = ((bank_free title base low, tt), omega arith)
+bank_if_free false title base low = (tt, omega arith)
+
+banks_free : (modules : List ModuleParts) → Every IsFree (banks_of modules) × (length (banks_of modules) ≤ 4)
+banks_free modules =
+    let one = bank_if_free (uses modules 2) (codes "BANK1") 8 (omega arith) in
+    let two = bank_if_free (uses modules 4) (codes "BANK2") 16 (omega arith) in
+    let three = bank_if_free (uses modules 8) (codes "BANK3") 24 (omega arith) in
+    let zero_bank : List Numbered = bank (codes "BANK0") 0 ∷ [] in
+    let b1 : List Numbered = bank_if (uses modules 2) (codes "BANK1") 8 in
+    let b2 : List Numbered = bank_if (uses modules 4) (codes "BANK2") 16 in
+    let b3 : List Numbered = bank_if (uses modules 8) (codes "BANK3") 24 in
+    let first : Every IsFree zero_bank = (bank_free (codes "BANK0") 0 (omega arith), tt) in (
+      every_append IsFree (zero_bank ++ b1 ++ b2) b3
+          (every_append IsFree (zero_bank ++ b1) b2 (every_append IsFree zero_bank b1 first one.0) two.0) three.0,
+      simp length-append (omega (arith, one.1, two.1, three.1)),
+    )
+
+reserve_free : (control : Control) (e : Numbered) → IsAllowed control → reserve_of control ≡ Some e → IsFree e
+reserve_free (Reserve Ram low high) e allowed is = rw (← same_Some _ e is)
+    (free_of (reserve_as Direct low high).placed (λ e. cc e)
+    (λ c h. let below : c.at < 8 * low + 8 * (high - low + 1) = h.below in
+    omega (arith, allowed.0, allowed.1, below)) (λ h. h))
+reserve_free (Reserve Xram low high) e allowed is = rw (← same_Some _ e is)
+    (free_of (reserve_as Xdata low high).placed (λ e. cc e)
+    (λ c h. let below : c.at < low + (high - low + 1) = h.below in omega (arith, allowed.0, allowed.1, below)) (λ h. h))
+reserve_free (Reserve CodeSpace low high) e allowed is = absurd allowed
+reserve_free (Add from names) e allowed is = absurd (cc is)
+reserve_free (Cut from names) e allowed is = absurd (cc is)
+reserve_free (NoOverlay name) e allowed is = absurd (cc is)
+reserve_free (Order class names) e allowed is = absurd (cc is)
+
+-- what one line adds
+next_free : (found : Option Numbered) (rest : List Numbered) (n : ℕ) → ((e : Numbered) → found ≡ Some e → IsFree e)
+    → Every IsFree rest × (length rest ≤ n) → Every IsFree (cons_option found rest)
+    × (length (cons_option found rest) ≤ suc n)
+next_free None rest n free h = (h.0, omega (arith, h.1))
+next_free (Some e) rest n free h = ((free e refl, h.0), omega (arith, h.1))
+
+reserves_free : (controls : List (ℕ × Control)) → Every (λ line. IsAllowed line.1) controls
+    → Every IsFree (reserves_of controls) × (length (reserves_of controls) ≤ length controls)
+reserves_free [] allowed = (tt, omega arith)
+reserves_free (line ∷ more) allowed =
+    next_free (reserve_of line.1) (reserves_of more) (length more) (λ e. reserve_free line.1 e allowed.0)
+    (reserves_free more allowed.1)
+
+absolutes_few : (number : ℕ) (rest : List JoinedSegment) → length (absolutes_from number rest) ≤ length rest
+absolutes_few number [] = omega arith
+absolutes_few number (j ∷ more) =
+    let h = absolutes_few (number + 1) more in
+    elim (cases_Bool (is_absolute j.reloc))
+    [ inl abs ↦ rw abs (omega (arith, h)) | inr rel ↦ rw rel (omega (arith, h)) ]
+
+absolute_bare : (g : GraphParts) (segments : List JoinedSegment) (e : Numbered) (number : Option ℕ) (own : Option ℕ)
+    → IsSpot g segments e → e.number ≡ number → option_map_or (own_at g) number None ≡ own
+    → is_absolute e.placed.reloc ≡ true → own ≡ None
+absolute_bare g segments e number None spot is own abs = refl
+absolute_bare g segments e None (Some u) spot is own abs = absurd (cc own)
+absolute_bare g segments e (Some n) (Some u) spot is own abs =
+    let of = spot.numbered n is in
+    let mark = of.owned u own in
+    let fixed = of.fixed (rw of.reloc at abs) in
+    absurd (cc (mark, fixed.0))
+
+module _ (g : GraphParts) (modules : List ModuleParts) (controls : List (ℕ × Control)) (segments : List JoinedSegment)
+    (is : IsOf segments controls g) (joined : All IsJoined segments)
+    (allowed : All (λ (line : ℕ × Control). IsAllowed line.1) controls) where
+  reserves : Every IsFree (reserves_of controls) × (length (reserves_of controls) ≤ length controls)
+  reserves = reserves_free controls (all_every _ controls allowed)
+
+  -- what holds of all fixed extents
+  fixed_each : (P : Numbered → Type 0) → ((e : Numbered) → IsFree e → P e) → Every P (absolutes_from 0 segments)
+      → Every P (fixed_of modules controls segments)
+  fixed_each P free h =
+      every_append P (banks_of modules ++ reserves_of controls) (absolutes_from 0 segments)
+      (every_weaker IsFree P (banks_of modules ++ reserves_of controls) free
+      (every_append IsFree (banks_of modules) (reserves_of controls) (banks_free modules).0 reserves.0)) h
+
+  absolutes : Every (IsSpot g segments) (absolutes_from 0 segments)
+  absolutes = absolute_spots segments controls g is joined 0 segments (from_start segments)
+
+  pub fixed_spots : Every (IsSpot g segments) (fixed_of modules controls segments)
+  fixed_spots = fixed_each (IsSpot g segments)
+      (λ e h. record { fit = h.fit; numbered = λ n at. absurd (none-some n (sym h.number ∙ at)); free = λ _. h.free })
+      absolutes
+
+  -- they are not overlaid
+  pub fixed_bare : Every (λ e. own_of g e ≡ None) (fixed_of modules controls segments)
+  fixed_bare =
+      fixed_each (λ e. own_of g e ≡ None) (λ e h. rw h.number) (bare_from 0 segments absolutes)
+    where
+      bare_from : (number : ℕ) (rest : List JoinedSegment) → Every (IsSpot g segments) (absolutes_from number rest)
+          → Every (λ e. own_of g e ≡ None) (absolutes_from number rest)
+      bare_from number [] h = tt
+      bare_from number (j ∷ more) h = elim (cases_Bool (is_absolute j.reloc)) [
+        | inl abs ↦ let all = rw abs at h in rw abs (
+          absolute_bare g segments (absolute number j) (Some number) (own_at g number) all.0 refl refl abs,
+          bare_from (number + 1) more all.1,
+        )
+        | inr rel ↦ rw rel (bare_from (number + 1) more (rw rel at h))
+      ]
+
+  pub fixed_count : (m : ℕ) → total (extent_count m) (fixed_of modules controls segments)
+      ≡ total (extent_count m) (absolutes_from 0 segments)
+  fixed_count m =
+      let free = every_append IsFree (banks_of modules) (reserves_of controls) (banks_free modules).0 reserves.0 in
+      omega (
+        arith,
+        total-append (extent_count m) (banks_of modules ++ reserves_of controls) (absolutes_from 0 segments),
+        total_none (extent_count m) (banks_of modules ++ reserves_of controls)
+            (every_weaker IsFree (λ e. extent_count m e ≡ 0) (banks_of modules ++ reserves_of controls)
+            (λ e h. rw h.number) free),
+      )
+
+  pub fixed_few : length (fixed_of modules controls segments) ≤ 4 + length controls + length segments
+  fixed_few =
+      omega (
+        arith,
+        length-append (banks_of modules ++ reserves_of controls) (absolutes_from 0 segments),
+        length-append (banks_of modules) (reserves_of controls),
+        (banks_free modules).1,
+        reserves.1,
+        absolutes_few 0 segments,
+      )
+
+-- no two fixed extents share a cell
+none_met : (p : Numbered → Bool) (xs : List Numbered) → position p xs ≡ None → (k : ℕ) (d : Numbered) → k < length xs
+    → p (get_or xs k d) ≡ false
+none_met p xs none k d below =
+    let end : length xs ≡ position_or_len p xs = rw none at (place_is p xs) in
+    fails_before_first p xs k d (omega (arith, below, end))
+
+refuses_met : (earlier : List Numbered) (e : Numbered) (found : Option ℕ) → first_met earlier e ≡ found
+    → shared_at earlier e found ≡ None → first_met earlier e ≡ None
+refuses_met earlier e None is h = is
+refuses_met earlier e (Some index) is h =
+    let at = position-Some (λ (q : Numbered). share (extent_at q.placed) (extent_at e.placed)) earlier index e is in
+    absurd (cc (rw (slice_get-get_or earlier index e at.0) at h))
+
+pub fixed_apart : (g : GraphParts) (rest earlier : List Numbered) → Pairs (KeepApart g) earlier
+    → shared_after earlier rest ≡ None → Pairs (KeepApart g) (earlier ++ rest)
+fixed_apart g [] earlier apart h = rw append-nil apart
+fixed_apart g (e ∷ more) earlier apart h =
+    let rules = none_of_both (shared_at earlier e (first_met earlier e)) (shared_after (earlier ++ e ∷ []) more) h in
+    let none = refuses_met earlier e (first_met earlier e) refl rules.0 in
+    let meets : Numbered → Bool = λ q. share (extent_at q.placed) (extent_at e.placed) in
+    rw append_assoc at (fixed_apart g more (earlier ++ e ∷ []) (pairs_push (KeepApart g) earlier e apart
+    (all_every (λ q. KeepApart g q e) earlier (λ k d below. record {
+      none = λ _ meet. false≢true
+          (sym (none_met meets earlier none k d below) ∙ (share_tells _ (extent_at e.placed)).1 meet);
+    }))) rules.1)
+
+-- What was placed: each joined segment once, and extents in conflict apart.
 
 -- what was placed is the whole program
 pub record IsWhole (g : GraphParts) (segments : List JoinedSegment) (located : List Numbered) : Type 0 where
-  pub spots : All (IsSpot g segments) located
-  pub apart : AllPairs (KeepApart g) located
-  pub once : (m : ℕ) → m < length segments → sum_by (extent_count m) located ≡ 1
+  pub spots : Every (IsSpot g segments) located
+  pub apart : Pairs (KeepApart g) located
+  pub once : (m : ℕ) → m < length segments → total (extent_count m) located ≡ 1
   pub few : length located < 65536
 
 pub unless_none : {V : Type 0} (rule : Option Refusal) (after : Result V Refusal) (v : V) → unless rule after ≡ Ok v
@@ -33,54 +382,23 @@ pub unless_none : {V : Type 0} (rule : Option Refusal) (after : Result V Refusal
 unless_none None after v h = (refl, h)
 unless_none (Some refusal) after v h = absurd (cc h)
 
--- what is placed in an order
-module _ (g : GraphParts) (controls : List (ℕ × Control)) (segments : List JoinedSegment)
-    (is : IsOf segments controls g) (joined : All IsJoined segments) where
-  pub later_spots : (order : List Ranked) (later : List Numbered) → AllZip IsPlacedRanked order later
-      → All (IsRankedOf g segments) order → All (IsSpot g segments) later
-  later_spots [] [] h all = All-nil (IsSpot g segments)
-  later_spots [] (e ∷ later) h all = absurd h
-  later_spots (t ∷ order) [] h all = absurd h
-  later_spots (t ∷ order) (e ∷ later) h all =
-      let placed : IsPlacedRanked t e = h.0 in
-      let ranked : IsRankedOf g segments t = All-head (IsRankedOf g segments) t order all in
-      All-cons (IsSpot g segments) e later
-      (subst (λ x. IsSpot g segments x) (sym placed.is)
-      (placed_spot segments controls g is joined t placed.base ranked placed.low placed.fits))
-      (later_spots order later h.1 (All-tail (IsRankedOf g segments) t order all))
-
-pub later_count : (m : ℕ) (order : List Ranked) (later : List Numbered) → AllZip IsPlacedRanked order later
-    → sum_by (extent_count m) later ≡ sum_by (ranked_count m) order
-later_count m [] [] h = refl
+later_count : (m : ℕ) (order : List Ranked) (later : List Numbered) → AllZip IsPlacedRanked order later
+    → (total (extent_count m) later ≡ total (ranked_count m) order) × (length order ≡ length later)
+later_count m [] [] h = (refl, refl)
 later_count m [] (e ∷ later) h = absurd h
 later_count m (t ∷ order) [] h = absurd h
 later_count m (t ∷ order) (e ∷ later) h =
-    let placed : IsPlacedRanked t e = h.0 in
-    let here : extent_count m e ≡ ranked_count m t = ap (extent_count m) placed.is in
-    omega (
-      arith,
-      sum_by-cons (extent_count m) e later,
-      sum_by-cons (ranked_count m) t order,
-      here,
-      later_count m order later h.1,
-    )
-
-placed_length : (order : List Ranked) (later : List Numbered) → AllZip IsPlacedRanked order later → length order
-    ≡ length later
-placed_length [] [] h = refl
-placed_length [] (e ∷ later) h = absurd h
-placed_length (t ∷ order) [] h = absurd h
-placed_length (t ∷ order) (e ∷ later) h = omega (arith, placed_length order later h.1)
+    let rest = later_count m order later h.1 in
+    let here = ap (extent_count m) h.0.is in
+    (omega (arith, here, rest.0), omega (arith, rest.1))
 
 ranked_few : (g : GraphParts) (controls : List (ℕ × Control)) (number : ℕ) (rest : List JoinedSegment)
     → length (ranked_from g controls number rest) ≤ length rest
 ranked_few g controls number [] = omega arith
 ranked_few g controls number (j ∷ more) =
-    let ts : List Ranked = ranked_from g controls (number + 1) more in
     let h = ranked_few g controls (number + 1) more in
-    elim (is_absolute j.reloc) as
-    (λ b. length (cond b ts (ranked_of g controls number j ∷ ts)) ≤ suc (length more))
-    [ true ↦ omega (arith, h) | false ↦ omega (arith, h) ]
+    elim (cases_Bool (is_absolute j.reloc))
+    [ inl abs ↦ rw abs (omega (arith, h)) | inr rel ↦ rw rel (omega (arith, h)) ]
 
 pub whole : (modules : List ModuleParts) (controls : List (ℕ × Control)) (g : GraphParts) (located : List Numbered)
     → IsOf (segments_of modules) controls g → All IsJoined (segments_of modules)
@@ -91,34 +409,31 @@ whole modules controls g located is joined kept few h =
     let fixed : List Numbered = fixed_of modules controls segments in
     let order : List Ranked = order_of g controls segments in
     let rules = unless_none (shared_extents fixed) (place_after g fixed order) located h in
-    let after =
-    are_after g order fixed located
-    (fixed_apart g fixed [] (λ i j d less below. absurd (omega (arith, below))) rules.0) rules.1 in
-    let moved : length order ≡ length (ranked_from g controls 0 segments) =
-    length_permutation (ranked_from g controls 0 segments) order (order_moves g controls segments) in
+    let after = are_after g order fixed located (fixed_apart g fixed [] tt rules.0) rules.1 in
+    let moved = length_permutation (ranked_from g controls 0 segments) order (order_moves g controls segments) in
     record {
-      spots = subst (λ (es : List Numbered). All (IsSpot g segments) es) (sym after.are)
-          (All-append (IsSpot g segments) fixed after.later
+      spots = rw after.are (every_append (IsSpot g segments) fixed after.later
           (fixed_spots g modules controls segments is joined kept.each)
-          (later_spots g controls segments is joined order after.later after.each (order_ranked g controls segments)));
+          (zip_every (IsRankedOf g controls segments) _ order after.later (λ t e p r. rw p.is
+          (placed_spot segments controls g is joined t p.base r p.low p.fits)) after.each
+          (order_ranked g controls segments)));
       apart = after.apart;
       once = λ m below.
           omega (
             arith,
-            ap (sum_by (extent_count m)) after.are,
-            sum_by-append (extent_count m) fixed after.later,
-            fixed_count g modules controls segments m kept.each,
-            later_count m order after.later after.each,
+            ap (λ (es : List Numbered). total (extent_count m) es) after.are,
+            total-append (extent_count m) fixed after.later,
+            fixed_count g modules controls segments is joined kept.each m,
+            (later_count m order after.later after.each).0,
             once g controls segments m below,
           );
       few =
-          let count : length order ≡ length after.later = placed_length order after.later after.each in
           omega (
             arith,
             ap (λ (es : List Numbered). length es) after.are,
             length-append fixed after.later,
-            fixed_few g modules controls segments,
-            count,
+            fixed_few g modules controls segments is joined kept.each,
+            (later_count 0 order after.later after.each).1,
             moved,
             ranked_few g controls 0 segments,
             kept.few,
@@ -129,46 +444,25 @@ whole modules controls g located is joined kept few h =
 -- extents with the number of a joined segment, and how many there are
 number_is : (m : ℕ) (number : Option ℕ) → option_map_or (nat_eq m) number false ≡ true → number ≡ Some m
 number_is m None h = absurd (false≢true h)
-number_is m (Some n) h = ap (λ (k : ℕ). Some k) (sym ((Decides-eqb m n).0 h))
-
-has_number : (m : ℕ) (e : Numbered) → e.number ≡ Some m → is_number m e ≡ true
-has_number m e h = ap (λ (number : Option ℕ). option_map_or (nat_eq m) number false) h ∙ (Decides-eqb m m).1 refl
-
-none_counted : (m : ℕ) (es : List Numbered)
-    → ((k : ℕ) (d : Numbered) → k < length es → is_number m (get_or es k d) ≡ false) → sum_by (extent_count m) es ≡ 0
-none_counted m [] h = refl
-none_counted m (e ∷ es) h =
-    let here : extent_count m e ≡ 0 = ap (λ (b : Bool). cond b 1 0) (h 0 e (omega arith)) in
-    omega (
-      arith,
-      sum_by-cons (extent_count m) e es,
-      here,
-      none_counted m es
-          (λ k d below. h (suc k) d (omega (arith, below))),
-    )
+number_is m (Some n) h = ap (λ (k : ℕ). Some k) (sym (eqb-true m n h))
 
 one_counted : (m : ℕ) (es : List Numbered) (k : ℕ) (e : Numbered) → slice_get es k ≡ Some e → e.number ≡ Some m
-    → 1 ≤ sum_by (extent_count m) es
+    → 1 ≤ total (extent_count m) es
 one_counted m [] k e h number = absurd (cc h)
 one_counted m (x ∷ es) zero e h number =
-    let same : x ≡ e = cc h in
-    let here : extent_count m x ≡ 1 =
-    ap (λ (b : Bool). cond b 1 0) (has_number m x (ap (λ (y : Numbered). y.number) same ∙ number)) in
-    omega (arith, sum_by-cons (extent_count m) x es, here)
-one_counted m (x ∷ es) (suc k) e h number =
-    omega (arith, sum_by-cons (extent_count m) x es, one_counted m es k e h number)
+    let same : x ≡ e = cc h in rw (same, number, eq-eqb m m refl) (omega arith)
+one_counted m (x ∷ es) (suc k) e h number = omega (arith, one_counted m es k e h number)
 
-pub two_counted : (m : ℕ) (es : List Numbered) (i j : ℕ) (e f : Numbered) → i < j → slice_get es i ≡ Some e
-    → slice_get es j ≡ Some f → e.number ≡ Some m → f.number ≡ Some m → 2 ≤ sum_by (extent_count m) es
+two_counted : (m : ℕ) (es : List Numbered) (i j : ℕ) (e f : Numbered) → i < j → slice_get es i ≡ Some e
+    → slice_get es j ≡ Some f → e.number ≡ Some m → f.number ≡ Some m → 2 ≤ total (extent_count m) es
 two_counted m [] i j e f less h k p q = absurd (cc h)
 two_counted m (x ∷ es) i zero e f less h k p q = absurd (omega (arith, less))
 two_counted m (x ∷ es) zero (suc j) e f less h k p q =
     let same : x ≡ e = cc h in
-    let here : extent_count m x ≡ 1 =
-    ap (λ (b : Bool). cond b 1 0) (has_number m x (ap (λ (y : Numbered). y.number) same ∙ p)) in
-    omega (arith, sum_by-cons (extent_count m) x es, here, one_counted m es j f k q)
+    let behind = one_counted m es j f k q in
+    rw (same, p, eq-eqb m m refl) (omega (arith, behind))
 two_counted m (x ∷ es) (suc i) (suc j) e f less h k p q =
-    omega (arith, sum_by-cons (extent_count m) x es, two_counted m es i j e f (omega (arith, less)) h k p q)
+    omega (arith, two_counted m es i j e f (omega (arith, less)) h k p q)
 
 pub record IsFound (located : List Numbered) (m : ℕ) : Type 0 where
   pub e : Numbered
@@ -177,68 +471,52 @@ pub record IsFound (located : List Numbered) (m : ℕ) : Type 0 where
   pub number : e.number ≡ Some m
 
 find_place : (located : List Numbered) (m : ℕ) (found : Option ℕ) → position (is_number m) located ≡ found
-    → sum_by (extent_count m) located ≡ 1 → IsFound located m
+    → total (extent_count m) located ≡ 1 → IsFound located m
 unfolding joined_index
 find_place located m None is h =
-    let end : position_or_len (is_number m) located ≡ length located = sym (place_is (is_number m) located)
-    ∙ ap (λ (found : Option ℕ). unwrap_or found (length located)) is in
-    absurd (omega (
-      arith,
-      h,
-      none_counted m located
-          (λ k d below. fails_before_first (is_number m) located k d (omega (arith, below, end))),
-    ))
+    let end : length located ≡ position_or_len (is_number m) located = rw is at (place_is (is_number m) located) in
+    let none = total_none (extent_count m) located (every_of _ located (λ e there.
+    let c = contains_in located e there in
+    ap one_if (ap (is_number m) (sym c.2)
+    ∙ fails_before_first (is_number m) located c.0 e (omega (arith, c.1, end))))) in
+    absurd (omega (arith, h, none))
 find_place located m (Some index) is h =
-    let d : Numbered =
-    record {
+    let d : Numbered = record {
       placed = record { title = []; kind = Number; reloc = Abs; mark = Plain; base = 0; size = 0 };
-      number =
-          None;
+      number = None;
     } in
     let at = position-Some (is_number m) located index d is in
-    let e : Numbered = get_or located index d in
-    let at_index : slice_get located index ≡ Some e = slice_get-get_or located index d at.0 in
+    let there = slice_get-get_or located index d at.0 in
+    let first : index ≡ position_or_len (is_number m) located = rw is at (place_is (is_number m) located) in
     record {
-      e = e;
-      at = ap (λ (found : Option ℕ). slice_get located (unwrap_or found 0)) is ∙ at_index;
-      first = find_at (is_number m) located
-          ∙ ap (slice_get located) (sym (place_is (is_number m) located)
-          ∙ ap (λ (found : Option ℕ). unwrap_or found (length located)) is) ∙ at_index;
-      number = number_is m e.number at.1;
+      e = get_or located index d;
+      at = rw is there;
+      first = find_at (is_number m) located ∙ rw (← first) there;
+      number = number_is m (get_or located index d).number at.1;
     }
 
 pub found : (g : GraphParts) (segments : List JoinedSegment) (located : List Numbered) → IsWhole g segments located
     → (m : ℕ) → m < length segments → IsFound located m
 found g segments located h m below = find_place located m (position (is_number m) located) refl (h.once m below)
 
-pub order_of_two : (i j : ℕ) → (i < j) ⊎ ((i ≡ j) ⊎ (j < i))
-order_of_two i j = elim (leb_tells (suc i) j) as (λ _. (i < j) ⊎ ((i ≡ j) ⊎ (j < i))) [
-  | inl less ↦ inl less.1
-  | inr not_less ↦ elim (leb_tells (suc j) i) as (λ _. (i < j) ⊎ ((i ≡ j) ⊎ (j < i))) [
-    | inl more ↦ inr (inr more.1)
-    | inr not_more ↦ inr (inl (omega (arith, not_less.1, not_more.1)))
-  ]
-]
-
-pub only : (located : List Numbered) (m i j : ℕ) (e f : Numbered) → sum_by (extent_count m) located ≡ 1
+pub only : (located : List Numbered) (m i j : ℕ) (e f : Numbered) → total (extent_count m) located ≡ 1
     → slice_get located i ≡ Some e → slice_get located j ≡ Some f → e.number ≡ Some m → f.number ≡ Some m → i ≡ j
-only located m i j e f once h k p q = elim (order_of_two i j) as (λ _. i ≡ j) [
-  | inl less ↦ absurd (omega (arith, once, two_counted m located i j e f less h k p q))
-  | inr rest ↦ elim rest as (λ _. i ≡ j) [
-    | inl same ↦ same
+only located m i j e f once h k p q = elim (cases_order i j) [
+  | inl same ↦ same
+  | inr rest ↦ elim rest [
+    | inl less ↦ absurd (omega (arith, once, two_counted m located i j e f less h k p q))
     | inr less ↦ absurd (omega (arith, once, two_counted m located j i f e less k h q p))
   ]
 ]
 
 -- each is numbered as the graph's owners are
 pub numbered : (segments : List JoinedSegment) (controls : List (ℕ × Control)) (g : GraphParts) (es : List Numbered)
-    → IsOf segments controls g → All (IsSpot g segments) es → All (IsNumbered g) es
-numbered segments controls g es is spots k d below =
-    let spot : IsSpot g segments (get_or es k d) = spots k d below in
-    record {
-      inside = λ n e. let of = spot.numbered n e in
+    → IsOf segments controls g → Every (IsSpot g segments) es → All (IsNumbered g) es
+numbered segments controls g es is spots = every_all (IsNumbered g) es
+    (every_weaker _ (IsNumbered g) es (λ e spot. record {
+      inside = λ n at. let of = spot.numbered n at in
           omega (arith, slice_get_within segments n of.j of.is, as_many_own segments controls g is);
-    }
+    }) spots)
 
 -- what is placed for valid modules over their graph is their whole program
 pub placed_whole : (modules : List ModuleParts) (controls : List (ℕ × Control)) (g : GraphParts)

@@ -5,8 +5,10 @@ ghost use Rattle.m51_cells.specs.Hex.{hex2, hex4};
 
 use m51_cells::{hex2, hex4};
 
-/// Puts the bytes after the first `at` of the line, and returns where they end.
-pub(crate) fn put(into: &mut [u8; 128], at: usize, bytes: &[u8]) -> usize
+/// Puts the bytes after the first `at` of the line, of which there are at most 128, and returns where they end.
+///
+/// Source: own choice ("Texts").
+pub fn put(into: &mut [u8; 128], at: usize, bytes: &[u8]) -> usize
     requires { at + length bytes.now ≤ 128 }
     ensures end { result ≡ at + length bytes.now }
     ensures written { take result into.new ≡ take at into.old ++ bytes.now }
@@ -31,7 +33,9 @@ fn put_digits(into: &mut [u8; 128], at: usize, number: u64) -> usize
 }
 
 /// Puts a number in decimal, which has up to 20 digits.
-pub(crate) fn put_decimal(into: &mut [u8; 128], at: usize, number: u64) -> usize
+///
+/// Source: own choice ("Texts").
+pub fn put_decimal(into: &mut [u8; 128], at: usize, number: u64) -> usize
     requires { at + 20 ≤ 128 }
     ensures bound { result ≤ at + 20 }
     ensures written { take result into.new ≡ take at into.old ++ decimal number }
@@ -50,8 +54,10 @@ pub(crate) fn put_digit(into: &mut [u8; 128], at: usize, digit: u8) -> usize
     put(into, at, &[b'0' + digit])
 }
 
-/// Puts the two digits of a byte.
-pub(crate) fn put_hex2(into: &mut [u8; 128], at: usize, byte: u8) -> usize
+/// Puts the two hexadecimal digits of a byte.
+///
+/// Source: own choice ("Texts").
+pub fn put_hex2(into: &mut [u8; 128], at: usize, byte: u8) -> usize
     requires { at + 2 ≤ 128 }
     ensures end { result ≡ at + 2 }
     ensures written { take result into.new ≡ take at into.old ++ hex2 byte }
@@ -59,8 +65,10 @@ pub(crate) fn put_hex2(into: &mut [u8; 128], at: usize, byte: u8) -> usize
     put(into, at, &hex2(byte))
 }
 
-/// Puts the four digits of an address.
-pub(crate) fn put_hex4(into: &mut [u8; 128], at: usize, number: u16) -> usize
+/// Puts the four hexadecimal digits of an address.
+///
+/// Source: own choice ("Texts").
+pub fn put_hex4(into: &mut [u8; 128], at: usize, number: u16) -> usize
     requires { at + 4 ≤ 128 }
     ensures end { result ≡ at + 4 }
     ensures written { take result into.new ≡ take at into.old ++ hex4 number }

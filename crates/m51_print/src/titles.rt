@@ -58,9 +58,11 @@ pub(crate) fn root_titles(alloc: Global, byte: u8) -> Result<Vec<Name>, NoMemory
     titles_among(alloc, byte, &VECTORS)
 }
 
-/// The title of a unit.
+/// The title of a unit of the layout.
+///
+/// Source: own choice ("Texts").
 #[tactic(auto, using(crate::proofs::PlacedTitles::title_at), unfolding(crate::specs::Map::unit_title))]
-pub(crate) fn unit_title(layout: &Layout, unit: u16) -> &Name
+pub fn unit_title(layout: &Layout, unit: u16) -> &Name
     requires { unit < length layout.now.units }
     ensures { result.now ≡ unit_title layout.now unit }
 {

@@ -1,7 +1,7 @@
 -- The records of externals and publics: what is read is written so, what is written is read, and both are valid
 -- together.
-use Rattle.std.proofs.Common.{◌≡◌, ◌≢◌, ℕ, zero, suc, ◌<◌, ◌≤◌, true, List, [], ◌∷◌, ◌++◌, length, Some, Ok, refl, ap}
-use Rattle.std.proofs.Common.{subst, ◌∙◌, arith, All, AllPairs, length-append}
+use Rattle.std.proofs.Common.{◌≡◌, ◌≢◌, ℕ, zero, suc, ◌≤◌, true, List, [], ◌∷◌, ◌++◌, length, Some, Ok, refl, ap}
+use Rattle.std.proofs.Common.{subst, arith, All, AllPairs, length-append}
 use Rattle.std.specs.Prelude.{not, nat_lt, map}
 use Rattle.std.proofs.lemmas.Bool.{lt-ltb, ltb-true}
 use Rattle.m51_cells.specs.declared.kind.Base.{Base}
@@ -15,44 +15,25 @@ use Rattle.m51_module.specs.Validity.{numbered, IsPublicBase, IsPublicValid}
 use Rattle.m51_cells.specs.Kinds.{same_kind}
 use Rattle.m51_cells.proofs.KindLaws.{kind_same}
 use Rattle.m51_records.specs.Codes.{kind_number, kind_of}
-use Rattle.m51_frame.specs.Fields.{◌>>=◌, checked, or_broken, or_absent, pair, pair_at, text_field, upper_name}
-use Rattle.m51_frame.specs.Fields.{is_name_among, new_name_at}
+use Rattle.m51_frame.specs.Fields.{checked, or_absent, upper_name, is_name_among, new_name_at}
 use Rattle.m51_records.specs.Externals.{external_contents, kind_at, external_in}
 use Rattle.m51_records.specs.Publics.{base_number, public_contents, base_of_public, public_base_at, public_in}
-use Rattle.m51_records.proofs.Tools.{on_ok, bind_ok, ok_is, checked_ok, broken_ok, absent_ok, all_push, all_front}
+use Rattle.m51_records.proofs.Tools.{bind_ok, ok_is, checked_ok, absent_ok, all_push, all_front}
 use Rattle.m51_records.proofs.Tools.{all_last, pairs_push, pairs_front, pairs_last}
-use Rattle.m51_records.proofs.FieldLaws.{IsBytes, pair_read, pair_takes, upper_takes, upper_read, kind_takes, kind_read}
+use Rattle.m51_records.proofs.FieldLaws.{upper_takes, upper_read, kind_takes, kind_read}
 use Rattle.m51_records.proofs.FieldLaws.{same_kind_of}
 use Rattle.m51_records.proofs.NameLaws.{others, none_among}
-use Rattle.m51_records.proofs.SegmentLaws.{name_field, name_tested}
+use Rattle.m51_records.proofs.Codec.{Codec, Agrees, Fields, then_fields, if_fields, last_field, record_agrees}
+use Rattle.m51_records.proofs.Codec.{table_codec, any_pair, name_agrees}
 
-pub any_kind_field : (end : ℕ) (bytes : List ℕ) (y : Kind × List ℕ) → kind_at end bytes ≡ Ok y → bytes
-    ≡ kind_number y.0 ∷ y.1
-unfolding kind_at
-any_kind_field end [] y e = absurd cc
-any_kind_field end (n ∷ rest) y e =
-    let a = bind_ok (or_broken (kind_of n) end (n ∷ rest)) (λ kind. Ok (kind, rest)) y e in
-    subst (λ (y : Kind × List ℕ). n ∷ rest ≡ kind_number y.0 ∷ y.1) (ok_is (a.0, rest) y a.2)
-    (ap (λ m. m ∷ rest) (kind_takes n a.0 (broken_ok (kind_of n) end (n ∷ rest) a.0 a.1)))
-
-pub any_kind_again : (end : ℕ) (k : Kind) (rest : List ℕ) → kind_at end (kind_number k ∷ rest) ≡ Ok (k, rest)
-unfolding kind_at
-any_kind_again end k rest = rw (kind_read k) refl
-
-upper_itself : (text name : List ℕ) → upper_name text ≡ Some name → text ≡ name
-upper_itself text name e = (upper_takes text name e).0
+-- a kind, any
+abbrev any_kind : Codec Kind
+any_kind = table_codec kind_number kind_of (λ k. true) kind_read kind_takes
 
 -- the name, the last field, which is none of these
-new_name_field : (names : List (List ℕ)) (end : ℕ) (bytes name : List ℕ) → new_name_at names end bytes ≡ Ok name
-    → (bytes ≡ text_field name) × (upper_name name ≡ Some name) × (not (is_name_among names name) ≡ true)
-unfolding new_name_at
-new_name_field names end bytes name e =
-    name_field upper_name (λ n. not (is_name_among names n)) end bytes name upper_itself e
-
-new_name_again : (names : List (List ℕ)) (end : ℕ) (name : List ℕ) → upper_name name ≡ Some name
-    → not (is_name_among names name) ≡ true → new_name_at names end (text_field name) ≡ Ok name
-unfolding new_name_at
-new_name_again names end name h k = name_tested upper_name (λ n. not (is_name_among names n)) end name h k
+abbrev last_name : {S : Type 0} → List (List ℕ) → Fields S (List ℕ)
+last_name names = last_field (name_agrees upper_name (λ n. not (is_name_among names n))
+    (λ text name e. (upper_takes text name e).0))
 
 -- ---- externals
 
@@ -64,41 +45,14 @@ pub record IsExternalTested (before : List External) (x : External) : Type 0 whe
   pub name : upper_name x.name ≡ Some x.name
   pub new : not (is_name_among (external_names before) x.name) ≡ true
 
-abbrev ExternalTaken : List External → List ℕ → External → Type 0
-ExternalTaken before bytes x = (bytes ≡ external_contents x) × IsExternalTested before x
-
-external_built : (before : List External) (end : ℕ) (bytes : List ℕ) (kind : Kind) (r1 name : List ℕ)
-    → nat_lt (length before) 255 ≡ true → kind_at end bytes ≡ Ok (kind, r1) → new_name_at (external_names before) end r1
-    ≡ Ok name
-    → ExternalTaken before bytes (record { name = name; kind = kind })
-external_built before end bytes kind r1 name few e1 e2 =
-    let nf = new_name_field (external_names before) end r1 name e2 in
-    let whole : bytes ≡ kind_number kind ∷ text_field name = any_kind_field end bytes (kind, r1) e1
-    ∙ ap (λ (t : List ℕ). kind_number kind ∷ t) nf.0 in
-    (whole, record { few = few; name = nf.1; new = nf.2 })
-
-pub external_takes : (before : List External) (end : ℕ) (bytes : List ℕ) (x : External) → external_in before end bytes
-    ≡ Ok x → (bytes ≡ external_contents x) × IsExternalTested before x
-unfolding external_in
-external_takes before end bytes x e =
-    on_ok (checked (nat_lt (length before) 255) end bytes bytes) _ x (ExternalTaken before bytes x) (λ all e0 h0.
-    let few = checked_ok (nat_lt (length before) 255) end bytes bytes all e0 in
-    on_ok (kind_at end all) _ x (ExternalTaken before bytes x) (λ kind e1 h1.
-    on_ok (new_name_at (external_names before) end kind.1) _ x (ExternalTaken before bytes x) (λ name e2 h2.
-    let made : External = record { name = name; kind = kind.0 } in
-    subst (ExternalTaken before bytes) (ok_is made x h2)
-    (external_built before end bytes kind.0 kind.1 name few.0 (ap (kind_at end) few.1 ∙ e1) e2)) h1) h0) e
-
-pub external_again : (before : List External) (end : ℕ) (x : External) → IsExternalTested before x
-    → external_in before end (external_contents x) ≡ Ok x
-unfolding external_in
-external_again before end x t =
-    rw (
-      t.few,
-      any_kind_again end x.kind (text_field x.name),
-      new_name_again
-          (external_names before) end x.name t.name t.new,
-    ) refl
+pub external_agrees : (before : List External)
+    → Agrees (external_in before) external_contents (IsExternalTested before)
+unfolding external_in kind_at new_name_at
+external_agrees before = record_agrees
+    (if_fields (nat_lt (length before) 255) (then_fields any_kind (λ kind. last_name (external_names before))))
+    (λ x. record { name = x.1; kind = x.0 }) external_contents (IsExternalTested before)
+    (λ x g. (refl, record { few = g.0; name = g.1.1.0; new = g.1.1.1 }))
+    (λ e t. ((e.kind, e.name), refl, (t.few, (refl, (t.name, t.new)))))
 
 -- what a module's validity says of its externals
 pub record AreExternals (externals : List External) : Type 0 where
@@ -163,69 +117,40 @@ module _ (segments : List Segment) where
   base_again kind end field (InSegment (suc n)) h = rw (h.1, same_kind_of h.0.kind kind h.2) refl
   base_again kind end field (OfExternal n) h = absurd h
 
-  public_base_field : (kind : Kind) (end : ℕ) (bytes : List ℕ) (y : Base × List ℕ)
-      → public_base_at segments kind end bytes ≡ Ok y → (bytes ≡ base_number y.0 ∷ y.1) × IsPublicBase segments kind y.0
+  base_field : (kind : Kind) (end : ℕ) (bytes : List ℕ) (y : Base × List ℕ) → public_base_at segments kind end bytes
+      ≡ Ok y → (bytes ≡ base_number y.0 ∷ y.1) × IsPublicBase segments kind y.0
   unfolding public_base_at
-  public_base_field kind end [] y e = absurd cc
-  public_base_field kind end (n ∷ rest) y e =
+  base_field kind end [] y e = absurd cc
+  base_field kind end (n ∷ rest) y e =
       let a = bind_ok (base_of_public segments kind n end (n ∷ rest)) (λ base. Ok (base, rest)) y e in
       let b = base_takes kind n end (n ∷ rest) a.0 a.1 in
       subst (λ (y : Base × List ℕ). (n ∷ rest ≡ base_number y.0 ∷ y.1) × IsPublicBase segments kind y.0)
       (ok_is (a.0, rest) y a.2) (ap (λ m. m ∷ rest) b.0, b.1)
 
-  public_base_again : (kind : Kind) (end : ℕ) (b : Base) (rest : List ℕ) → IsPublicBase segments kind b
+  base_read : (kind : Kind) (end : ℕ) (b : Base) (rest : List ℕ) → IsPublicBase segments kind b
       → public_base_at segments kind end (base_number b ∷ rest) ≡ Ok (b, rest)
   unfolding public_base_at
-  public_base_again kind end b rest h = rw (base_again kind end (base_number b ∷ rest) b h) refl
+  base_read kind end b rest h = rw (base_again kind end (base_number b ∷ rest) b h) refl
 
-  abbrev PublicTaken : List Public → List ℕ → Public → Type 0
-  PublicTaken before bytes p = (bytes ≡ public_contents p) × IsPublicTested before p
+  base_codec : Kind → Codec Base
+  base_codec kind = record {
+    good = IsPublicBase segments kind;
+    write = λ b. base_number b ∷ [];
+    read = public_base_at segments kind;
+    again = base_read kind;
+    takes = λ end bytes y fits e. base_field kind end bytes y e;
+  }
 
-  public_built : (before : List Public) (end : ℕ) (bytes : List ℕ) (kind : Kind) (r1 : List ℕ) (base : Base)
-      (r2 : List ℕ) (number : ℕ) (r3 name : List ℕ)
-      → IsBytes bytes → kind_at end bytes ≡ Ok (kind, r1) → public_base_at segments kind end r1 ≡ Ok (base, r2)
-      → pair_at end r2 ≡ Ok (number, r3) → new_name_at (public_names before) end r3 ≡ Ok name
-      → PublicTaken before bytes (record { name = name; kind = kind; base = base; number = number })
-  public_built before end bytes kind r1 base r2 number r3 name fits e1 e2 e3 e4 =
-      let kf = any_kind_field end bytes (kind, r1) e1 in
-      let fits1 : (kind_number kind < 256) × IsBytes r1 = subst IsBytes kf fits in
-      let bf = public_base_field kind end r1 (base, r2) e2 in
-      let fits2 : (base_number base < 256) × IsBytes r2 = subst IsBytes bf.0 fits1.1 in
-      let pf = pair_takes end r2 (number, r3) fits2.1 e3 in
-      let nf = new_name_field (public_names before) end r3 name e4 in
-      let t3 : r2 ≡ pair number ++ text_field name = pf.0 ∙ ap (λ (t : List ℕ). pair number ++ t) nf.0 in
-      let t2 : r1 ≡ base_number base ∷ (pair number ++ text_field name) = bf.0
-      ∙ ap (λ (t : List ℕ). base_number base ∷ t) t3 in
-      let whole : bytes ≡ kind_number kind ∷ base_number base ∷ (pair number ++ text_field name) = kf
-      ∙ ap (λ (t : List ℕ). kind_number kind ∷ t) t2 in
-      (whole, record { base = bf.1; name = nf.1; new = nf.2 })
-
-  pub public_takes : (before : List Public) (end : ℕ) (bytes : List ℕ) (p : Public) → IsBytes bytes
-      → public_in segments before end bytes ≡ Ok p → (bytes ≡ public_contents p) × IsPublicTested before p
-  unfolding public_in
-  public_takes before end bytes p fits e =
-      on_ok (kind_at end bytes) _ p (PublicTaken before bytes p) (λ kind e1 h1.
-      on_ok (public_base_at segments kind.0 end kind.1) _ p (PublicTaken before bytes p) (λ base e2 h2.
-      on_ok (pair_at end base.1) _ p (PublicTaken before bytes p) (λ number e3 h3.
-      on_ok (new_name_at (public_names before) end number.1) _ p (PublicTaken before bytes p) (λ name e4 h4.
-      let made : Public = record { name = name; kind = kind.0; base = base.0; number = number.0 } in
-      subst (PublicTaken before bytes) (ok_is made p h4)
-      (public_built before end bytes kind.0 kind.1 base.0 base.1 number.0 number.1 name fits e1 e2 e3 e4)) h3) h2) h1) e
-
-  pub public_again : (before : List Public) (end : ℕ) (p : Public) → IsPublicTested before p
-      → public_in segments before end (public_contents p) ≡ Ok p
-  unfolding public_in
-  public_again before end p t =
-      let names = text_field p.name in
-      let number : pair_at end (pair p.number ++ names) ≡ Ok (p.number, names) = pair_read end p.number names in
-      rw (
-        any_kind_again end p.kind (base_number p.base ∷ (pair p.number ++ names)),
-        public_base_again p.kind end p.base
-            (pair p.number ++ names) t.base,
-      )
-      (ap (λ r. r >>= λ n. new_name_at (public_names before) end n.1 >>= λ name. Ok
-      (record { name = name; kind = p.kind; base = p.base; number = n.0 })) number
-      ∙ rw (new_name_again (public_names before) end p.name t.name t.new) refl)
+  pub public_agrees : (before : List Public)
+      → Agrees (public_in segments before) public_contents (IsPublicTested before)
+  unfolding public_in kind_at base_codec new_name_at
+  public_agrees before = record_agrees
+      (then_fields any_kind (λ kind. then_fields (base_codec kind) (λ base. then_fields any_pair (λ number.
+      last_name (public_names before)))))
+      (λ x. record { name = x.1.1.1; kind = x.0; base = x.1.0; number = x.1.1.0 })
+      public_contents (IsPublicTested before)
+      (λ x g. (refl, record { base = g.1.0; name = g.1.1.1.0; new = g.1.1.1.1 }))
+      (λ p t. ((p.kind, (p.base, (p.number, p.name))), refl, (refl, (t.base, (tt, (t.name, t.new))))))
 
   -- what a module's validity says of its publics
   pub record ArePublics (publics : List Public) : Type 0 where

@@ -2,6 +2,7 @@ pub mod Placing
 pub mod Standing
 pub mod Tools
 pub mod FieldLaws
+pub mod Codec
 pub mod FrameLaws
 pub mod SegmentLaws
 pub mod NameLaws
@@ -13,6 +14,7 @@ pub mod FixupLaws
 pub mod FixupsValid
 pub mod EndLaws
 pub mod SectionLaws
+pub mod Chain
 pub mod ModuleLaws
 pub mod ModuleAgain
 mod SeenLaws

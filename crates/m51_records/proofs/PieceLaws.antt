@@ -1,6 +1,6 @@
 -- The record of a piece: what is read is written so, what is written is read, and and_parts are valid together.
 use Rattle.std.proofs.Common.{◌≡◌, ◌≢◌, ℕ, ◌+◌, ◌-◌, ◌<◌, ◌≤◌, Bool, true, false, cond, eqb, min, List, [], ◌∷◌, ◌++◌}
-use Rattle.std.proofs.Common.{length, drop, Option, Some, None, Ok, refl, sym, ap, subst, ◌∙◌, arith, All, AllPairs}
+use Rattle.std.proofs.Common.{length, drop, Option, Some, None, refl, sym, ap, subst, ◌∙◌, arith, All, AllPairs}
 use Rattle.std.specs.Prelude.{◌&&◌, nat_le, nat_lt}
 use Rattle.std.proofs.lemmas.Bool.{eqb-true, eq-eqb, leb-true, le-leb, lt-ltb, ltb-true, and_from, and_parts}
 use Rattle.std.proofs.Math.Nat.{min-eq_left}
@@ -9,15 +9,14 @@ use Rattle.m51_module.specs.declared.segment.Segment.{Segment}
 use Rattle.m51_module.specs.Validity.{numbered, IsPieceValid, LiesBefore, EarlierSegment, Apart, Touching}
 use Rattle.m51_cells.specs.Kinds.{is_code}
 use Rattle.m51_cells.proofs.KindLaws.{code_is}
-use Rattle.m51_frame.specs.Fields.{checked, or_absent, pair}
+use Rattle.m51_frame.specs.Fields.{checked}
 use Rattle.m51_frame.specs.Pieces.{ends_before}
 use Rattle.m51_records.specs.Contents.{piece_contents, latest, segment_follows, code_segment_at, piece_follows}
 use Rattle.m51_records.specs.Contents.{piece_offset_at, content_at, piece_in}
-use Rattle.m51_records.proofs.Tools.{on_ok, ok_is, checked_ok, absent_ok, all_push, all_front, all_last, pairs_push}
+use Rattle.m51_records.proofs.Tools.{on_ok, checked_ok, all_push, all_front, all_last, pairs_push}
 use Rattle.m51_records.proofs.Tools.{pairs_front, pairs_last}
-use Rattle.m51_records.proofs.FieldLaws.{IsBytes}
 use Rattle.m51_records.proofs.NameLaws.{false_of}
-use Rattle.m51_records.proofs.SegmentLaws.{pair_field, pair_tested}
+use Rattle.m51_records.proofs.Codec.{Agrees, then_fields, last_field, record_agrees, numbered_codec, pair_codec}
 use Rattle.m51_records.proofs.Latest.{Follows, last_follows, all_follow}
 
 module _ (segments : List Segment) where
@@ -30,121 +29,50 @@ module _ (segments : List Segment) where
     pub inside : (nat_lt 0 (length p.bytes) && nat_le (p.offset + min (length p.bytes) 1024) segment.size) ≡ true
     pub most : nat_le (length p.bytes) 1024 ≡ true
 
-  -- ---- fields
-  pub record IsCodeSegment (previous : Option Piece) (bytes : List ℕ) (y : ℕ × ℕ × List ℕ) : Type 0 where
-    pub segment : Segment
-    pub is : numbered segments y.0 ≡ Some segment
-    pub ascends : (is_code segment.kind && segment_follows previous y.0) ≡ true
-    pub size : segment.size ≡ y.1
-    pub bytes_are : bytes ≡ y.0 ∷ y.2
+  -- what is tested of the bytes
+  abbrev AreInside : ℕ → ℕ → List ℕ → Type 0
+  AreInside size offset bytes = ((nat_lt 0 (length bytes) && nat_le (offset + min (length bytes) 1024) size) ≡ true)
+      × (nat_le (length bytes) 1024 ≡ true)
 
-  code_segment_field : (previous : Option Piece) (end : ℕ) (bytes : List ℕ) (y : ℕ × ℕ × List ℕ)
-      → code_segment_at segments previous end bytes ≡ Ok y → IsCodeSegment previous bytes y
-  unfolding code_segment_at
-  code_segment_field previous end [] y e = absurd cc
-  code_segment_field previous end (n ∷ rest) y e =
-      on_ok (or_absent (numbered segments n) end (n ∷ rest)) _ y (IsCodeSegment previous (n ∷ rest) y) (λ s e1 h1.
-      let c = checked_ok (is_code s.kind && segment_follows previous n) end (n ∷ rest) (n, s.size, rest) y h1 in
-      subst (IsCodeSegment previous (n ∷ rest)) c.1
-      (record {
-        segment = s;
-        is = absent_ok (numbered segments n) end (n ∷ rest) s e1;
-        ascends = c.0;
-        size =
-            refl;
-        bytes_are = refl;
-      })) e
-
-  code_segment_again : (previous : Option Piece) (end n : ℕ) (s : Segment) (rest : List ℕ) → numbered segments n
-      ≡ Some s → (is_code s.kind && segment_follows previous n) ≡ true
-      → code_segment_at segments previous end (n ∷ rest) ≡ Ok (n, s.size, rest)
-  unfolding code_segment_at
-  code_segment_again previous end n s rest h k = rw (h, k) refl
-
-  offset_field : (previous : Option Piece) (segment end : ℕ) (bytes : List ℕ) (y : ℕ × List ℕ) → IsBytes bytes
-      → piece_offset_at previous segment end bytes ≡ Ok y → (bytes ≡ pair y.0 ++ y.1) × IsBytes y.1
-      × (piece_follows previous segment y.0 ≡ true)
-  unfolding piece_offset_at
-  offset_field previous segment end bytes y fits e =
-      pair_field (λ n. piece_follows previous segment n) end bytes y fits e
-
-  offset_again : (previous : Option Piece) (segment end n : ℕ) (rest : List ℕ) → piece_follows previous segment n ≡ true
-      → piece_offset_at previous segment end (pair n ++ rest) ≡ Ok (n, rest)
-  unfolding piece_offset_at
-  offset_again previous segment end n rest h = pair_tested (λ n. piece_follows previous segment n) end n rest h
-
-  content_field : (size offset end : ℕ) (bytes y : List ℕ) → content_at size offset end bytes ≡ Ok y → (bytes ≡ y)
-      × ((nat_lt 0 (length y) && nat_le (offset + min (length y) 1024) size) ≡ true) × (nat_le (length y) 1024 ≡ true)
+  content_agrees : (size offset : ℕ) → Agrees (content_at size offset) (λ bytes. bytes) (AreInside size offset)
   unfolding content_at
-  content_field size offset end bytes y e =
-      on_ok (checked (nat_lt 0 (length bytes) && nat_le (offset + min (length bytes) 1024) size) end bytes bytes) _ y
-      ((bytes ≡ y) × ((nat_lt 0 (length y) && nat_le (offset + min (length y) 1024) size) ≡ true)
-      × (nat_le (length y) 1024 ≡ true)) (λ inside e1 h1.
-      let a = checked_ok
-      (nat_lt 0 (length bytes) && nat_le (offset + min (length bytes) 1024) size) end bytes bytes inside e1 in
-      let b = checked_ok (nat_le (length inside) 1024) end (drop 1024 inside) inside y h1 in
-      let whole : bytes ≡ y = a.1 ∙ b.1 in (
-        whole,
-        subst
-            (λ (t : List ℕ). (nat_lt 0 (length t) && nat_le (offset + min (length t) 1024) size) ≡ true) whole a.0,
-        subst
-            (λ (t : List ℕ). nat_le (length t) 1024 ≡ true) b.1 b.0,
-      )) e
+  content_agrees size offset = record {
+    again = λ end bytes g. rw (g.0, g.1) refl;
+    takes = λ end bytes y fits e.
+        on_ok (checked (nat_lt 0 (length bytes) && nat_le (offset + min (length bytes) 1024) size) end bytes bytes) _ y
+        ((bytes ≡ y) × AreInside size offset y) (λ inside e1 h1.
+        let a = checked_ok
+        (nat_lt 0 (length bytes) && nat_le (offset + min (length bytes) 1024) size) end bytes bytes inside e1 in
+        let b = checked_ok (nat_le (length inside) 1024) end (drop 1024 inside) inside y h1 in
+        subst (λ y. (bytes ≡ y) × AreInside size offset y) (a.1 ∙ b.1)
+        (refl, (a.0, subst (λ (t : List ℕ). nat_le (length t) 1024 ≡ true) (sym a.1) b.0))) e;
+  }
 
-  content_again : (size offset end : ℕ) (bytes : List ℕ)
-      → (nat_lt 0 (length bytes) && nat_le (offset + min (length bytes) 1024) size) ≡ true → nat_le (length bytes) 1024
-      ≡ true → content_at size offset end bytes ≡ Ok bytes
-  unfolding content_at
-  content_again size offset end bytes h k = rw (h, k) refl
-
-  -- ---- the record
-  abbrev PieceTaken : List Piece → List ℕ → Piece → Type 0
-  PieceTaken before bytes p = (bytes ≡ piece_contents p) × IsPieceTested before p
-
-  piece_built : (before : List Piece) (end : ℕ) (bytes : List ℕ) (number size : ℕ) (r1 : List ℕ) (offset : ℕ)
-      (r2 content : List ℕ) → IsBytes bytes → code_segment_at segments (latest before) end bytes ≡ Ok (number, size, r1)
-      → piece_offset_at (latest before) number end r1 ≡ Ok (offset, r2) → content_at size offset end r2 ≡ Ok content
-      → PieceTaken before bytes (record { segment = number; offset = offset; bytes = content })
-  piece_built before end bytes number size r1 offset r2 content fits e1 e2 e3 =
-      let cf = code_segment_field (latest before) end bytes (number, size, r1) e1 in
-      let fits1 : (number < 256) × IsBytes r1 = subst IsBytes cf.bytes_are fits in
-      let vf = offset_field (latest before) number end r1 (offset, r2) fits1.1 e2 in
-      let bf = content_field size offset end r2 content e3 in
-      let t1 : r1 ≡ pair offset ++ content = vf.0 ∙ ap (λ (t : List ℕ). pair offset ++ t) bf.0 in
-      let whole : bytes ≡ number ∷ (pair offset ++ content) = cf.bytes_are ∙ ap (λ (t : List ℕ). number ∷ t) t1 in (
-        whole,
+  pub piece_agrees : (before : List Piece) → Agrees (piece_in segments before) piece_contents (IsPieceTested before)
+  unfolding piece_in code_segment_at piece_offset_at
+  piece_agrees before = record_agrees
+      (then_fields (numbered_codec segments (λ n s. is_code s.kind && segment_follows (latest before) n)
+      (λ n s. (n, s.size)) (λ (v : ℕ × ℕ). v.0) (λ n s. refl)) (λ number.
+      then_fields (pair_codec (piece_follows (latest before) number.0)) (λ offset.
+      last_field (content_agrees number.1 offset))))
+      (λ x. record { segment = x.0.0; offset = x.1.0; bytes = x.1.1 }) piece_contents (IsPieceTested before)
+      (λ x g. (
+        refl,
         record {
-          segment = cf.segment;
-          is = cf.is;
-          ascends = cf.ascends;
-          follows = vf.2;
-          inside =
-              subst (λ n. (nat_lt 0 (length content) && nat_le (offset + min (length content) 1024) n) ≡ true)
-              (sym cf.size) bf.1;
-          most = bf.2;
+          segment = g.0.item;
+          is = g.0.is;
+          ascends = g.0.passes;
+          follows = g.1.0;
+          inside = subst (λ (v : ℕ × ℕ).
+              (nat_lt 0 (length x.1.1) && nat_le (x.1.0 + min (length x.1.1) 1024) v.1) ≡ true) (sym g.0.kept) g.1.1.0;
+          most = g.1.1.1;
         },
-      )
-
-  pub piece_takes : (before : List Piece) (end : ℕ) (bytes : List ℕ) (p : Piece) → IsBytes bytes
-      → piece_in segments before end bytes ≡ Ok p → (bytes ≡ piece_contents p) × IsPieceTested before p
-  unfolding piece_in
-  piece_takes before end bytes p fits e =
-      on_ok (code_segment_at segments (latest before) end bytes) _ p (PieceTaken before bytes p) (λ number e1 h1.
-      on_ok (piece_offset_at (latest before) number.0 end number.2) _ p (PieceTaken before bytes p) (λ offset e2 h2.
-      on_ok (content_at number.1 offset.0 end offset.1) _ p (PieceTaken before bytes p) (λ content e3 h3.
-      let made : Piece = record { segment = number.0; offset = offset.0; bytes = content } in
-      subst (PieceTaken before bytes) (ok_is made p h3)
-      (piece_built before end bytes number.0 number.1 number.2 offset.0 offset.1 content fits e1 e2 e3)) h2) h1) e
-
-  pub piece_again : (before : List Piece) (end : ℕ) (p : Piece) → IsPieceTested before p
-      → piece_in segments before end (piece_contents p) ≡ Ok p
-  unfolding piece_in
-  piece_again before end p t =
-      rw (
-        code_segment_again (latest before) end p.segment t.segment (pair p.offset ++ p.bytes) t.is t.ascends,
-        offset_again (latest before) p.segment end p.offset p.bytes t.follows,
-        content_again t.segment.size p.offset end p.bytes t.inside t.most,
-      ) refl
+      ))
+      (λ p t. (
+        ((p.segment, t.segment.size), (p.offset, p.bytes)),
+        refl,
+        (record { item = t.segment; is = t.is; passes = t.ascends; kept = refl }, (t.follows, (t.inside, t.most))),
+      ))
 
 -- ---- the order
 

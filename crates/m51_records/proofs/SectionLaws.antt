@@ -9,6 +9,7 @@ use Rattle.m51_frame.specs.Fields.{◌>>=◌}
 use Rattle.m51_frame.specs.Frame.{checksum_of, checksummed_bytes, record_of, begins, record_at, checksum_place}
 use Rattle.m51_records.specs.Reading.{Reader, one_at, many_at, all_at}
 use Rattle.m51_records.proofs.Tools.{on_ok, ok_is, done}
+use Rattle.m51_records.proofs.Codec.{Agrees}
 use Rattle.m51_records.proofs.FieldLaws.{IsBytes, fit_front, fit_back}
 use Rattle.m51_records.proofs.FrameLaws.{record_takes, record_again}
 use Rattle.m51_records.proofs.PieceLaws.{test_split}
@@ -27,13 +28,12 @@ pub record TakesOne {X : Type 0} (type : ℕ) (contents : X → List ℕ) (Good 
   pub good : Good y.0
 
 one_built : {X : Type 0} (type : ℕ) (read : Reader X) (contents : X → List ℕ) (Good : X → Type 0) (total : ℕ)
-    (bytes : List ℕ) (y : X × List ℕ)
-    → ((end : ℕ) (bytes : List ℕ) (x : X) → IsBytes bytes → read end bytes ≡ Ok x → (bytes ≡ contents x) × Good x)
-    → IsBytes bytes → (inner after : List ℕ) (x : X) → bytes ≡ record_of type inner ++ after
+    (bytes : List ℕ) (y : X × List ℕ) → Agrees read contents Good → IsBytes bytes → (inner after : List ℕ) (x : X)
+    → bytes ≡ record_of type inner ++ after
     → read (checksum_place total after) inner ≡ Ok x → done (x, after) ≡ done y → TakesOne type contents Good bytes y
-one_built type read contents Good total bytes y takes fits inner after x is value h =
+one_built type read contents Good total bytes y law fits inner after x is value h =
     let all : IsBytes (record_of type inner ++ after) = subst IsBytes is fits in
-    let t = takes (checksum_place total after) inner x (contents_fit type inner after all) value in
+    let t = law.takes (checksum_place total after) inner x (contents_fit type inner after all) value in
     subst (TakesOne type contents Good bytes) (ok_is (x, after) y h)
     (record {
       bytes_are = is ∙ ap (λ (c : List ℕ). record_of type c ++ after) t.0;
@@ -42,22 +42,22 @@ one_built type read contents Good total bytes y takes fits inner after x is valu
       good = t.1;
     })
 
-pub one_takes : {X : Type 0} (type : ℕ) (read : Reader X) (contents : X → List ℕ) (Good : X → Type 0) (total number : ℕ)
-    (bytes : List ℕ) (y : X × List ℕ)
-    → ((end : ℕ) (bytes : List ℕ) (x : X) → IsBytes bytes → read end bytes ≡ Ok x → (bytes ≡ contents x) × Good x)
-    → IsBytes bytes → one_at type read total number bytes ≡ Ok y → TakesOne type contents Good bytes y
+pub one_takes : {X : Type 0} (type : ℕ) {read : Reader X} {contents : X → List ℕ} {Good : X → Type 0} (total number : ℕ)
+    (bytes : List ℕ) (y : X × List ℕ) → Agrees read contents Good → IsBytes bytes
+    → one_at type read total number bytes ≡ Ok y → TakesOne type contents Good bytes y
 unfolding one_at
-one_takes type read contents Good total number bytes y takes fits e =
+one_takes type {read} {contents} {Good} total number bytes y law fits e =
     on_ok (record_at type total number bytes) _ y (TakesOne type contents Good bytes y) (λ framed e1 h1.
     on_ok (read (checksum_place total framed.1) framed.0) _ y (TakesOne type contents Good bytes y) (λ x e2 h2.
-    one_built type read contents Good total bytes y takes fits framed.0 framed.1 x
+    one_built type read contents Good total bytes y law fits framed.0 framed.1 x
     (record_takes type total number bytes framed fits e1) e2 h2) h1) e
 
-pub one_again : {X : Type 0} (type : ℕ) (read : Reader X) (contents : List ℕ) (x : X) (total number : ℕ)
-    (after : List ℕ) → read (checksum_place total after) contents ≡ Ok x
-    → one_at type read total number (record_of type contents ++ after) ≡ Ok (x, after)
+pub one_again : {X : Type 0} (type : ℕ) {read : Reader X} {contents : X → List ℕ} {Good : X → Type 0}
+    → Agrees read contents Good → (total number : ℕ) (x : X) (after : List ℕ) → Good x
+    → one_at type read total number (record_of type (contents x) ++ after) ≡ Ok (x, after)
 unfolding one_at
-one_again type read contents x total number after h = rw (record_again type total number contents after, h) refl
+one_again type {read} {contents} law total number x after g =
+    rw (record_again type total number (contents x) after, law.again (checksum_place total after) x g) refl
 
 -- a record of another type comes
 pub other_comes : {X : Type 0} (type other : ℕ) (contents : X → List ℕ) (xs : List X) (rest : List ℕ) → eqb other type
@@ -66,8 +66,9 @@ other_comes type other contents [] rest ne h = h
 other_comes type other contents (x ∷ xs) rest ne h =
     ap (λ (l : List ℕ). begins type (l ++ rest)) (flat_map-cons (λ x. record_of other (contents x)) x xs) ∙ ne
 
-module _ {X : Type 0} (type : ℕ) (read : List X → Reader X) (contents : X → List ℕ) (Good : List X → Type 0)
-    (Tested : List X → X → Type 0) where
+module _ {X : Type 0} (type : ℕ) {read : List X → Reader X} {contents : X → List ℕ} (Good : List X → Type 0)
+    {Tested : List X → X → Type 0} (law : (before : List X) → Agrees (read before) contents (Tested before))
+    (total : ℕ) where
   abbrev pub written : X → List ℕ
   written x = record_of type (contents x)
 
@@ -79,9 +80,7 @@ module _ {X : Type 0} (type : ℕ) (read : List X → Reader X) (contents : X �
     pub rest_fits : IsBytes y.1
     pub good : Good y.0
 
-  module _ (total : ℕ) (push : (before : List X) (x : X) → Good before → Tested before x → Good (before ++ x ∷ []))
-      (takes : (before : List X) (end : ℕ) (bytes : List ℕ) (x : X) → IsBytes bytes → read before end bytes ≡ Ok x
-      → (bytes ≡ contents x) × Tested before x) where
+  module _ (push : (before : List X) (x : X) → Good before → Tested before x → Good (before ++ x ∷ [])) where
     stopped : (before : List X) (bytes : List ℕ) (y : List X × List ℕ) → Good before → IsBytes bytes
         → done (before, bytes) ≡ done y → TakesMany before bytes y
     stopped before bytes y good fits e =
@@ -106,7 +105,7 @@ module _ {X : Type 0} (type : ℕ) (read : List X → Reader X) (contents : X �
     many_takes zero number before bytes y good fits e = stopped before bytes y good fits e
     many_takes (suc most) number before bytes y good fits e = test_split (begins type bytes) (TakesMany before bytes y)
         (λ comes. on_ok (one_at type (read before) total number bytes) _ y (TakesMany before bytes y) (λ one e1 h1.
-        let t = one_takes type (read before) contents (Tested before) total number bytes one (takes before) fits e1 in
+        let t = one_takes type total number bytes one (law before) fits e1 in
         joined before bytes one.0 one.1 y t.bytes_are
         (many_takes most (number + 1) (before ++ one.0 ∷ []) one.1 y
         (push before one.0 good t.good) t.rest_fits h1))
@@ -122,9 +121,8 @@ module _ {X : Type 0} (type : ℕ) (read : List X → Reader X) (contents : X �
         → all_at type read total number bytes ≡ Ok y → TakesMany [] bytes y
     all_takes number bytes y none fits e = many_takes (length bytes) number [] bytes y none fits e
 
-  module _ (total : ℕ) (front : (xs ys : List X) → Good (xs ++ ys) → Good xs)
-      (last : (before : List X) (x : X) → Good (before ++ x ∷ []) → Tested before x)
-      (again : (before : List X) (end : ℕ) (x : X) → Tested before x → read before end (contents x) ≡ Ok x) where
+  module _ (front : (xs ys : List X) → Good (xs ++ ys) → Good xs)
+      (last : (before : List X) (x : X) → Good (before ++ x ∷ []) → Tested before x) where
     many_again : (new : List X) (most number : ℕ) (before : List X) (after : List ℕ) → length new ≤ most
         → Good (before ++ new) → begins type after ≡ false
         → many_at type read total number most before (flat_map written new ++ after) ≡ Ok (before ++ new, after)
@@ -143,8 +141,7 @@ module _ {X : Type 0} (type : ℕ) (read : List X → Reader X) (contents : X �
         let comes : eqb type type ≡ true = eq-eqb type type refl in
         let one : one_at type (read before) total number (written x ++ (flat_map written new ++ after))
         ≡ Ok (x, flat_map written new ++ after) =
-        one_again type (read before) (contents x) x total number (flat_map written new ++ after)
-        (again before (checksum_place total (flat_map written new ++ after)) x tested) in
+        one_again type (law before) total number x (flat_map written new ++ after) tested in
         let rest : many_at type read total (number + 1) most (before ++ x ∷ []) (flat_map written new ++ after)
         ≡ Ok ((before ++ x ∷ []) ++ new, after) =
         many_again new most (number + 1) (before ++ x ∷ []) after (omega (arith, few)) good' ends in

@@ -24,11 +24,11 @@ segment_follows None segment = true
 segment_follows (Some p) segment = nat_le p.segment segment
 
 -- the number and the size of a segment of program memory, one of `segments`; pieces ascend by their segments
-unfoldable pub code_segment_at : List Segment → Option Piece → ℕ → List ℕ → Result (ℕ × ℕ × List ℕ) ObjError
+unfoldable pub code_segment_at : List Segment → Option Piece → ℕ → List ℕ → Result ((ℕ × ℕ) × List ℕ) ObjError
 code_segment_at segments previous end bytes = do
   number ← byte_at end bytes
   segment ← or_absent (numbered segments number.0) end bytes
-  checked (is_code segment.kind && segment_follows previous number.0) end bytes (number.0, segment.size, number.1)
+  checked (is_code segment.kind && segment_follows previous number.0) end bytes ((number.0, segment.size), number.1)
 
 -- the piece before ends so, where it is in the same segment
 abbrev pub piece_follows : Option Piece → ℕ → ℕ → Bool
@@ -54,6 +54,6 @@ content_at size offset end bytes = do
 unfoldable pub piece_in : List Segment → List Piece → ℕ → List ℕ → Result Piece ObjError
 piece_in segments before end bytes = do
   segment ← code_segment_at segments (latest before) end bytes
-  offset ← piece_offset_at (latest before) segment.0 end segment.2
-  content ← content_at segment.1 offset.0 end offset.1
-  Ok (record { segment = segment.0; offset = offset.0; bytes = content })
+  offset ← piece_offset_at (latest before) segment.0.0 end segment.1
+  content ← content_at segment.0.1 offset.0 end offset.1
+  Ok (record { segment = segment.0.0; offset = offset.0; bytes = content })

@@ -1,5 +1,5 @@
 -- The first record of a module, and its last one.
-use Rattle.std.specs.Prelude.{ℕ, ◌%◌, Bool, ◌&&◌, ◌||◌, ◌==◌, nat_lt, List, [], ◌∷◌, ◌++◌, Result}
+use Rattle.std.specs.Prelude.{ℕ, ◌%◌, Bool, ◌&&◌, ◌||◌, ◌==◌, nat_lt, List, [], ◌∷◌, ◌++◌, Result, Ok}
 use Rattle.m51_module.specs.declared.object_error.ObjError.{ObjError}
 use Rattle.m51_frame.specs.Fields.{◌>>=◌, checked, or_broken, byte_at, text_field, text_at, upper_name, same, ended}
 
@@ -16,13 +16,19 @@ version_at end bytes = do
   version ← byte_at end bytes
   checked (is_version version.0) end bytes version
 
+-- a name, in upper case
+abbrev pub name_at : ℕ → List ℕ → Result (List ℕ × List ℕ) ObjError
+name_at end bytes = do
+  text ← text_at end bytes
+  name ← or_broken (upper_name text.0) end bytes
+  Ok (name, text.1)
+
 -- the name and the version
 unfoldable pub header_in : ℕ → List ℕ → Result (List ℕ × ℕ) ObjError
 header_in end bytes = do
-  text ← text_at end bytes
-  name ← or_broken (upper_name text.0) end bytes
-  version ← version_at end text.1
-  ended end version.1 (name, version.0)
+  name ← name_at end bytes
+  version ← version_at end name.1
+  ended end version.1 (name.0, version.0)
 
 -- the name once more, and the banks in use
 abbrev pub end_contents : List ℕ → ℕ → List ℕ

@@ -58,11 +58,11 @@ abbrev pub are_marks : ℕ → Kind → Reloc → Bool → Bool → Bool
 are_marks version kind reloc overlay argument =
     (not overlay || may_overlay kind reloc) && (not argument || may_mark version kind overlay)
 
-unfoldable pub marks_at : ℕ → Kind → Reloc → ℕ → List ℕ → Result (Bool × Bool × List ℕ) ObjError
+unfoldable pub marks_at : ℕ → Kind → Reloc → ℕ → List ℕ → Result ((Bool × Bool) × List ℕ) ObjError
 marks_at version kind reloc end bytes = do
   flags ← byte_at end bytes
   marks ← or_broken (marks_of flags.0) end bytes
-  checked (are_marks version kind reloc marks.0 marks.1) end bytes (marks.0, marks.1, flags.1)
+  checked (are_marks version kind reloc marks.0 marks.1) end bytes (marks, flags.1)
 
 -- the base of a relocatable segment is 0
 unfoldable pub base_at : Reloc → ℕ → List ℕ → Result (ℕ × List ℕ) ObjError
@@ -123,15 +123,15 @@ segment_in version before end bytes = do
   kind ← segment_kind_at end all
   reloc ← reloc_at kind.0 end kind.1
   marks ← marks_at version kind.0 reloc.0 end reloc.1
-  base ← base_at reloc.0 end marks.2
+  base ← base_at reloc.0 end marks.1
   size ← size_at kind.0 reloc.0 base.0 end base.1
-  name ← segment_name_at before reloc.0 marks.1 end size.1
+  name ← segment_name_at before reloc.0 marks.0.1 end size.1
   Ok (record {
     name = name;
     kind = kind.0;
     reloc = reloc.0;
-    overlay = marks.0;
-    argument = marks.1;
+    overlay = marks.0.0;
+    argument = marks.0.1;
     base = base.0;
     size = size.0;
   })

@@ -33,7 +33,8 @@ fn code_segment_at<'a>(
     end: u32,
     bytes: &'a [u8],
 ) -> Result<(u8, u16, &'a [u8]), ObjError>
-    ensures { Reads (λ x. (x.0, x.1, x.2.now)) result (code_segment_at segments.now (latest before.now) end bytes.now) }
+    ensures { Reads (λ x. ((x.0, x.1), x.2.now)) result
+        (code_segment_at segments.now (latest before.now) end bytes.now) }
 {
     let (number, rest) = byte_at(end, bytes)?;
     let Some(segment) = segment_numbered(segments, number) else {

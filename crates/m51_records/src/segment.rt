@@ -90,7 +90,7 @@ fn marks_at(
     end: u32,
     bytes: &[u8],
 ) -> Result<(bool, bool, &[u8]), ObjError>
-    ensures { Reads (λ x. (x.0, x.1, x.2.now)) result (marks_at version kind reloc end bytes.now) }
+    ensures { Reads (λ x. ((x.0, x.1), x.2.now)) result (marks_at version kind reloc end bytes.now) }
 {
     let (flags, rest) = byte_at(end, bytes)?;
     match marks_of(flags) {

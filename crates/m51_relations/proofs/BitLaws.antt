@@ -36,7 +36,7 @@ pub bits_joined : (old more new : List ℕ) → length old ≡ length more → l
     ≡ (bit old v || bit more v)
 unfolding bit
 bits_joined old more new same same' each v =
-    elim (cases_lt (v / 64) (length old)) as (λ _. bit new v ≡ (bit old v || bit more v)) [
+    elim (cases_lt (v / 64) (length old)) [
       | inl below ↦ ap (λ x. nat_eq (bit_at x (v % 64)) 1) (each (v / 64) below)
           ∙ or_tested (get_or old (v / 64) 0) (get_or more (v / 64) 0) (v % 64)
       | inr past ↦
@@ -61,13 +61,13 @@ bits_put words number below v =
     let inside : at < length words = omega (arith, below) in
     let short : number % 64 < 64 = omega arith in
     let here : get_or (set words at word) at 0 ≡ word = get_or-set_same words at word 0 inside in
-    elim (cases_eq v number) as (λ _. bit (set words at word) v ≡ (nat_eq v number || bit words v)) [
+    elim (cases_eq v number) [
       | inl e ↦
           subst (λ n. bit (set words at word) n ≡ (nat_eq n number || bit words n)) (sym e)
           (ap (λ x. nat_eq (bit_at x (number % 64)) 1) here
           ∙ ap (λ x. nat_eq x 1) (bit_at_set_same w64 (get_or words at 0) (number % 64) short)
           ∙ sym (ap (λ b. b || bit words number) (eq-eqb number number refl)))
-      | inr ne ↦ elim (cases_eq (v / 64) at) as (λ _. bit (set words at word) v ≡ (nat_eq v number || bit words v)) [
+      | inr ne ↦ elim (cases_eq (v / 64) at) [
         | inl same ↦
             let other : v % 64 ≢ number % 64 = λ e. ne (omega (arith, e, same)) in
             ap (λ n. nat_eq (bit_at (get_or (set words at word) n 0) (v % 64)) 1) same
@@ -87,7 +87,7 @@ unfolding bit
 bit_none n v =
     let none : ℕ = 0 in
     let blank : List ℕ = replicate n none in
-    let zeros : get_or blank (v / 64) 0 ≡ none = elim (cases_lt (v / 64) n) as (λ _. get_or blank (v / 64) 0 ≡ none) [
+    let zeros : get_or blank (v / 64) 0 ≡ none = elim (cases_lt (v / 64) n) [
       | inl below ↦ get_or-replicate n (v / 64) none 0 below
       | inr past ↦ get_or_past blank (v / 64) 0 (omega (arith, past, length-replicate n none))
     ] in
@@ -105,7 +105,7 @@ pub rows_passed : (old new : List (List ℕ)) (through : List ℕ) (k : ℕ) →
     → ((u v : ℕ) → u < length old → pair_at new u v ≡ (pair_at old u v || (pair_at old u k && bit through v)))
     → (u v : ℕ) → pair_at new u v ≡ (pair_at old u v || (pair_at old u k && bit through v))
 rows_passed old new through k same each u v =
-    elim (cases_lt u (length old)) as (λ _. pair_at new u v ≡ (pair_at old u v || (pair_at old u k && bit through v))) [
+    elim (cases_lt u (length old)) [
       | inl below ↦ each u v below
       | inr past ↦
           pair_past new u v (omega (arith, past, same))
@@ -141,7 +141,7 @@ close_first has = refl
 -- rows without a bit
 pub rows_blank : (count words : ℕ) (rows : List (List ℕ)) → rows ≡ replicate count (replicate words 0) → (u v : ℕ)
     → pair_at rows u v ≡ false
-rows_blank count words rows is u v = elim (cases_lt u (length rows)) as (λ _. pair_at rows u v ≡ false) [
+rows_blank count words rows is u v = elim (cases_lt u (length rows)) [
   | inl below ↦
       let len : length rows ≡ count = ap length is ∙ length-replicate count (replicate words 0) in
       ap (λ (rs : List (List ℕ)). pair_at rs u v) is

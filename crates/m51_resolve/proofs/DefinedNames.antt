@@ -1,5 +1,5 @@
 -- The table of the names that modules define.
-use Rattle.m51_resolve.proofs.Common.{◌≡◌, ℕ, suc, ◌+◌, ◌<◌, ◌≤◌, Bool, true, false, cond, not, ◌&&◌, ◌||◌, List, []}
+use Rattle.m51_resolve.proofs.Common.{◌≡◌, ℕ, ◌+◌, ◌<◌, ◌≤◌, Bool, true, false, cond, not, ◌&&◌, ◌||◌, List, []}
 use Rattle.m51_resolve.proofs.Common.{◌∷◌, ◌++◌, length, drop, get_or, refl, sym, ap, ◌∙◌, arith, Option, Some, None}
 use Rattle.m51_resolve.proofs.Common.{is_some, option_map, list_any, option_or, bytes_eq, list_any-append}
 use Rattle.m51_resolve.proofs.Common.{bytes_eq-Decides, ModuleParts, Public, defines, has_public, Defined, Definition}
@@ -17,34 +17,15 @@ use Rattle.m51_resolve.proofs.Entries.{definition_number}
 abbrev shares : Defined → ℕ → Bool → Defined
 shares x number any = record { first = x.first; shared = x.shared || (not (x.first.number == number) && any) }
 
-none_shared : (s b : Bool) → s ≡ (s || (b && false))
-none_shared true b = refl
-none_shared false true = refl
-none_shared false false = refl
-
-one_shared : (s b any : Bool) → ((s || b) || (b && any)) ≡ (s || (b && true))
-one_shared true b any = refl
-one_shared false true any = refl
-one_shared false false any = refl
-
 -- the publics of one more module of a name that is known
-known_by : (q : Bool) (x : Defined) (number index : ℕ) (name : List ℕ) (p : Public) (more : List Public)
-    → ((y : Defined) → noted (Some y) number (index + 1) name more
-    ≡ Some (shares y number (list_any (λ z. bytes_eq z.name name) more)))
-    → noted (cond q (Some (again (Some x) (definition_at number index p))) (Some x)) number (index + 1) name more
-    ≡ Some (shares x number (q || list_any (λ z. bytes_eq z.name name) more))
-known_by true x number index name p more h =
-    h (again (Some x) (definition_at number index p))
-    ∙ ap (λ s. Some (record { first = x.first; shared = s }))
-    (one_shared x.shared (not (x.first.number == number)) (list_any (λ z. bytes_eq z.name name) more))
-known_by false x number index name p more h = h x
-
 noted_known : (x : Defined) (number index : ℕ) (name : List ℕ) (ps : List Public)
     → noted (Some x) number index name ps ≡ Some (shares x number (list_any (λ z. bytes_eq z.name name) ps))
-noted_known x number index name [] =
-    ap (λ s. Some (record { first = x.first; shared = s })) (none_shared x.shared (not (x.first.number == number)))
-noted_known x number index name (p ∷ more) =
-    known_by (bytes_eq p.name name) x number index name p more (λ y. noted_known y number (index + 1) name more)
+noted_known x number index name [] = grind arith
+noted_known x number index name (p ∷ more) = grind (
+  arith,
+  noted_known x number (index + 1) name more,
+  noted_known (again (Some x) (definition_at number index p)) number (index + 1) name more,
+)
 
 -- a definition that no other module repeats
 abbrev unshared : Definition → Defined
@@ -68,68 +49,25 @@ noted_new number index name [] = refl
 noted_new number index name (p ∷ more) =
     new_by (bytes_eq p.name name) number index name p more (noted_new number (index + 1) name more)
 
-or_none : (a : Option Definition) → option_or a None ≡ a
-or_none None = refl
-or_none (Some d) = refl
-
-or_three : (a b c : Option Definition) → option_or a (option_or b c) ≡ option_or (option_or a b) c
-or_three None b c = refl
-or_three (Some d) b c = refl
-
 -- the definition of a name among the modules and one more
 definition_push : (number : ℕ) (name : List ℕ) (ms : List ModuleParts) (m : ModuleParts)
     → definition_from number name (ms ++ m ∷ [])
     ≡ option_or (definition_from number name ms) (definition_among (number + length ms) 0 name m.publics)
-definition_push number name [] m = or_none (definition_among number 0 name m.publics)
-    ∙ ap (λ n. definition_among n 0 name m.publics) (plus_none number) where
-      plus_none : (n : ℕ) → n ≡ n + 0
-      plus_none n = omega arith
-definition_push number name (x ∷ ms) m =
-    let a = definition_among number 0 name x.publics in
-    ap (option_or a) (definition_push (number + 1) name ms m)
-    ∙ or_three a (definition_from (number + 1) name ms) (definition_among (number + 1 + length ms) 0 name m.publics)
-    ∙ ap (λ n. option_or (option_or a (definition_from (number + 1) name ms)) (definition_among n 0 name m.publics))
-    (next number (length ms)) where
-      next : (n l : ℕ) → n + 1 + l ≡ n + suc l
-      next n l = omega arith
-
-neither : (h : Bool) → cond h false false ≡ (false || (false && h))
-neither true = refl
-neither false = refl
-
-either : (d h : Bool) → (d || (h || false)) ≡ (d || h)
-either true h = refl
-either false true = refl
-either false false = refl
-
-two_by : (hx d t t' h : Bool) → t' ≡ (t || (d && h)) → cond hx (d || (h || false)) t'
-    ≡ (cond hx d t || ((hx || d) && h))
-two_by true d t t' h e = either d h
-two_by false d t t' h e = e
+definition_push number name [] m = grind arith
+definition_push number name (x ∷ ms) m = grind (arith, definition_push (number + 1) name ms m)
 
 -- whether two modules define the name, with one more module
 two_push : (name : List ℕ) (ms : List ModuleParts) (m : ModuleParts)
     → two_define (ms ++ m ∷ []) name ≡ (two_define ms name || (defines ms name && has_public name m))
-two_push name [] m = neither (has_public name m)
+two_push name [] m = grind arith
 two_push name (x ∷ ms) m =
-    ap (λ b. cond (has_public name x) b (two_define (ms ++ m ∷ []) name))
-    (list_any-append (has_public name) ms (m ∷ []))
-    ∙ two_by (has_public name x) (defines ms name) (two_define ms name) (two_define (ms ++ m ∷ []) name)
-    (has_public name m) (two_push name ms m)
-
-some_by : (q any : Bool) (d : Definition) (later : Option Definition) → is_some later ≡ any
-    → is_some (cond q (Some d) later) ≡ (q || any)
-some_by true any d later h = refl
-some_by false any d later h = h
+    grind (arith, list_any-append (has_public name) ms (m ∷ []), two_push name ms m)
 
 -- a module has a public of the name where there is a definition among its publics
 pub among_some : (number index : ℕ) (name : List ℕ) (ps : List Public) → is_some (definition_among number index name ps)
     ≡ list_any (λ z. bytes_eq z.name name) ps
 among_some number index name [] = refl
-among_some number index name (p ∷ more) =
-    some_by (bytes_eq p.name name) (list_any (λ z. bytes_eq z.name name) more) (definition_at number index p)
-    (definition_among number (index + 1) name more)
-    (among_some number (index + 1) name more)
+among_some number index name (p ∷ more) = grind (arith, among_some number (index + 1) name more)
 
 some_or : (a b : Option Definition) → is_some (option_or a b) ≡ (is_some a || is_some b)
 some_or None b = refl
@@ -139,22 +77,20 @@ from_some : (number : ℕ) (name : List ℕ) (ms : List ModuleParts) → is_some
     ≡ defines ms name
 from_some number name [] = refl
 from_some number name (m ∷ more) =
-    some_or (definition_among number 0 name m.publics) (definition_from (number + 1) name more)
-    ∙ ap (λ b. b || is_some (definition_from (number + 1) name more)) (among_some number 0 name m.publics)
-    ∙ ap (λ b. has_public name m || b) (from_some (number + 1) name more)
+    rw (
+      some_or (definition_among number 0 name m.publics) (definition_from (number + 1) name more),
+      among_some number 0 name m.publics,
+      from_some (number + 1) name more,
+    ) refl
 
 -- the modules define a name that has a definition
 pub definition_some : (ms : List ModuleParts) (name : List ℕ) → is_some (public_definition ms name) ≡ defines ms name
 definition_some ms name = from_some 0 name ms
 
-no_two_by : (h d t : Bool) → (h || d) ≡ false → (d ≡ false → t ≡ false) → cond h d t ≡ false
-no_two_by true d t e k = absurd (cc e)
-no_two_by false d t e k = k e
-
 -- where none defines the name, no two do
 no_two : (name : List ℕ) (ms : List ModuleParts) → defines ms name ≡ false → two_define ms name ≡ false
 no_two name [] h = refl
-no_two name (m ∷ more) h = no_two_by (has_public name m) (defines more name) (two_define more name) h (no_two name more)
+no_two name (m ∷ more) h = grind (arith, no_two name more)
 
 -- what is known of a name after one more module
 pushed_by : (ms : List ModuleParts) (m : ModuleParts) (name : List ℕ) (o : Option Definition)

@@ -28,7 +28,7 @@ module _ (gives : List ℕ → Option ℕ) (Old New : List ℕ → Type 0) (last
     (from : (name : List ℕ) → New name → Old name ⊎ (last ≡ name)) where
   earliest_by : (o given : Option ℕ) → gives last ≡ given → IsEarliest gives Old o
       → IsEarliest gives New (lesser_number o given)
-  earliest_by None None is h = λ name k. elim (from name k) as (λ _. gives name ≡ None) [
+  earliest_by None None is h = λ name k. elim (from name k) [
     | inl before ↦ h name before
     | inr e ↦ subst (λ n. gives n ≡ None) e is
   ]
@@ -36,7 +36,7 @@ module _ (gives : List ℕ → Option ℕ) (Old New : List ℕ → Type 0) (last
     name = last;
     named = here;
     is = is;
-    first = λ other n k g. elim (from other k) as (λ _. two ≤ n) [
+    first = λ other n k g. elim (from other k) [
       | inl before ↦ absurd (cc (h other before, g))
       | inr e ↦ let same : two ≡ n = same_Some two n (sym is ∙ ap gives e ∙ g) in omega (arith, same)
     ];
@@ -45,18 +45,18 @@ module _ (gives : List ℕ → Option ℕ) (Old New : List ℕ → Type 0) (last
     name = h.name;
     named = kept h.name h.named;
     is = h.is;
-    first = λ other n k g. elim (from other k) as (λ _. one ≤ n) [
+    first = λ other n k g. elim (from other k) [
       | inl before ↦ h.first other n before g
       | inr e ↦ absurd (cc (sym is ∙ ap gives e ∙ g))
     ];
   }
-  earliest_by (Some one) (Some two) is h = elim (cases_lt one two) as (λ _. IsEarliestAt gives New (min one two)) [
+  earliest_by (Some one) (Some two) is h = elim (cases_lt one two) [
     | inl less ↦ let same : min one two ≡ one = grind (arith, less) in
         subst (λ n. IsEarliestAt gives New n) (sym same) (record {
           name = h.name;
           named = kept h.name h.named;
           is = h.is;
-          first = λ other n k g. elim (from other k) as (λ _. one ≤ n) [
+          first = λ other n k g. elim (from other k) [
             | inl before ↦ h.first other n before g
             | inr e ↦ let own : two ≡ n = same_Some two n (sym is ∙ ap gives e ∙ g) in omega (arith, own, less)
           ];
@@ -66,7 +66,7 @@ module _ (gives : List ℕ → Option ℕ) (Old New : List ℕ → Type 0) (last
           name = last;
           named = here;
           is = is;
-          first = λ other n k g. elim (from other k) as (λ _. two ≤ n) [
+          first = λ other n k g. elim (from other k) [
             | inl before ↦ let low = h.first other n before g in omega (arith, low, more)
             | inr e ↦ let own : two ≡ n = same_Some two n (sym is ∙ ap gives e ∙ g) in omega (arith, own)
           ];
@@ -256,7 +256,7 @@ module _ (chosen members : List ModuleParts) where
             number = f.number;
             is = ap (λ b. cond b None (defining_module (public_definition members name))) absent
                 ∙ ap defining_module is;
-            no_later = elim (cases_lt k w.0) as (λ _. f.number ≤ k) [
+            no_later = elim (cases_lt k w.0) [
               | inl early ↦ absurd (cc (has, w.1.1.before k d early))
               | inr late ↦ omega (arith, late, w.1.0)
             ];

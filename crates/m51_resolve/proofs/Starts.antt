@@ -58,7 +58,7 @@ pub valid_more : (modules : List ModuleParts) (count : ℕ) (m : ModuleParts)
     → m ≡ get_or modules count m → IsValid m → (k : ℕ) → k < count + 1 → (d : ModuleParts)
     → IsValid (get_or modules k d)
 valid_more modules count m valid below is own k inside d =
-    elim (below_or_last k count inside) as (λ _. IsValid (get_or modules k d)) [
+    elim (below_or_last k count inside) [
       | inl less ↦ valid k less d
       | inr last ↦ subst (λ x. IsValid x)
           (is ∙ get_or_default modules count m d below ∙ ap (λ n. get_or modules n d) (sym last)) own

@@ -2,7 +2,7 @@
 use crate::failing::Failure;
 use crate::image::has_parts;
 use crate::pieces::PieceShelf;
-use crate::texts::number;
+use crate::texts::{number, parts_of};
 use m51_cells::{Bytes, NoMemory};
 use m51_chain::chain;
 use m51_shelf::{MemSink, Shelf, Sink};
@@ -63,12 +63,36 @@ impl Answer {
         }
     }
 
-    /// Whether it keeps one file, a HEX file with all parts such as 0000:7455, with commas between them.
+    // Whether its text ends with the last line of a run, and its status is that of the line: 0 for END, 1 for EVENT.
+    fn has_run(&self, alloc: Global) -> io::Result<bool> {
+        let Some(text) = self.out.text().strip_suffix(b"\n") else {
+            return Ok(false);
+        };
+        let lines = parts_of(alloc, text, b"\n")?;
+        let Some(last) = lines.last() else {
+            return Ok(false);
+        };
+        Ok(match self.status {
+            0 => (*last).strip_prefix(b"END ").is_some(),
+            1 => (*last).strip_prefix(b"EVENT ").is_some(),
+            _ => false,
+        })
+    }
+
+    /// Whether its status and last line are those of a run, and it keeps one file, a HEX file with all parts such as
+    /// 0000:7455, with commas between them.
     pub(crate) fn has_image(&self, alloc: Global, parts: &[u8]) -> io::Result<bool> {
         match self.shelf.kept() {
-            [(_, contents)] => has_parts(alloc, contents.as_slice(), parts),
+            [(_, contents)] => {
+                Ok(self.has_run(alloc)? && has_parts(alloc, contents.as_slice(), parts)?)
+            }
             _ => Ok(false),
         }
+    }
+
+    /// The files that it keeps.
+    pub(crate) fn kept(&self) -> &[(Bytes, Bytes)] {
+        self.shelf.kept()
     }
 }
 

@@ -7,6 +7,7 @@ mod failing;
 mod files;
 mod image;
 mod pieces;
+mod raising;
 mod report;
 mod sources;
 mod system;
@@ -24,6 +25,7 @@ fn main(rt: HostRuntime) -> io::Result<()> {
     cases::run_all(&rt, &mut report)?;
     sources::run_all(&rt, &mut report)?;
     words::run_all(&rt, &mut report)?;
+    raising::run_all(&rt, &mut report)?;
     system::run_all(&rt, &mut report)?;
     let Report { passed, failed } = report;
     println!(rt; "{passed} passed, {failed} failed")?;

@@ -1,5 +1,5 @@
 //! A board script.
-ghost use Rattle.std.specs.Prelude.{◌≡◌, ◌==◌, ◌<◌, ℕ, IfOk, nat_le, slice_index};
+ghost use Rattle.std.specs.Prelude.{◌≡◌, ◌==◌, ◌<◌, [], ℕ, IsTrue, IfOk, nat_le, slice_index};
 ghost use Rattle.m51_script.specs.Timing.{those};
 ghost use Rattle.m51_script.specs.Levels.{all_high, levels_after};
 ghost use Rattle.m51_script.specs.Laws.{last_level};
@@ -61,6 +61,17 @@ impl Script {
             ≡ last_level port 255 (those (λ d. nat_le d cycle) self.now.pins.cycles self.now.pins.items) }
     {
         self.pins.at(cycle)
+    }
+
+    /// Whether it has no PIN line and no frame: the levels are FFH in each cycle, and nothing arrives.
+    ///
+    /// Source: own choice ("Cycles in which nothing happens").
+    #[inline(always)]
+    pub fn is_silent(&self) -> bool
+        ensures pins { IsTrue result → self.now.pins.cycles ≡ [] }
+        ensures frames { IsTrue result → self.now.frames.cycles ≡ [] }
+    {
+        self.pins.is_empty() && self.frames.is_empty()
     }
 
     /// The frames that arrive in this cycle, in the order of their lines.

@@ -3,7 +3,7 @@ ghost use Rattle.std.specs.Prelude.{◌≡◌, ◌≤◌, [], None, false, IfOk,
 ghost use Rattle.std.specs.Io.KnownBytes.{ReadConsumes};
 ghost use Rattle.m51_cells.specs.Outside.{HasCause, one_more};
 ghost use Rattle.m51_shelf.specs.Shelf.{handed, missed_after};
-ghost use Rattle.m51_shelf.specs.Stored.{SameReading, SameStore};
+ghost use Rattle.m51_shelf.specs.Stored.{SameReading, SameStore, TakesFrom};
 
 use crate::keeping::put_file;
 use crate::shelf::Shelf;
@@ -30,7 +30,7 @@ pub struct DirShelf<R: Files> {
 }
 
 impl<R: Files> Model for DirShelf<R> {
-    ghost use Rattle.std.specs.Prelude.{is_some};
+    ghost use Rattle.std.specs.Prelude.{is_some, option_and_then};
     ghost use Rattle.m51_shelf.specs.Stored.{OpenFile, name_bytes};
 
     ghost Value = { OpenFile };
@@ -39,6 +39,7 @@ impl<R: Files> Model for DirShelf<R> {
       name = name_bytes s.name;
       taken = s.taken;
       ready = is_some s.file;
+      left = option_and_then R.File.remaining s.file;
       faults = s.faults;
       missed = name_bytes s.missed;
       keep_faults = s.keep_faults;
@@ -50,7 +51,15 @@ impl<R: Files> DirShelf<R> {
     ///
     /// Source: own choice ("Calls on the outside").
     pub fn make(rt: R) -> DirShelf<R>
-        ensures { result ≡ record { name = []; taken = 0; ready = false; faults = 0; missed = []; keep_faults = 0 } }
+        ensures { result ≡ record {
+          name = [];
+          taken = 0;
+          ready = false;
+          left = None;
+          faults = 0;
+          missed = [];
+          keep_faults = 0;
+        } }
     {
         DirShelf {
             rt,
@@ -132,6 +141,7 @@ impl<R: Files> Shelf for DirShelf<R> {
         ensures named { self.new.name ≡ self.old.name }
         ensures ready { self.new.ready ≡ is_ok result }
         ensures taken { self.new.taken ≡ handed self.old.taken result }
+        ensures bytes { IfOk result (λ count. TakesFrom self.old.left self.new.left count into.new) }
         ensures cause { HasCause self.old.faults self.new.faults result }
         ensures store { SameStore self.old self.new }
         ensures read { OnOk result (self.new.faults ≡ self.old.faults) }

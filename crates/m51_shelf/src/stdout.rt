@@ -1,10 +1,10 @@
 //! Standard output.
-ghost use Rattle.std.specs.Prelude.{◌≡◌, ◌≤◌, ◌<◌, None, length, IfOk, OnOk, OnErr};
-ghost use Rattle.std.specs.Io.KnownBytes.{WriteAppends};
+ghost use Rattle.std.specs.Prelude.{◌≡◌, ◌≤◌, ◌<◌, None, length, take, IfOk, OnOk, OnErr};
+ghost use Rattle.std.specs.Io.KnownBytes.{Appends, WriteAppends};
 ghost use Rattle.m51_cells.specs.Outside.{HasCause, one_more};
 
 use crate::sink::{Failed, Sink};
-use std::io::ErrorKind;
+use std::io::{ErrorKind, Write, writer};
 use std::marker::Model;
 
 /// How often a call on the outside is made again at most, after signals have interrupted it.
@@ -40,14 +40,16 @@ impl<P: Print> StdSink<P> {
     }
 }
 
-// Writes until the piece is taken or a write fails, and answers how many bytes were taken.
-fn write_on<P: Print>(rt: &P, piece: &[u8]) -> usize
-    ensures { result ≤ length piece.now }
+// Writes until the piece is taken or a write fails, and answers how many bytes were taken. A write that a signal
+// interrupts is made again, `MOST_TRIES` times at most in a call.
+fn write_on<W: Write>(to: &mut W, piece: &[u8]) -> usize
+    ensures bound { result ≤ length piece.now }
+    ensures bytes { Appends (W.contents to.old) (W.contents to.new) (take result piece.now) }
 {
     let mut done = 0;
     let mut interrupted = 0;
     while done < piece.len() {
-        match rt.write_some(&piece[done..]) {
+        match to.write(&piece[done..]) {
             Ok(0) => break,
             Ok(count) => done += count,
             Err(error) if error.kind() == ErrorKind::Interrupted && interrupted < MOST_TRIES => {
@@ -57,6 +59,23 @@ fn write_on<P: Print>(rt: &P, piece: &[u8]) -> usize
         }
     }
     done
+}
+
+// Writes a piece as far as it is taken. Where nothing of it is, that is a fault.
+fn write_counted<W: Write>(to: &mut W, faults: &mut u64, piece: &[u8]) -> Result<usize, Failed>
+    ensures bound { IfOk result (λ count. count ≤ length piece.now) }
+    ensures some { IfOk result (λ count. 0 < length piece.now → 0 < count) }
+    ensures bytes { WriteAppends (W.contents to.old) (W.contents to.new) result piece.now }
+    ensures cause { HasCause faults.old faults.new result }
+    ensures taken { OnOk result (faults.new ≡ faults.old) }
+    ensures counted { OnErr result (faults.new ≡ one_more faults.old) }
+{
+    let done = write_on(to, piece);
+    if done > 0 || piece.is_empty() {
+        return Ok(done);
+    }
+    *faults = faults.saturating_add(1);
+    Err(Failed)
 }
 
 impl<P: Print> Sink for StdSink<P> {
@@ -77,11 +96,6 @@ impl<P: Print> Sink for StdSink<P> {
         ensures taken { OnOk result (self.new ≡ self.old) }
         ensures counted { OnErr result (self.new ≡ one_more self.old) }
     {
-        let done = write_on(&self.rt, piece);
-        if done > 0 || piece.is_empty() {
-            return Ok(done);
-        }
-        self.faults = self.faults.saturating_add(1);
-        Err(Failed)
+        write_counted(&mut writer(&self.rt), &mut self.faults, piece)
     }
 }

@@ -21,3 +21,4 @@ pub mod RowCycles
 pub mod StepCycles
 pub mod TakenTypes
 pub mod Alone
+pub mod Quiet

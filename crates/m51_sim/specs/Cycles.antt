@@ -1,12 +1,13 @@
 -- The machine cycles of a step: what the outside gives in each of them, and what passes in them.
-use Rattle.std.specs.Prelude.{ℕ, zero, suc, ◌+◌, ◌-◌, ◌^◌, ◌==◌, ◌≤◌, nat_le, min, if◌then◌else◌, List, [], ◌∷◌, ◌++◌}
-use Rattle.std.specs.Prelude.{length, Option, Some, None}
+use Rattle.std.specs.Prelude.{◌≡◌, ℕ, zero, suc, ◌+◌, ◌-◌, ◌^◌, ◌==◌, ◌≤◌, nat_le, min, if◌then◌else◌, List, [], ◌∷◌}
+use Rattle.std.specs.Prelude.{◌++◌, length, Option, Some, None}
 use Rattle.std.specs.Option.{option_map}
 use Rattle.m51_cells.specs.declared.event.Entry.{Entry}
 use Rattle.m51_cells.specs.declared.event.Entry.TheVariants.{Sent as SentByte}
 use Rattle.m51_flat.specs.declared.state.Pins.{Pins}
 use Rattle.m51_timers_uart.specs.declared.periph.Sent.{Sent}
 use Rattle.m51_timers_uart.specs.declared.receiving.Frame.{Frame}
+use Rattle.m51_timers_uart.specs.Resting.{AreResting}
 use Rattle.m51_timers_uart.specs.Sending.{Ticked}
 use Rattle.m51_timers_uart.specs.Tick.{ticked}
 use Rattle.m51_script.specs.declared.script.Script.{Script}
@@ -69,3 +70,9 @@ cycle_passed inputs p =
 unfoldable pub cycles_passed : Inputs → ℕ → Passing → Passing
 cycles_passed inputs zero p = p
 cycles_passed inputs (suc count) p = cycle_passed inputs (cycles_passed inputs count p)
+
+-- a script has no PIN line and no frame, and the devices rest: machine cycles change nothing but their number
+pub record Rests (script : Script) (p : Passing) : Type 0 where
+  pub pins : script.pins.cycles ≡ []
+  pub frames : script.frames.cycles ≡ []
+  pub devices : AreResting p.cpu all_high p.periph

@@ -11,17 +11,19 @@ ghost use Rattle.m51_print.specs.Lines.{HasText, titles_of};
 ghost use Rattle.m51_script.specs.declared.script.Script.{Script as ScriptState};
 ghost use Rattle.m51_sim.specs.Boards.{IsInOrder, IsStarted, StandsForState, held_memory, separate_of, state_with};
 ghost use Rattle.m51_sim.specs.Cycles.{AreFew, inputs_of, with_extra};
+ghost use Rattle.m51_sim.specs.Effects.{attempt_of};
 ghost use Rattle.m51_sim.specs.Report.{IsReport};
 ghost use Rattle.m51_sim.specs.Run.{Ended, IsAdvance, IsStep, IsToldStep, step_told, stopped_by, tally_of, told_by};
 ghost use Rattle.m51_sim.specs.Runs.{record_of};
 ghost use Rattle.m51_sim.specs.SeparateMachine.{separate_machine};
 
+use crate::attempt::Attempt;
 use crate::chip::{Chip, blank_effect};
 use crate::cycles::Timed;
 use crate::judging::{cite_stores, commit, judge};
 use crate::runs::{Entries, RunEnd, Runnable, Step, Told, count_run, run};
 use m51_cells::{Event, NoMemory};
-use m51_flat::Effect;
+use m51_flat::{Cpu, Effect};
 use m51_module::{Image, Layout, Placed, Tally};
 use m51_monitor::Monitor;
 use m51_script::Script;
@@ -158,6 +160,43 @@ impl Board {
         self.monitor.layout()
     }
 
+    /// The processor.
+    ///
+    /// Source: own choice ("Boards").
+    pub fn cpu(&self) -> &Cpu
+        ensures { result.now ≡ self.now.chip.cpu }
+    {
+        self.chip.cpu()
+    }
+
+    /// The records of what is active, and the memory.
+    ///
+    /// Source: own choice ("Boards").
+    pub fn monitor(&self) -> &Monitor
+        ensures { result.now ≡ self.now.monitor }
+    {
+        &self.monitor
+    }
+
+    /// The bytes of the image.
+    ///
+    /// Source: own choice ("Boards").
+    pub fn bytes(&self) -> &[u8]
+        ensures list { result.now ≡ self.now.chip.image }
+        ensures whole { length result.now ≡ 65536 }
+    {
+        self.chip.bytes()
+    }
+
+    /// What the next step is, unless an event stops it.
+    ///
+    /// Source: own choice ("Runs").
+    pub fn attempt(&self) -> Attempt
+        ensures { result ≡ attempt_of self.now.chip.image self.now.chip.cpu }
+    {
+        self.chip.attempt()
+    }
+
     /// The number of the machine cycle in which the next step starts.
     ///
     /// Source: own choice ("Runs").
@@ -210,6 +249,7 @@ fn told_by(answer: Result<Entries, Event>) -> Told
 }
 
 // Performs a step and gives what it reports, or gives the event that stops it.
+#[inline(always)]
 fn advance(
     monitor: &mut Monitor,
     chip: &mut Chip,
@@ -238,6 +278,7 @@ fn advance(
 }
 
 // The same with the script's frames only.
+#[inline(always)]
 fn advance_alone(
     monitor: &mut Monitor,
     chip: &mut Chip,

@@ -1,7 +1,8 @@
 //! An image, a script, the processor, the devices, and the number of the machine cycle.
-ghost use Rattle.std.specs.Prelude.{◌≡◌, length, IfOk};
+ghost use Rattle.std.specs.Prelude.{◌≡◌, None, length, IfOk, IsTrue};
 ghost use Rattle.m51_flat.specs.Reset.{reset_cpu};
 ghost use Rattle.m51_timers_uart.specs.LineLaws.{written_to};
+ghost use Rattle.m51_timers_uart.specs.Resting.{looked_at};
 ghost use Rattle.m51_timers_uart.specs.Tick.{reset_periph};
 ghost use Rattle.m51_sim.specs.Cycles.{AreFew, cycles_passed, inputs_of, with_extra};
 ghost use Rattle.m51_sim.specs.Effects.{attempt_by, attempt_of, changed_by, executing, idle_effect};
@@ -18,7 +19,7 @@ use m51_module::Image;
 use m51_script::Script;
 use m51_sfr::addresses::{P0, P1, P2, P3, PCON};
 use m51_sfr::bits::IDL;
-use m51_timers_uart::Periph;
+use m51_timers_uart::{Periph, look_alike};
 use std::alloc::Global;
 use std::marker::Model;
 
@@ -28,10 +29,14 @@ pub(crate) struct Chip {
     program: Program,
     script: Script,
     passing: Passing,
+    // The script has no lines, and the devices rest.
+    resting: bool,
 }
 
 impl Model for Chip {
+    ghost use Rattle.std.specs.Prelude.{IsTrue};
     ghost use Rattle.m51_sim.specs.Boards.{ChipState};
+    ghost use Rattle.m51_sim.specs.Cycles.{Rests};
 
     ghost Value = { ChipState };
 
@@ -42,6 +47,8 @@ impl Model for Chip {
       periph = c.passing.periph;
       cycle = c.passing.cycle;
     } };
+
+    ghost invariant = { λ c. IsTrue c.resting → Rests c.script c.passing };
 }
 
 impl Chip {
@@ -66,6 +73,7 @@ impl Chip {
                 cycle: 0,
                 sent: None,
             },
+            resting: false,
         })
     }
 
@@ -158,15 +166,39 @@ impl Chip {
             (changed_by self.old.cycle self.old.periph effect.now) }
     {
         let port = port_entry(self.passing.cycle, effect);
-        self.passing.cpu = effect.cpu;
+        let rests = rests_on(self.resting, &self.passing.cpu, effect);
+        copy_cpu(&mut self.passing.cpu, &effect.cpu);
         begin_sending(&mut self.passing.periph, effect);
         self.passing.sent = None;
-        pass_cycles(&self.script, extra, effect.cycles, &mut self.passing);
+        self.resting = pass_cycles(&self.script, extra, effect.cycles, &mut self.passing, rests);
         Entries {
             port,
             sent: self.passing.sent,
         }
     }
+}
+
+// Whether the devices rest after an effect as they did before it: no byte is to be sent, and the registers stay that
+// show it.
+#[inline(always)]
+fn rests_on(rests: bool, cpu: &Cpu, effect: &Effect) -> bool
+    ensures rests { IsTrue result → IsTrue rests }
+    ensures line { IsTrue result → effect.now.sbuf ≡ None }
+    ensures registers { IsTrue result → looked_at cpu.now ≡ looked_at effect.now.cpu }
+{
+    rests && effect.sbuf.is_none() && look_alike(cpu, &effect.cpu)
+}
+
+// Makes a processor the same as another, part by part: a copy of the whole is a call.
+#[inline(always)]
+fn copy_cpu(cpu: &mut Cpu, other: &Cpu)
+    ensures { cpu.new ≡ other.now }
+{
+    cpu.regs = other.regs;
+    cpu.pc = other.pc;
+    cpu.low = other.low;
+    cpu.high = other.high;
+    cpu.held = other.held;
 }
 
 // Makes an effect that of a machine cycle without an instruction.

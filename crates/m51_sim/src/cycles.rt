@@ -1,11 +1,11 @@
 //! The machine cycles of a step.
-ghost use Rattle.std.specs.Prelude.{◌≡◌, ◌≤◌, ◌+◌, [], ◌∷◌, ◌++◌, length, take};
-ghost use Rattle.m51_sim.specs.Cycles.{AreFew, cycle_passed, cycles_passed, first_sent, frames_in, inputs_of};
+ghost use Rattle.std.specs.Prelude.{◌≡◌, ◌≤◌, ◌+◌, ◌-◌, ◌^◌, [], ◌∷◌, ◌++◌, length, take, min, IsTrue};
+ghost use Rattle.m51_sim.specs.Cycles.{AreFew, Rests, cycle_passed, cycles_passed, first_sent, frames_in, inputs_of};
 ghost use Rattle.m51_sim.specs.Cycles.{next_cycle, sent_in, with_extra};
 ghost use Rattle.m51_timers_uart.specs.Tick.{ticked};
 
 use m51_cells::Entry;
-use m51_flat::Cpu;
+use m51_flat::{Cpu, Pins};
 use m51_script::Script;
 use m51_timers_uart::{Frame, Periph, Sent};
 
@@ -22,6 +22,9 @@ pub struct Timed {
 
 // The most frames of one cycle that do not come from the script.
 const MOST_EXTRA: usize = 7;
+
+// The levels that the outside gives the pins before the first PIN line.
+const ALL_HIGH: Pins = Pins { p: [0xFF; 4] };
 
 // The processor and the devices between two cycles of a step, the number of the cycle, and the byte that was sent in
 // the step.
@@ -148,14 +151,69 @@ fn pass_cycle(script: &Script, extra: &[Timed], passing: &mut Passing)
     keep_sent(&mut passing.sent, cycle, sent);
 }
 
-// This number of machine cycles.
+// Whether the script has no lines, and the devices rest.
+#[inline(always)]
+fn comes_to_rest(script: &Script, passing: &Passing) -> bool
+    ensures { IsTrue result → Rests script.now passing.now }
+{
+    script.is_silent() && passing.periph.rests(&passing.cpu, &ALL_HIGH)
+}
+
+// Whether the next cycles change nothing but their number: no further frame comes, and the devices are known to rest or
+// come to rest now.
+#[inline(always)]
+fn are_idle(script: &Script, extra: &[Timed], passing: &Passing, rests: bool) -> bool
+    requires { IsTrue rests → Rests script.now passing.now }
+    ensures alone { IsTrue result → length extra.now ≡ 0 }
+    ensures rests { IsTrue result → Rests script.now passing.now }
+{
+    if !extra.is_empty() {
+        return false;
+    }
+    rests || comes_to_rest(script, passing)
+}
+
+// This number of machine cycles, which change nothing but the number of the cycle.
+#[inline(always)]
+fn skip_cycles(count: u8, passing: &mut Passing)
+    ensures passed { passing.new ≡ record passing.old { cycle = min (passing.old.cycle + count) (2 ^ 64 - 1) } }
+    ensures before { passing.old.cycle ≤ 2 ^ 64 - 1 }
+{
+    passing.cycle = passing.cycle.saturating_add(u64::from(count));
+}
+
+// This number of machine cycles, one by one.
 #[tactic(auto, unfolding(crate::specs::Cycles::cycles_passed))]
 #[inline(always)]
-pub(crate) fn pass_cycles(script: &Script, extra: &[Timed], count: u8, passing: &mut Passing)
+fn pass_each(script: &Script, extra: &[Timed], count: u8, passing: &mut Passing)
     requires { AreFew extra.now }
     ensures { passing.new ≡ cycles_passed (with_extra extra.now (inputs_of script.now)) count passing.old }
 {
     for _ in 0..count {
         pass_cycle(script, extra, passing);
     }
+}
+
+// This number of machine cycles, where `rests` says that the devices are known to rest. It answers whether they are
+// known to rest after them.
+#[tactic(auto, using(crate::proofs::Quiet::rest_passes, crate::proofs::Quiet::rest_lasts))]
+#[inline(always)]
+pub(crate) fn pass_cycles(
+    script: &Script,
+    extra: &[Timed],
+    count: u8,
+    passing: &mut Passing,
+    rests: bool,
+) -> bool
+    requires few { AreFew extra.now }
+    requires rests { IsTrue rests → Rests script.now passing.old }
+    ensures passed { passing.new ≡ cycles_passed (with_extra extra.now (inputs_of script.now)) count passing.old }
+    ensures rests { IsTrue result → Rests script.now passing.new }
+{
+    if are_idle(script, extra, passing, rests) {
+        skip_cycles(count, passing);
+        return true;
+    }
+    pass_each(script, extra, count, passing);
+    false
 }

@@ -155,6 +155,7 @@ fn put_both(memory: &mut FlatRam, effect: &Effect)
 }
 
 // Performs a step and gives what it reports, or gives the event that stops it.
+#[inline(always)]
 fn advance(chip: &mut Chip, memory: &mut FlatRam, effect: &mut Effect) -> Result<Entries, Event>
     ensures image { chip.new.image ≡ chip.old.image }
     ensures script { chip.new.script ≡ chip.old.script }

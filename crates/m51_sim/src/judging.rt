@@ -57,6 +57,7 @@ fn is_inside(layout: &Layout, unit: u16, address: u16) -> bool
 
 // Whether `count` bytes from an address on lie in the current unit.
 #[tactic(auto, using(crate::proofs::Inside::one_outside))]
+#[inline(always)]
 fn lie_inside(monitor: &Monitor, pc: u16, count: u8) -> bool
     ensures { result ≡ lie_inside monitor.now.layout (current monitor.now.records) pc count }
 {

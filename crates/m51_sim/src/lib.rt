@@ -11,6 +11,7 @@ mod laws;
 mod program;
 mod runs;
 
+pub use attempt::Attempt;
 pub use board::Board;
 pub use cycles::Timed;
 pub use flat_board::FlatBoard;

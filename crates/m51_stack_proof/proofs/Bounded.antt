@@ -105,7 +105,7 @@ module _ (l : LayoutParts) (image : List ℕ) (sound : IsSound l) (b : StackBoun
       goes : is_return instr ≡ false → is_call instr ≡ false → (is_jump instr ≡ true → e.transfer ≡ Jump)
           → Leads (next_address cpu instr) (instr_top instr (latch cpu sp)) (target_of instr (next_address cpu instr)) e
           → After
-      goes ret call jumps k = elim k.goes as (λ _. After) [
+      goes ret call jumps k = elim k.goes [
         | inr j ↦ run.by_jump l image sound b bounded few a cpu h.step count instr at e step is ret call j.0 j.1 k.stack
         | inl n ↦ on (is_jump instr) refl n.0 n.1
       ]

@@ -116,7 +116,7 @@ module _ (l : LayoutParts) (image : List ℕ) where
         subst (λ ws. Contains ws v) (sym (more_running r rs source cause)) (0, omega arith, refl) in
         let up = one_below v bytes path vs more handler t (λ k. fresh v k here) (omega (arith, few, count)) a in
         let low = most reset rs p.start base below [] p.height own (v ∷ vs) (2 + bytes + more) up
-        (λ w k m. elim (first_or_after v vs w k) as (λ _. ⊥) [
+        (λ w k m. elim (first_or_after v vs w k) [
           | inl e ↦ free (subst (λ x. Contains (running rs) x) (sym e) m)
           | inr old ↦ fresh w old
               (subst (λ ws. Contains ws w) (sym (more_running r rs source cause)) (suc m.0, omega (arith, m.1), m.2))
@@ -140,7 +140,7 @@ module _ (l : LayoutParts) (image : List ℕ) where
     room_above reset rs start base s few height v h handler free entry =
         let low = most reset rs start base s [] height (Own start height h) (v ∷ []) (2 + 0)
         (OneAbove v 0 [] handler (Own (At v) 0 entry))
-        (λ w k m. elim (first_or_after v [] w k) as (λ _. ⊥)
+        (λ w k m. elim (first_or_after v [] w k)
         [ inl e ↦ free (subst (λ x. Contains (running rs) x) (sym e) m) | inr none ↦ none_in_empty w none ])
         (omega (arith, few)) in
         omega (arith, low)

@@ -59,7 +59,7 @@ module _ (l : LayoutParts) (sound : IsSound l) where
       ap (λ o. same_or_edge l.edges o (unit_of l to)) (unit_at from u h)
       ∙ (ap (λ o. same_or_edge l.edges (Some u) o) (unit_at to v k)
       ∙ or_holds (nat_eq u v) (has_edge l.edges u v)
-      (elim way as (λ _. (nat_eq u v ≡ true) ⊎ (has_edge l.edges u v ≡ true))
+      (elim way
       [ inl e ↦ inl (eq-eqb u v e) | inr edge ↦ inr (test_from_edge l.edges u v edge) ]))
 
   pub found_unit : (address unit : ℕ) → is_at (unit_found l address) unit ≡ true → IsUnitAt l address unit

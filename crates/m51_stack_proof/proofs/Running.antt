@@ -78,7 +78,7 @@ module _ (l : LayoutParts) (image : List ℕ) (sound : IsSound l) (b : StackBoun
       let w = way_of l (current a) (is_sp_below a.returns 0 (latch e.cpu sp)) false (unit_found l e.cpu.pc)
       (unit_found l e.cpu.pc) step refl (as_transfer Jump t) in
       let there = found_at w.unit w.found in
-      elim w.way as (λ _. After) [
+      elim w.way [
         | inl own ↦
             let new = went_to l image sound b bounded few a cpu.pc (latch cpu sp) s count instr at a e.cpu.pc w.unit ret
             call target s.stands there (inl own.0) (subst (λ u. IsUnitAt l e.cpu.pc u) (sym own.0) there) in
@@ -103,7 +103,7 @@ module _ (l : LayoutParts) (image : List ℕ) (sound : IsSound l) (b : StackBoun
       (unit_found l e.cpu.pc) step refl (as_transfer Call h.transfer) in
       let there = found_at w.unit w.found in
       let back : return_address_of e ≡ next = back_is in
-      elim w.way as (λ _. After) [
+      elim w.way [
         | inl own ↦
             let r : ReturnRecord =
             record { cause = ByCall; return_address = return_address_of e; sp = latch e.cpu sp; units = [] } in
@@ -152,7 +152,7 @@ module _ (l : LayoutParts) (image : List ℕ) (sound : IsSound l) (b : StackBoun
       (subst (λ n. InStep l image sound b bounded few c n (latch e.cpu sp)) (sym k.back) new)
 
   pub by_return : Returns cpu e → After
-  by_return h = elim h.transfer as (λ _. After) [
+  by_return h = elim h.transfer [
     | inl t ↦ back_to Ret true t h.stack
         (goes_back a.reset a.returns a.returns true (latch cpu sp) e.cpu.pc (unit_found l e.cpu.pc) step refl
         (as_transfer Ret t))
@@ -171,11 +171,11 @@ module _ (l : LayoutParts) (image : List ℕ) (sound : IsSound l) (b : StackBoun
 
   way_count : (call : Bool) (w : Way l (current a) call (unit_found l e.cpu.pc) step) → levels e.cpu ≡ levels cpu
       → interrupts a.returns ≡ length (levels cpu) → Counted
-  way_count true w same have = elim w.way as (λ _. Counted) [
+  way_count true w same have = elim w.way [
     | inl own ↦ same_count Local own.1 refl same have
     | inr edge ↦ same_count (CallTo w.unit) edge.1 refl same have
   ]
-  way_count false w same have = elim w.way as (λ _. Counted) [
+  way_count false w same have = elim w.way [
     | inl own ↦ same_count Stay own.1 refl same have
     | inr edge ↦ same_count (JumpTo w.unit) edge.1 (jumped_count a.reset a.returns w.unit) same have
   ]

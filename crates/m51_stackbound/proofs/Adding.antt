@@ -56,7 +56,7 @@ module _ (depths : List ℕ) where
 
     -- what holds of each vector before and of the newest, holds of each
     each : (P : ℕ → Type 0) → ((v : ℕ) → Contains front v → P v) → P here → (v : ℕ) → Contains longer v → P v
-    each P old new v k = elim (front_cases vectors i 0 v below k) as (λ _. P v) [
+    each P old new v k = elim (front_cases vectors i 0 v below k) [
       | inl before ↦ old v before
       | inr is ↦ subst P is new
     ]
@@ -67,12 +67,12 @@ module _ (depths : List ℕ) where
         → ((v : ℕ) → Contains front v → added depths v + bytes ≤ most) → (v w : ℕ) → Contains longer v
         → Contains longer w → v ≢ w → added depths v + added depths w ≤ most
     sums most old new v w k m other =
-        elim (front_cases vectors i 0 v below k) as (λ _. added depths v + added depths w ≤ most) [
-          | inl one ↦ elim (front_cases vectors i 0 w below m) as (λ _. added depths v + added depths w ≤ most) [
+        elim (front_cases vectors i 0 v below k) [
+          | inl one ↦ elim (front_cases vectors i 0 w below m) [
             | inl two ↦ old v w one two other
             | inr is ↦ subst (λ x. added depths v + added depths x ≤ most) is (new v one)
           ]
-          | inr is ↦ elim (front_cases vectors i 0 w below m) as (λ _. added depths v + added depths w ≤ most) [
+          | inr is ↦ elim (front_cases vectors i 0 w below m) [
             | inl two ↦ let h = new w two in subst (λ x. added depths x + added depths w ≤ most) is (omega (arith, h))
             | inr same ↦ absurd (other (sym is ∙ same))
           ]
@@ -83,7 +83,7 @@ module _ (depths : List ℕ) where
       unfolding kept newest
       greater more = record {
         one = inr newest;
-        two = elim h.one as (λ _. (g.first ≡ 0) ⊎ TwoAdd depths longer bytes g.first) [
+        two = elim h.one [
           | inl none ↦ inl none
           | inr o ↦ inr (record {
             first = newest;
@@ -101,11 +101,11 @@ module _ (depths : List ℕ) where
           → AreGreatest depths longer (record { first = g.first; second = bytes })
       unfolding kept newest
       between few more = record {
-        one = elim h.one as (λ _. (g.first ≡ 0) ⊎ OneAdds depths longer g.first) [
+        one = elim h.one [
           | inl none ↦ inl none
           | inr o ↦ inr (kept g.first o)
         ];
-        two = elim h.one as (λ _. (bytes ≡ 0) ⊎ TwoAdd depths longer g.first bytes) [
+        two = elim h.one [
           | inl none ↦ absurd (omega (arith, none, few))
           | inr o ↦ inr (record { first = kept g.first o; second = newest; different = fresh o.vector o.listed })
         ];
@@ -117,11 +117,11 @@ module _ (depths : List ℕ) where
 
       less : bytes ≤ g.second → AreGreatest depths longer g
       less few = record {
-        one = elim h.one as (λ _. (g.first ≡ 0) ⊎ OneAdds depths longer g.first) [
+        one = elim h.one [
           | inl none ↦ inl none
           | inr o ↦ inr (kept g.first o)
         ];
-        two = elim h.two as (λ _. (g.second ≡ 0) ⊎ TwoAdd depths longer g.first g.second) [
+        two = elim h.two [
           | inl none ↦ inl none
           | inr t ↦ inr (kept_two g.first g.second t)
         ];
@@ -153,7 +153,7 @@ module _ (depths : List ℕ) where
 
   pub first_few : (vectors : List ℕ) (g : Greatest) → AreGreatest depths vectors g
       → ((i : ℕ) → i < length depths → slice_index depths i ≤ 256) → g.first ≤ 258
-  first_few vectors g h most = elim h.one as (λ _. g.first ≤ 258) [
+  first_few vectors g h most = elim h.one [
     | inl none ↦ omega (arith, none)
     | inr o ↦ let few = depth_few most o.vector in omega (arith, o.bytes_are, few)
   ]

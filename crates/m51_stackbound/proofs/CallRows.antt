@@ -21,7 +21,7 @@ same_At a b e = let ranks : rank (At a) ≡ rank (At b) = ap rank e in omega (ar
 cons_cases : {X : Type 0} (o : Option X) (xs : List X) (x : X) → Contains (cons_option o xs) x
     → (o ≡ Some x) ⊎ Contains xs x
 cons_cases None xs x k = inr k
-cons_cases (Some y) xs x k = elim (first_or_after y xs x k) as (λ _. (Some y ≡ Some x) ⊎ Contains xs x) [
+cons_cases (Some y) xs x k = elim (first_or_after y xs x k) [
   | inl here ↦ inl (ap Some here)
   | inr after ↦ inr after
 ]
@@ -136,22 +136,21 @@ rows_more calls c rows few h = by c.from refl
     by Reset e = record {
       len = h.len;
       only = λ from to k. one_more calls c from to (h.only from to k);
-      all = λ from to k. elim (Contains-push_cases calls c k.call k.listed) as
-          (λ _. Contains (callee_row rows from) to) [
-            | inl early ↦ h.all from to (record { call = k.call; listed = early; from_is = k.from_is; to_is = k.to_is })
-            | inr here ↦ absurd (cc (sym e ∙ ap (λ (x : Call). x.from) here ∙ k.from_is))
-          ];
+      all = λ from to k. elim (Contains-push_cases calls c k.call k.listed) [
+        | inl early ↦ h.all from to (record { call = k.call; listed = early; from_is = k.from_is; to_is = k.to_is })
+        | inr here ↦ absurd (cc (sym e ∙ ap (λ (x : Call). x.from) here ∙ k.from_is))
+      ];
     }
     by (At a) e = record {
       len = length-set rows a row ∙ h.len;
-      only = λ from to k. elim (same_or_not from a) as (λ _. IsCalled (calls ++ c ∷ []) from to) [
+      only = λ from to k. elim (same_or_not from a) [
         | inl same ↦ newest from to same (subst (λ (r : List ℕ). Contains r to) (ap (callee_row new) same ∙ set_row) k)
         | inr ne ↦ one_more calls c from to
             (h.only from to (subst (λ (r : List ℕ). Contains r to) (get_or-set_other rows a from row [] ne) k))
       ];
-      all = λ from to k. elim (same_or_not from a) as (λ _. Contains (callee_row new from) to) [
+      all = λ from to k. elim (same_or_not from a) [
         | inl same ↦ subst (λ (r : List ℕ). Contains r to) (sym (ap (callee_row new) same ∙ set_row))
-            (elim (Contains-push_cases calls c k.call k.listed) as (λ _. Contains row to) [
+            (elim (Contains-push_cases calls c k.call k.listed) [
               | inl early ↦ Contains-append_left (callee_row rows a) (c.to ∷ []) to
                   (subst (λ n. Contains (callee_row rows n) to) same
                   (h.all from to (record { call = k.call; listed = early; from_is = k.from_is; to_is = k.to_is })))
@@ -159,7 +158,7 @@ rows_more calls c rows few h = by c.from refl
                   (Contains-push (callee_row rows a) c.to)
             ])
         | inr ne ↦ subst (λ (r : List ℕ). Contains r to) (sym (get_or-set_other rows a from row [] ne))
-            (elim (Contains-push_cases calls c k.call k.listed) as (λ _. Contains (callee_row rows from) to) [
+            (elim (Contains-push_cases calls c k.call k.listed) [
               | inl early ↦ h.all from to
                   (record { call = k.call; listed = early; from_is = k.from_is; to_is = k.to_is })
               | inr here ↦ absurd (ne (same_At from a (sym k.from_is ∙ ap (λ (x : Call). x.from) (sym here) ∙ e)))
@@ -178,7 +177,7 @@ rows_more calls c rows few h = by c.from refl
 
         newest : (from to : ℕ) → from ≡ a → Contains row to → IsCalled (calls ++ c ∷ []) from to
         newest from to same k =
-            elim (Contains-push_cases (callee_row rows a) c.to to k) as (λ _. IsCalled (calls ++ c ∷ []) from to) [
+            elim (Contains-push_cases (callee_row rows a) c.to to k) [
               | inl early ↦ one_more calls c from to
                   (h.only from to (subst (λ n. Contains (callee_row rows n) to) (sym same) early))
               | inr here ↦ record

@@ -87,7 +87,7 @@ module _ (l : LayoutParts) (sound : IsSound l) where
   entry_covered : (image : List ℕ) (a : ℕ) (p : Point) → p ≡ entry_at a → IsPoint l image p
       → (unit : ℕ) × IsUnitAt l a unit
   entry_covered image a _ e (First p first) =
-      elim (first_cases l image p first) as (λ _. (unit : ℕ) × IsUnitAt l a unit) [
+      elim (first_cases l image p first) [
         | inl reset ↦ absurd (other (sym (ap (λ (q : Point). q.start) reset) ∙ ap (λ (q : Point). q.start) e))
         | inr h ↦
             let same : h.vector ≡ a =
@@ -102,7 +102,7 @@ module _ (l : LayoutParts) (sound : IsSound l) where
       address : {b : ℕ} → At b ≡ At a → b ≡ a
       address k = cc k
   entry_covered image a _ e (After p q is after) =
-      elim (steps_to l image p q after) as (λ _. (unit : ℕ) × IsUnitAt l a unit) [
+      elim (steps_to l image p q after) [
         | inl within ↦ covered a
             (subst (λ n. is_some (unit_of l n) ≡ true) (ap (λ (r : Point). r.address) e) within.covered)
         | inr entry ↦

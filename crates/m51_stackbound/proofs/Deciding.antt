@@ -32,9 +32,9 @@ cap_above depth n e h = grind (arith, e, h)
 
 -- no depth is above 255 where the test finds none
 pub all_low : (depths : List ℕ) → list_any (λ depth. nat_lt 255 depth) depths ≡ false → AreLow depths
-all_low depths none start = elim (cases_lt (depth_in depths start) 256) as (λ _. depth_in depths start ≤ 255) [
+all_low depths none start = elim (cases_lt (depth_in depths start) 256) [
   | inl low ↦ omega (arith, low)
-  | inr high ↦ elim (cases_lt (rank start) (length depths)) as (λ _. depth_in depths start ≤ 255) [
+  | inr high ↦ elim (cases_lt (rank start) (length depths)) [
     | inl below ↦
         let passes : nat_lt 255 (get_or depths (rank start) 0) ≡ true = grind (arith, common_steps, high) in
         absurd (cc (none, list_any_at (λ depth. nat_lt 255 depth) depths (rank start) 0 below passes))
@@ -47,7 +47,7 @@ module _ (l : LayoutParts) (image : List ℕ) where
   taken_by : (points : List Point) (depths : List ℕ) (s : AreSettled l image points depths) (start : Start)
       → 255 < depth_in depths start → TakesDepth l image start (depth_in depths start)
   taken_by points depths s start high =
-      elim (s.are.taken start) as (λ _. TakesDepth l image start (depth_in depths start)) [
+      elim (s.are.taken start) [
         | inl none ↦ absurd (omega (arith, none, high))
         | inr t ↦ t
       ]
@@ -81,7 +81,7 @@ module _ (l : LayoutParts) (image : List ℕ) where
     where
       least : (other : Start) → IsCyclic l image other → rank (At a) ≤ rank other
       least Reset k = absurd k
-      least (At b) k = elim (cases_lt b a) as (λ _. rank (At a) ≤ rank (At b)) [
+      least (At b) k = elim (cases_lt b a) [
         | inl less ↦ absurd (before b less k)
         | inr not_less ↦ omega (arith, not_less)
       ]
@@ -98,7 +98,7 @@ pub none_is : (l : LayoutParts) (image : List ℕ) (points : List Point) (depths
     → AreSettled l image points depths → ((a : ℕ) → a < 65536 → IsCyclic l image (At a) → ⊥)
     → (start : Start) → IsCyclic l image start → ⊥
 none_is l image points depths are s none Reset h = h
-none_is l image points depths are s none (At a) h = elim (cases_lt a 65536) as (λ _. ⊥) [
+none_is l image points depths are s none (At a) h = elim (cases_lt a 65536) [
   | inl below ↦ none a below h
   | inr past ↦
       let zero : depth_in depths (At a) ≡ 0 = get_or_past depths (rank (At a)) 0 (omega (arith, past, s.are.len)) in
@@ -177,7 +177,7 @@ module _ (l : LayoutParts) (image : List ℕ) (points : List Point) (depths : Li
       ss.all at (record { point = h.point; listed = are.all h.point h.is_point; start_is = h.start_is })
 
   few_addresses : (starts : List Bool) → length starts ≡ 65536 → (at : ℕ) → is_noted starts at ≡ true → at < 65536
-  few_addresses starts len at h = elim (cases_lt at (length starts)) as (λ _. at < 65536) [
+  few_addresses starts len at h = elim (cases_lt at (length starts)) [
     | inl below ↦ omega (arith, below, len)
     | inr past ↦ absurd (not_past (is_noted starts at) h (past_noted starts at past))
   ]
@@ -226,8 +226,7 @@ module _ (l : LayoutParts) (image : List ℕ) (points : List Point) (depths : Li
     (s : AreSettled l image points depths) (low : AreLow depths) where
   deep : (start : Start) (height : ℕ) → HasHeight l image start height → IsDepth l image start (depth_in depths start)
   deep start height h =
-      elim (settled_says l image points depths are s start height h) as
-      (λ _. IsDepth l image start (depth_in depths start)) [
+      elim (settled_says l image points depths are s start height h) [
         | inl t ↦ t.1
         | inr t ↦ absurd (omega (arith, t.0, low start))
       ]

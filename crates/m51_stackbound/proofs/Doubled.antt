@@ -71,7 +71,7 @@ module _ (points : List Point) (i : ℕ) (d : Point) (below : i < length points)
   places_cases : (reached : ReachedAddress) → HasPlace points (i + 1) reached
       → HasPlace points i reached ⊎ (here ≡ reached)
   places_cases reached h =
-      elim (front_cases points i d h.point below h.before) as (λ _. HasPlace points i reached ⊎ (here ≡ reached)) [
+      elim (front_cases points i d h.point below h.before) [
         | inl before ↦ inl (record { point = h.point; before = before; is = h.is })
         | inr is ↦ inr (ap reached_address is ∙ h.is)
       ]
@@ -79,28 +79,27 @@ module _ (points : List Point) (i : ℕ) (d : Point) (below : i < length points)
   -- what two of the longer prefix have, two of the shorter one have, or the newest point and one before it
   two_cases : (reached : ReachedAddress) → HasTwo points (i + 1) reached
       → HasTwo points i reached ⊎ ((here ≡ reached) × HasPlace points i reached)
-  two_cases reached h = elim (cases_lt h.second i) as
-      (λ _. HasTwo points i reached ⊎ ((here ≡ reached) × HasPlace points i reached)) [
-        | inl early ↦ inl (record {
-          second = h.second;
-          below = early;
-          inside = h.inside;
-          one = h.one;
-          before = h.before;
-          place_one = h.place_one;
-          place_two = h.place_two;
-        })
-        | inr late ↦
-            let is : h.second ≡ i = omega (arith, late, h.below) in
-            inr (
-              subst (λ k. reached_address (get_or points k d) ≡ reached) is (h.place_two d),
-              record {
-                point = h.one;
-                before = subst (λ k. Contains (take k points) h.one) is h.before;
-                is = h.place_one;
-              },
-            )
-      ]
+  two_cases reached h = elim (cases_lt h.second i) [
+    | inl early ↦ inl (record {
+      second = h.second;
+      below = early;
+      inside = h.inside;
+      one = h.one;
+      before = h.before;
+      place_one = h.place_one;
+      place_two = h.place_two;
+    })
+    | inr late ↦
+        let is : h.second ≡ i = omega (arith, late, h.below) in
+        inr (
+          subst (λ k. reached_address (get_or points k d) ≡ reached) is (h.place_two d),
+          record {
+            point = h.one;
+            before = subst (λ k. Contains (take k points) h.one) is h.before;
+            is = h.place_one;
+          },
+        )
+  ]
 
   two_here : HasPlace points i here → HasTwo points (i + 1) here
   two_here h = record {
@@ -120,18 +119,17 @@ module _ (points : List Point) (i : ℕ) (d : Point) (below : i < length points)
       → new ≡ addresses ++ here ∷ []
       → (Contains addresses here → ⊥) → IsDoubling points i addresses least → IsDoubling points (i + 1) new least
   doubling_new addresses new least is absent h = record {
-    only = λ reached k. elim (Contains-push_cases addresses here reached (subst (λ ps. Contains ps reached) is k)) as
-        (λ _. HasPlace points (i + 1) reached) [
-          | inl old ↦ later reached (h.only reached old)
-          | inr e ↦ subst (λ p. HasPlace points (i + 1) p) e newest
-        ];
+    only = λ reached k. elim (Contains-push_cases addresses here reached (subst (λ ps. Contains ps reached) is k)) [
+      | inl old ↦ later reached (h.only reached old)
+      | inr e ↦ subst (λ p. HasPlace points (i + 1) p) e newest
+    ];
     all = λ reached k. subst (λ ps. Contains ps reached) (sym is)
-        (elim (places_cases reached k) as (λ _. Contains (addresses ++ here ∷ []) reached) [
+        (elim (places_cases reached k) [
           | inl old ↦ Contains-append_left addresses (here ∷ []) reached (h.all reached old)
           | inr e ↦ subst (λ p. Contains (addresses ++ here ∷ []) p) e (Contains-push addresses here)
         ]);
     first = least_same (HasTwo points i) (HasTwo points (i + 1)) least h.first
-        (λ reached k. elim (two_cases reached k) as (λ _. HasTwo points i reached) [
+        (λ reached k. elim (two_cases reached k) [
           | inl old ↦ old
           | inr e ↦ absurd (absent (subst (λ p. Contains addresses p) (sym e.0) (h.all reached e.1)))
         ])
@@ -144,12 +142,12 @@ module _ (points : List Point) (i : ℕ) (d : Point) (below : i < length points)
   doubling_again addresses new least is there h = record {
     only = λ reached k. later reached (h.only reached (subst (λ ps. Contains ps reached) is k));
     all = λ reached k. subst (λ ps. Contains ps reached) (sym is)
-        (elim (places_cases reached k) as (λ _. Contains addresses reached) [
+        (elim (places_cases reached k) [
           | inl old ↦ h.all reached old
           | inr e ↦ subst (λ p. Contains addresses p) e there
         ]);
     first = least_more (HasTwo points i) (HasTwo points (i + 1)) least here h.first
-        (λ reached k. elim (two_cases reached k) as (λ _. HasTwo points i reached ⊎ (here ≡ reached)) [
+        (λ reached k. elim (two_cases reached k) [
           | inl old ↦ inl old
           | inr e ↦ inr e.0
         ])

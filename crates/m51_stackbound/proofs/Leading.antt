@@ -54,15 +54,14 @@ module _ (l : LayoutParts) (image : List ℕ) (points : List Point) (depths : Li
   pub depth_is : (start : Start) (height : ℕ) → HasHeight l image start height
       → IsDepth l image start (depth_in depths start)
   depth_is start height h =
-      elim (settled_says l image points depths are s start height h) as
-      (λ _. IsDepth l image start (depth_in depths start)) [
+      elim (settled_says l image points depths are s start height h) [
         | inl t ↦ t.1
         | inr t ↦ absurd (omega (arith, t.0, low start))
       ]
 
   given_by : (start : Start) (next : Next) → next_in nexts start ≡ next → next ≢ Unknown
       → Gives l image points depths start next
-  given_by start next e other = elim (n.each start).given as (λ _. Gives l image points depths start next) [
+  given_by start next e other = elim (n.each start).given [
     | inl none ↦ absurd (other (sym e ∙ none))
     | inr g ↦ subst (λ t. Gives l image points depths start t) e g
   ]
@@ -178,8 +177,7 @@ module _ (l : LayoutParts) (image : List ℕ) (points : List Point) (depths : Li
       let same : bytes ≡ depth_in depths (At other) = omega (arith, e, most, high) in
       let order : to ≤ other =
       call_way start height other c sum (Calls to) (calls_of_next (next_in nexts start) to is) in
-      elim (cases_lt to other) as
-      (λ _. (rank (At to) < rank (At other)) ⊎ ((At to ≡ At other) × ComesFirst more path)) [
+      elim (cases_lt to other) [
         | inl less ↦ inl (omega (arith, less))
         | inr not_less ↦
             let equal : to ≡ other = omega (arith, not_less, order) in

@@ -44,7 +44,7 @@ pub least_more : (Is New : ReachedAddress → Type 0) (r : Option ReachedAddress
 unfolding lesser
 least_more Is New None reached h back on new = (
   new,
-  λ p k. elim (back p k) as (λ _. NoLater reached p) [
+  λ p k. elim (back p k) [
     | inl before ↦ absurd (h p before)
     | inr here ↦ subst (λ q. NoLater reached q) here (no_later_self reached)
   ],
@@ -54,14 +54,14 @@ least_more Is New (Some old) reached h back on new = by (no_later old reached) r
     by : (b : Bool) → no_later old reached ≡ b → IsLeast New (Some (lesser (Some old) reached))
     by true e = rw e ((
       on old h.0,
-      λ p k. elim (back p k) as (λ _. NoLater old p) [
+      λ p k. elim (back p k) [
         | inl before ↦ h.1 p before
         | inr here ↦ subst (λ q. NoLater old q) here (no_later_is old reached e)
       ],
     ))
     by false e = rw e ((
       new,
-      λ p k. elim (back p k) as (λ _. NoLater reached p) [
+      λ p k. elim (back p k) [
         | inl before ↦ no_later_twice reached old p (later_is old reached e) (h.1 p before)
         | inr here ↦ subst (λ q. NoLater reached q) here (no_later_self reached)
       ],
@@ -90,8 +90,7 @@ module _ (l : LayoutParts) (image : List ℕ) (rule : Rule) (points : List Point
   breach_passes i d r below fails h =
       least_same (IsBroken l image rule (Contains (take i points)))
       (IsBroken l image rule (Contains (take (i + 1) points))) r h
-      (λ reached b. elim (front_cases points i d b.point below b.is_point) as
-      (λ _. IsBroken l image rule (Contains (take i points)) reached) [
+      (λ reached b. elim (front_cases points i d b.point below b.is_point) [
         | inl before ↦ record { point = b.point; is_point = before; breaks = b.breaks; place_is = b.place_is }
         | inr here ↦ absurd (cc (fails, b.breaks, here))
       ])
@@ -110,8 +109,7 @@ module _ (l : LayoutParts) (image : List ℕ) (rule : Rule) (points : List Point
       let at = reached_address (get_or points i d) in
       least_more (IsBroken l image rule (Contains (take i points)))
       (IsBroken l image rule (Contains (take (i + 1) points))) r at h
-      (λ reached b. elim (front_cases points i d b.point below b.is_point) as
-      (λ _. IsBroken l image rule (Contains (take i points)) reached ⊎ (at ≡ reached)) [
+      (λ reached b. elim (front_cases points i d b.point below b.is_point) [
         | inl before ↦ inl (record { point = b.point; is_point = before; breaks = b.breaks; place_is = b.place_is })
         | inr here ↦ inr (ap reached_address here ∙ b.place_is)
       ])

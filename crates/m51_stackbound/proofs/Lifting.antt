@@ -79,10 +79,10 @@ module _ (l : LayoutParts) (image : List ℕ) (points : List Point) (are : ArePo
   two_from_heights reached h =
       let a = are.all h.one h.one_is in
       let b = are.all h.two h.two_is in
-      elim (cases_lt a.0 b.0) as (λ _. HasTwo points (length points) reached) [
+      elim (cases_lt a.0 b.0) [
         | inl low ↦ two_from reached h.one h.two a.0 b.0 low b.1 (at_any h.one a) (at_any h.two b) h.place_one
             h.place_two
-        | inr high ↦ elim (cases_lt b.0 a.0) as (λ _. HasTwo points (length points) reached) [
+        | inr high ↦ elim (cases_lt b.0 a.0) [
           | inl low ↦ two_from reached h.two h.one b.0 a.0 low a.1 (at_any h.two b) (at_any h.one a) h.place_two
               h.place_one
           | inr equal ↦

@@ -35,18 +35,17 @@ module _ (points : List Point) (i : ℕ) (d : Point) (below : i < length points)
   newest at s = record { point = here; listed = front_next points i d below; start_is = s }
 
   start_cases : (at : ℕ) → HasStart (take (i + 1) points) at → HasStart (take i points) at ⊎ (here.start ≡ At at)
-  start_cases at h = elim (front_cases points i d h.point below h.listed) as
-      (λ _. HasStart (take i points) at ⊎ (here.start ≡ At at)) [
-        | inl before ↦ inl (record { point = h.point; listed = before; start_is = h.start_is })
-        | inr is ↦ inr (ap (λ (p : Point). p.start) is ∙ h.start_is)
-      ]
+  start_cases at h = elim (front_cases points i d h.point below h.listed) [
+    | inl before ↦ inl (record { point = h.point; listed = before; start_is = h.start_is })
+    | inr is ↦ inr (ap (λ (p : Point). p.start) is ∙ h.start_is)
+  ]
 
   pub starts_more : (old : List Bool) (start : Start) → here.start ≡ start → ((at : ℕ) → start ≡ At at → at < 65536)
       → AreStarts (take i points) old → AreStarts (take (i + 1) points) (with_start old start)
   starts_more old Reset s few h = record {
     len = h.len;
     only = λ at k. kept at (h.only at k);
-    all = λ at k. elim (start_cases at k) as (λ _. is_noted old at ≡ true) [
+    all = λ at k. elim (start_cases at k) [
       | inl before ↦ h.all at before
       | inr is ↦ absurd (cc (s, is))
     ];
@@ -55,14 +54,14 @@ module _ (points : List Point) (i : ℕ) (d : Point) (below : i < length points)
       let inside : a < length old = let f = few a refl in omega (arith, f, h.len) in
       record {
         len = length-set old a true ∙ h.len;
-        only = λ at k. elim (same_or_not at a) as (λ _. HasStart (take (i + 1) points) at) [
+        only = λ at k. elim (same_or_not at a) [
           | inl e ↦ newest at (s ∙ ap At (sym e))
           | inr ne ↦ kept at (h.only at (sym (get_or-set_other old a at true false ne) ∙ k))
         ];
-        all = λ at k. elim (same_or_not at a) as (λ _. get_or (set old a true) at false ≡ true) [
+        all = λ at k. elim (same_or_not at a) [
           | inl e ↦ subst (λ n. get_or (set old a true) n false ≡ true) (sym e)
               (get_or-set_same old a true false inside)
-          | inr ne ↦ elim (start_cases at k) as (λ _. get_or (set old a true) at false ≡ true) [
+          | inr ne ↦ elim (start_cases at k) [
             | inl before ↦ get_or-set_other old a at true false ne ∙ h.all at before
             | inr is ↦ absurd (ne (same_address at a (sym is ∙ s)))
           ]
@@ -105,16 +104,16 @@ module _ (l : LayoutParts) (starts : List Bool) (depths : List ℕ) where
         rising = subst Rises (sym more)
             (all_pairs_push (λ (one two : ℕ). one < two) (map at_of procs) p.at h.rising
             (λ k d below. let less = below_all procs end h.below k d below in omega (arith, less, at_is)));
-        below = λ q k. elim (Contains-push_cases procs p q k) as (λ _. q.at < end + 1) [
+        below = λ q k. elim (Contains-push_cases procs p q k) [
           | inl before ↦ let less = h.below q before in omega (arith, less)
           | inr e ↦ let same = ap at_of e in omega (arith, same, at_is)
         ];
-        each = λ q k. elim (Contains-push_cases procs p q k) as (λ _. IsListed l starts depths q) [
+        each = λ q k. elim (Contains-push_cases procs p q k) [
           | inl before ↦ h.each q before
           | inr e ↦ subst (λ (r : Proc). IsListed l starts depths r) e is
         ];
         all = λ at below k. subst (λ ns. Contains ns at) (sym more)
-            (elim (cases_lt at end) as (λ _. Contains (map at_of procs ++ p.at ∷ []) at) [
+            (elim (cases_lt at end) [
               | inl early ↦ Contains-append_left (map at_of procs) (p.at ∷ []) at (h.all at early k)
               | inr late ↦
                   let same : p.at ≡ at = omega (arith, late, below, at_is) in
@@ -129,7 +128,7 @@ module _ (l : LayoutParts) (starts : List Bool) (depths : List ℕ) where
     rising = h.rising;
     below = λ q k. let less = h.below q k in omega (arith, less);
     each = h.each;
-    all = λ at below k. elim (cases_lt at end) as (λ _. Contains (map at_of procs) at) [
+    all = λ at below k. elim (cases_lt at end) [
       | inl early ↦ h.all at early k
       | inr late ↦ let same : at ≡ end = omega (arith, late, below) in absurd (cc (none, k, same))
     ];

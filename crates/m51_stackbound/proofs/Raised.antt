@@ -84,11 +84,10 @@ module _ (l : LayoutParts) (image : List ℕ) where
   taken_first depths b = record {
     len = b.len;
     most = λ i below. omega (arith, b.each i below);
-    taken = λ start. elim (cases_lt (rank start) (length depths)) as
-        (λ _. (depth_in depths start ≡ 0) ⊎ TakesDepth l image start (depth_in depths start)) [
-          | inl below ↦ inl (b.each (rank start) below)
-          | inr past ↦ inl (grind (arith, common_steps, past))
-        ];
+    taken = λ start. elim (cases_lt (rank start) (length depths)) [
+      | inl below ↦ inl (b.each (rank start) below)
+      | inr past ↦ inl (grind (arith, common_steps, past))
+    ];
   }
 
   pub sum_few : (depths : List ℕ) → AreTaken l image depths → sum depths ≤ 16777472
@@ -118,7 +117,7 @@ module _ (l : LayoutParts) (image : List ℕ) where
   call_taken : (depths : List ℕ) (c : StartCall) → CallsAt l image c.from c.height c.to → AreTaken l image depths
       → TakesDepth l image c.from (depth_by depths c)
   call_taken depths c call are =
-      elim (are.taken (At c.to)) as (λ _. TakesDepth l image c.from (cap (c.height + 2 + depth_in depths (At c.to)))) [
+      elim (are.taken (At c.to)) [
         | inl none ↦ record {
           path = At c.to ∷ [];
           bytes = c.height + 2 + 0;
@@ -140,19 +139,17 @@ module _ (l : LayoutParts) (image : List ℕ) where
   raised old new start depth false below few are taken h = subst (λ ds. AreTaken l image ds) (sym h.1) are
   raised old new start depth true below few are taken h = subst (λ ds. AreTaken l image ds) (sym h.1) (record {
     len = length-set old (rank start) depth ∙ are.len;
-    most = λ i inside. elim (same_or_not i (rank start)) as (λ _. get_or (set old (rank start) depth) i 0 ≤ 256) [
+    most = λ i inside. elim (same_or_not i (rank start)) [
       | inl e ↦ subst (λ k. get_or (set old (rank start) depth) k 0 ≤ 256) (sym e)
           (rw (get_or-set_same old (rank start) depth 0 below) few)
       | inr other ↦ rw (get_or-set_other old (rank start) i depth 0 other)
           (are.most i (omega (arith, inside, length-set old (rank start) depth)))
     ];
-    taken = λ s. elim (same_or_not (rank s) (rank start)) as
-        (λ _. (get_or (set old (rank start) depth) (rank s) 0 ≡ 0) ⊎ TakesDepth l image s
-        (get_or (set old (rank start) depth) (rank s) 0)) [
-          | inl e ↦ inr (subst (λ t. TakesDepth l image t (get_or (set old (rank start) depth) (rank t) 0))
-              (sym (rank_same s start e)) (rw (get_or-set_same old (rank start) depth 0 below) taken))
-          | inr other ↦ rw (get_or-set_other old (rank start) (rank s) depth 0 other) (are.taken s)
-        ];
+    taken = λ s. elim (same_or_not (rank s) (rank start)) [
+      | inl e ↦ inr (subst (λ t. TakesDepth l image t (get_or (set old (rank start) depth) (rank t) 0))
+          (sym (rank_same s start e)) (rw (get_or-set_same old (rank start) depth 0 below) taken))
+      | inr other ↦ rw (get_or-set_other old (rank start) (rank s) depth 0 other) (are.taken s)
+    ];
   })
 
   raised_sum : (old new : List ℕ) (start : Start) (depth : ℕ) → rank start < length old
@@ -184,7 +181,7 @@ module _ (l : LayoutParts) (image : List ℕ) where
       ∙ get_or-set_same old (rank start) depth 0 below in
       record {
         are = raised old new start depth true below few are taken h;
-        each = λ s. elim (same_or_not (rank s) (rank start)) as (λ _. depth_in old s ≤ depth_in new s) [
+        each = λ s. elim (same_or_not (rank s) (rank start)) [
           | inl e ↦
               let after : depth_in new s ≡ depth_in new start = ap (λ k. get_or new k 0) e in
               let was : depth_in old s ≡ depth_in old start = ap (λ k. get_or old k 0) e in
@@ -212,7 +209,7 @@ module _ (l : LayoutParts) (image : List ℕ) where
       let r = has_risen now new p.start p.height up inside (omega (arith, few)) h.are (height_taken p is few) raises in
       record {
         are = r.are;
-        own = λ q k. elim (front_cases points i d q below k) as (λ _. cap q.height ≤ depth_in new q.start) [
+        own = λ q k. elim (front_cases points i d q below k) [
           | inl before ↦ let low = h.own q before in let after = r.each q.start in omega (arith, low, after)
           | inr here ↦ subst (λ (s : Point). cap s.height ≤ depth_in new s.start) here
               (capped p.height (depth_in new p.start) r.own)
@@ -256,7 +253,7 @@ module _ (l : LayoutParts) (image : List ℕ) where
       subst (λ ds. IsRaised l image (take (i + 1) calls) old ds rose) (sym up.1) (record {
         are = h.are;
         grown = h.grown;
-        high = λ e q k. elim (front_cases calls i d q below k) as (λ _. depth_by now q ≤ depth_in now q.from) [
+        high = λ e q k. elim (front_cases calls i d q below k) [
           | inl before ↦ h.high e q before
           | inr here ↦ subst (λ (c : StartCall). depth_by now c ≤ depth_in now c.from) here up.0
         ];
@@ -307,7 +304,7 @@ module _ (l : LayoutParts) (image : List ℕ) where
     -- a settled table says the depth of each start, or that it is above 255
     pub settled_says : (start : Start) (height : ℕ) → HasHeight l image start height
         → SaysDepth l image start (depth_in depths start)
-    settled_says start height h = elim (s.are.taken start) as (λ _. SaysDepth l image start (depth_in depths start)) [
+    settled_says start height h = elim (s.are.taken start) [
       | inl none ↦
           let low = settled_own start height h in
           let zero : height ≡ 0 = at_zero height (depth_in depths start) low none in
@@ -320,7 +317,7 @@ module _ (l : LayoutParts) (image : List ℕ) where
                   (takes_most start other bytes t);
             },
           )
-      | inr t ↦ elim (cases_lt t.bytes 256) as (λ _. SaysDepth l image start (depth_in depths start)) [
+      | inr t ↦ elim (cases_lt t.bytes 256) [
         | inl low ↦
             let is : depth_in depths start ≡ t.bytes = t.depth_is ∙ cap_low t.bytes low in
             inl (

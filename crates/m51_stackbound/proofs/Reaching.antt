@@ -50,15 +50,15 @@ pub grows_twice : (old middle new : List Point) (one two : Point → Type 0) →
 grows_twice old middle new one two g h = record {
   front = λ i d below. h.front i d (omega (arith, below, g.longer)) ∙ g.front i d below;
   longer = omega (arith, g.longer, h.longer);
-  from = λ p k. elim (h.from p k) as (λ _. Contains old p ⊎ (one p ⊎ two p)) [
-    | inl before ↦ elim (g.from p before) as (λ _. Contains old p ⊎ (one p ⊎ two p)) [
+  from = λ p k. elim (h.from p k) [
+    | inl before ↦ elim (g.from p before) [
       | inl first ↦ inl first
       | inr added ↦ inr (inl added)
     ]
     | inr added ↦ inr (inr added)
   ];
   kept = λ p k. h.kept p (g.kept p k);
-  all = λ p k. elim k as (λ _. Contains new p) [
+  all = λ p k. elim k [
     | inl added ↦ h.kept p (g.all p added)
     | inr added ↦ h.all p added
   ];
@@ -84,9 +84,9 @@ notes_grow (p ∷ ps) old new (middle, first, rest) =
     record {
       front = g.front;
       longer = g.longer;
-      from = λ q h. elim (g.from q h) as (λ _. Contains old q ⊎ Contains (p ∷ ps) q) [
+      from = λ q h. elim (g.from q h) [
         | inl before ↦ inl before
-        | inr added ↦ elim added as (λ _. Contains old q ⊎ Contains (p ∷ ps) q) [
+        | inr added ↦ elim added [
           | inl here ↦ inr (contains_first p ps q here)
           | inr there ↦ inr (contains_after p ps q there)
         ]
@@ -124,12 +124,12 @@ module _ (l : LayoutParts) (image : List ℕ) (firsts : List Point) where
       let at : Point = get_or old next e in
       let g = notes_grow (successors l image at) old new h in
       record {
-        only = λ p k. elim (g.from p k) as (λ _. IsReached l image firsts p) [
+        only = λ p k. elim (g.from p k) [
           | inl before ↦ s.only p before
           | inr added ↦ After at p (s.only at (Contains-get_or old next e below)) added
         ];
         begun = λ p k. g.kept p (s.begun p k);
-        looked = λ i d p before inside k. elim (cases_lt i next) as (λ _. Contains new p) [
+        looked = λ i d p before inside k. elim (cases_lt i next) [
           | inl early ↦ g.kept p
               (s.looked i d p early (omega (arith, early, below))
               (subst (λ q. Contains (successors l image q) p) (g.front i d (omega (arith, early, below))) k))
@@ -177,7 +177,7 @@ module _ (l : LayoutParts) (image : List ℕ) (firsts noted : List Point) (h : N
   on = (notes_grow firsts [] noted h).all
 
   back : (p : Point) → Contains noted p → Contains firsts p
-  back p k = elim ((notes_grow firsts [] noted h).from p k) as (λ _. Contains firsts p) [
+  back p k = elim ((notes_grow firsts [] noted h).from p k) [
     | inl none ↦ absurd (none_in_empty p none)
     | inr added ↦ added
   ]

@@ -16,7 +16,7 @@ pub record IsEntryOf (vs : List ℕ) (p : Point) : Type 0 where
 
 entry_of : (vs : List ℕ) (p : Point) → Contains (map entry_at vs) p → IsEntryOf vs p
 entry_of [] p h = absurd (none_in_empty p h)
-entry_of (v ∷ vs) p h = elim (first_or_after (entry_at v) (map entry_at vs) p h) as (λ _. IsEntryOf (v ∷ vs) p) [
+entry_of (v ∷ vs) p h = elim (first_or_after (entry_at v) (map entry_at vs) p h) [
   | inl e ↦ record { vector = v; listed = (0, omega arith, refl); is = sym e }
   | inr more ↦ let r = entry_of vs p more in
       record { vector = r.vector; listed = (suc r.listed.0, omega (arith, r.listed.1), r.listed.2); is = r.is }
@@ -41,11 +41,10 @@ not_reset a e = absurd (cc e)
 module _ (l : LayoutParts) (image : List ℕ) where
   -- the first points are the reset's, and the entries of the interrupts that have handlers
   pub first_cases : (p : Point) → Contains (first_points l) p → (p ≡ point_at Reset 0 7) ⊎ IsEntryOf (handlers l) p
-  first_cases p h = elim (first_or_after (point_at Reset 0 7) (map entry_at (handlers l)) p h) as
-      (λ _. (p ≡ point_at Reset 0 7) ⊎ IsEntryOf (handlers l) p) [
-        | inl e ↦ inl (sym e)
-        | inr more ↦ inr (entry_of (handlers l) p more)
-      ]
+  first_cases p h = elim (first_or_after (point_at Reset 0 7) (map entry_at (handlers l)) p h) [
+    | inl e ↦ inl (sym e)
+    | inr more ↦ inr (entry_of (handlers l) p more)
+  ]
 
   pub reset_first : IsPoint l image (point_at Reset 0 7)
   reset_first = First (point_at Reset 0 7)
@@ -71,11 +70,11 @@ module _ (l : LayoutParts) (image : List ℕ) where
 
   -- each point of a start is reached from the start's entry
   pub under : (a : ℕ) (p : Point) → IsPoint l image p → p.start ≡ At a → IsUnder a p
-  under a _ (First p first) s = elim (first_cases p first) as (λ _. IsUnder a p) [
+  under a _ (First p first) s = elim (first_cases p first) [
     | inl e ↦ absurd (not_reset a (sym (ap (λ (q : Point). q.start) e) ∙ s))
     | inr h ↦ entry_under a h.vector p h.is s (First p first)
   ]
-  under a _ (After p q is after) s = elim (steps_to l image p q after) as (λ _. IsUnder a q) [
+  under a _ (After p q is after) s = elim (steps_to l image p q after) [
     | inl within ↦
         let before = under a p is (sym within.start_is ∙ s) in
         record { entered = before.entered; reached = After p q before.reached after }
@@ -117,12 +116,12 @@ module _ (l : LayoutParts) (image : List ℕ) where
   -- what a start takes adds to what a root takes
   pub rooted : (p : Point) → IsPoint l image p → (path : List Start) (bytes : ℕ) → Takes l image p.start path bytes
       → ComesAbove bytes
-  rooted _ (First p first) path bytes t = elim (first_cases p first) as (λ _. ComesAbove bytes) [
+  rooted _ (First p first) path bytes t = elim (first_cases p first) [
     | inl e ↦ reset_above path bytes (subst (λ (q : Point). Takes l image q.start path bytes) e t)
     | inr h ↦ handler_above h.vector path bytes h.listed
         (subst (λ (q : Point). Takes l image q.start path bytes) h.is t)
   ]
-  rooted _ (After p q is after) path bytes t = elim (steps_to l image p q after) as (λ _. ComesAbove bytes) [
+  rooted _ (After p q is after) path bytes t = elim (steps_to l image p q after) [
     | inl within ↦ rooted p is path bytes (subst (λ s. Takes l image s path bytes) within.start_is t)
     | inr entry ↦
         let called : Takes l image (At entry.to) path bytes =

@@ -34,7 +34,7 @@ from_cond true xs ys q h = inl (refl, h)
 from_cond false xs ys q h = inr (refl, h)
 
 pub only_one : (p q : Point) → Contains (p ∷ []) q → p ≡ q
-only_one p q h = elim (first_or_after p [] q h) as (λ _. p ≡ q) [ inl e ↦ e | inr none ↦ absurd (none_in_empty q none) ]
+only_one p q h = elim (first_or_after p [] q h) [ inl e ↦ e | inr none ↦ absurd (none_in_empty q none) ]
 
 same_right : (one two : Option ℕ) → same one two ≡ true → is_some two ≡ true
 same_right (Some a) (Some b) h = refl
@@ -64,8 +64,7 @@ module _ (l : LayoutParts) (p : Point) where
   next_within : (next height : ℕ) (q : Point) → Contains (at_next l p next height) q → IsWithin l p q
   unfolding at_next
   next_within next height q h =
-      elim (from_cond (in_one_unit l p.address next) (point_at p.start next height ∷ []) [] q h) as
-      (λ _. IsWithin l p q) [
+      elim (from_cond (in_one_unit l p.address next) (point_at p.start next height ∷ []) [] q h) [
         | inl t ↦ at_point next height q (next_covered next t.0) t.1
         | inr none ↦ absurd (none_in_empty q none.1)
       ]
@@ -75,8 +74,7 @@ module _ (l : LayoutParts) (p : Point) where
   unfolding at_target
   target_within None height q h = absurd (none_in_empty q h)
   target_within (Some target) height q h =
-      elim (from_cond (counts l p.address target) (point_at p.start target height ∷ []) [] q h) as
-      (λ _. IsWithin l p q) [
+      elim (from_cond (counts l p.address target) (point_at p.start target height ∷ []) [] q h) [
         | inl t ↦ at_point target height q (target_covered target t.0) t.1
         | inr none ↦ absurd (none_in_empty q none.1)
       ]
@@ -96,7 +94,7 @@ module _ (l : LayoutParts) (p : Point) where
       → Contains (after_call l p next call) q → StepsTo l p call q
   call_steps next None q covers h = absurd (none_in_empty q h)
   call_steps next (Some to) q covers h =
-      elim (first_or_after (entry_at to) (at_next l p next p.height) q h) as (λ _. StepsTo l p (Some to) q) [
+      elim (first_or_after (entry_at to) (at_next l p next p.height) q h) [
         | inl e ↦ inr (record { to = to; calls = refl; is = sym e; covered = covers to refl })
         | inr more ↦ inl (next_within next p.height q more)
       ]
@@ -105,10 +103,10 @@ module _ (l : LayoutParts) (p : Point) where
   instr_within instr next q h =
       elim (from_cond (is_jump instr) (at_target l p (target_of instr next) p.height)
       (at_next l p next (height_after p.height instr)
-      ++ at_target l p (target_of instr next) (height_after p.height instr)) q h) as (λ _. IsWithin l p q) [
+      ++ at_target l p (target_of instr next) (height_after p.height instr)) q h) [
         | inl t ↦ target_within (target_of instr next) p.height q t.1
         | inr t ↦ elim (Contains-append_cases (at_next l p next (height_after p.height instr))
-            (at_target l p (target_of instr next) (height_after p.height instr)) q t.1) as (λ _. IsWithin l p q) [
+            (at_target l p (target_of instr next) (height_after p.height instr)) q t.1) [
               | inl one ↦ next_within next (height_after p.height instr) q one
               | inr two ↦ target_within (target_of instr next) (height_after p.height instr) q two
             ]
@@ -117,22 +115,20 @@ module _ (l : LayoutParts) (p : Point) where
   steps_by : (o : Option Instr) (q : Point) → Contains (follow_by l p o) q → StepsTo l p (call_by l p o) q
   unfolding follow_by call_by
   steps_by None q h = absurd (none_in_empty q h)
-  steps_by (Some instr) q h = elim (from_cond (ends_at p instr) [] (follow l p instr (next_of instr p.address)) q h) as
-      (λ _. StepsTo l p (call_by l p (Some instr)) q) [
-        | inl none ↦ absurd (none_in_empty q none.1)
-        | inr goes ↦ elim (from_cond (is_call instr)
-            (after_call l p (next_of instr p.address) (called l p (target_of instr (next_of instr p.address))))
-            (after_instr l p instr (next_of instr p.address)) q goes.1) as
-            (λ _. StepsTo l p (call_by l p (Some instr)) q) [
-              | inl call ↦
-                  let at = target_of instr (next_of instr p.address) in
-                  let is : called l p at ≡ (if is_call instr then called l p at else None) =
-                  ap (λ b. if b then called l p at else None) (sym call.0) in
-                  subst (λ c. StepsTo l p c q) is
-                  (call_steps (next_of instr p.address) (called l p at) q (λ to e. called_covered at to e) call.1)
-              | inr other ↦ inl (instr_within instr (next_of instr p.address) q other.1)
-            ]
-      ]
+  steps_by (Some instr) q h = elim (from_cond (ends_at p instr) [] (follow l p instr (next_of instr p.address)) q h) [
+    | inl none ↦ absurd (none_in_empty q none.1)
+    | inr goes ↦ elim (from_cond (is_call instr)
+        (after_call l p (next_of instr p.address) (called l p (target_of instr (next_of instr p.address))))
+        (after_instr l p instr (next_of instr p.address)) q goes.1) [
+          | inl call ↦
+              let at = target_of instr (next_of instr p.address) in
+              let is : called l p at ≡ (if is_call instr then called l p at else None) =
+              ap (λ b. if b then called l p at else None) (sym call.0) in
+              subst (λ c. StepsTo l p c q) is
+              (call_steps (next_of instr p.address) (called l p at) q (λ to e. called_covered at to e) call.1)
+          | inr other ↦ inl (instr_within instr (next_of instr p.address) q other.1)
+        ]
+  ]
 
 -- each successor is of the same start, or the entry of a start that the point calls
 pub steps_to : (l : LayoutParts) (image : List ℕ) (p q : Point) → Contains (successors l image p) q

@@ -39,9 +39,9 @@ module _ (l : LayoutParts) (image : List ℕ) (depths : List ℕ)
     second = s.greatest.second
 
     both_add : Adds l image (first + second)
-    both_add = elim s.are.two as (λ _. Adds l image (first + second)) [
+    both_add = elim s.are.two [
       | inr t ↦ two_add first second t
-      | inl none ↦ elim s.are.one as (λ _. Adds l image (first + second)) [
+      | inl none ↦ elim s.are.one [
         | inl nothing ↦ subst (λ n. Adds l image n) (omega (arith, none, nothing)) Nothing
         | inr o ↦ subst (λ n. Adds l image n) (omega (arith, none)) (one_adds first o)
       ]

@@ -95,22 +95,22 @@ same_lists (p ∷ ps) (q ∷ qs) a b on back =
     λ i. heads i ∷ tails i
   where
     heads : p ≡ q
-    heads = elim (first_or_after q qs p (on p (0, omega arith, refl))) as (λ _. p ≡ q) [
+    heads = elim (first_or_after q qs p (on p (0, omega arith, refl))) [
       | inl e ↦ sym e
-      | inr one ↦ elim (first_or_after p ps q (back q (0, omega arith, refl))) as (λ _. p ≡ q) [
+      | inr one ↦ elim (first_or_after p ps q (back q (0, omega arith, refl))) [
         | inl e ↦ e
         | inr two ↦ absurd (omega (arith, rest_above q p qs b one, rest_above p q ps a two))
       ]
     ]
 
     on_rest : (r : Proc) → Contains ps r → Contains qs r
-    on_rest r k = elim (first_or_after q qs r (on r (suc k.0, omega (arith, k.1), k.2))) as (λ _. Contains qs r) [
+    on_rest r k = elim (first_or_after q qs r (on r (suc k.0, omega (arith, k.1), k.2))) [
       | inl e ↦ let same = ap at_of (heads ∙ e) in absurd (omega (arith, rest_above p r ps a k, same))
       | inr h ↦ h
     ]
 
     back_rest : (r : Proc) → Contains qs r → Contains ps r
-    back_rest r k = elim (first_or_after p ps r (back r (suc k.0, omega (arith, k.1), k.2))) as (λ _. Contains ps r) [
+    back_rest r k = elim (first_or_after p ps r (back r (suc k.0, omega (arith, k.1), k.2))) [
       | inl e ↦ let same = ap at_of (sym heads ∙ e) in absurd (omega (arith, rest_above q r qs b k, same))
       | inr h ↦ h
     ]
@@ -243,7 +243,7 @@ module _ (l : LayoutParts) (image : List ℕ) where
     rung_below : (n m : ℕ) → n < m → Passes m → Rung n
     unfolding Passes
     rung_below n zero low h = absurd (omega (arith, low))
-    rung_below n (suc m) low h = elim (cases_lt n m) as (λ _. Rung n) [
+    rung_below n (suc m) low h = elim (cases_lt n m) [
       | inl less ↦ rung_below n m less h.0
       | inr not_less ↦ let same : m ≡ n = omega (arith, low, not_less) in subst Rung same h.1
     ]
@@ -298,9 +298,9 @@ module _ (l : LayoutParts) (image : List ℕ) where
 
     pub one_answer : (r s : Result StackBound StackError) → IsTied r → IsTied s → Answers l image r → Answers l image s
         → r ≡ s
-    one_answer r s one two h k = elim (cases_lt (stage r) (stage s)) as (λ _. r ≡ s) [
+    one_answer r s one two h k = elim (cases_lt (stage r) (stage s)) [
       | inl less ↦ absurd (not_before r s one two h k less)
-      | inr not_less ↦ elim (cases_lt (stage s) (stage r)) as (λ _. r ≡ s) [
+      | inr not_less ↦ elim (cases_lt (stage s) (stage r)) [
         | inl more ↦ absurd (not_before s r two one k h more)
         | inr not_more ↦ same_stage r s one two h k (omega (arith, not_less, not_more))
       ]

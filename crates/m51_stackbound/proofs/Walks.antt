@@ -26,7 +26,7 @@ pub marks_len : (count : ℕ) (marks : List Bool) → marks ≡ replicate count 
 marks_len count marks e = rw e (length-replicate {A = Bool} count false)
 
 pub same_when : (a b : ℕ) → nat_eq a b ≡ true → a ≡ b
-same_when a b e = elim (eqb_tells a b) as (λ _. a ≡ b) [
+same_when a b e = elim (eqb_tells a b) [
   | inl same ↦ same.1
   | inr other ↦ absurd (cc (e, other.0))
 ]
@@ -46,7 +46,7 @@ goes_nowhere old a there = record {
   more = [];
   is = sym (append-nil old);
   from = λ b k. absurd (none_in_empty b k);
-  all = λ b k. elim (first_or_after a [] b k) as (λ _. Contains old b) [
+  all = λ b k. elim (first_or_after a [] b k) [
     | inl here ↦ subst (λ c. Contains old c) here there
     | inr none ↦ absurd (none_in_empty b none)
   ];
@@ -58,7 +58,7 @@ goes_one old a = record {
   more = a ∷ [];
   is = refl;
   from = λ b k. k;
-  all = λ b k. elim (first_or_after a [] b k) as (λ _. Contains (old ++ a ∷ []) b) [
+  all = λ b k. elim (first_or_after a [] b k) [
     | inl here ↦ subst (λ c. Contains (old ++ a ∷ []) c) here (Contains-push old a)
     | inr none ↦ absurd (none_in_empty b none)
   ];
@@ -80,15 +80,15 @@ marked_more starts marks a few absent h =
     record {
       len = length-set marks a true ∙ h.len;
       count = omega (arith, h.count, sums, was, length-append starts (a ∷ []));
-      only = λ b k. elim (same_or_not b a) as (λ _. Contains (starts ++ a ∷ []) b) [
+      only = λ b k. elim (same_or_not b a) [
         | inl e ↦ subst (λ n. Contains (starts ++ a ∷ []) n) (sym e) (Contains-push starts a)
         | inr ne ↦ Contains-append_left starts (a ∷ []) b
             (h.only b (sym (get_or-set_other marks a b true false ne) ∙ k))
       ];
-      all = λ b k. elim (same_or_not b a) as (λ _. get_or (set marks a true) b false ≡ true) [
+      all = λ b k. elim (same_or_not b a) [
         | inl e ↦ ap (λ n. get_or (set marks a true) n false) e ∙ get_or-set_same marks a true false inside
         | inr ne ↦ get_or-set_other marks a b true false ne
-            ∙ elim (Contains-push_cases starts a b k) as (λ _. get_or marks b false ≡ true) [
+            ∙ elim (Contains-push_cases starts a b k) [
               | inl before ↦ h.all b before
               | inr here ↦ absurd (ne (sym here))
             ]
@@ -109,14 +109,14 @@ pub goes_more : (old now new xs : List ℕ) (x : ℕ) → GoesOn old xs now → 
 goes_more old now new xs x g h = record {
   more = g.more ++ h.more;
   is = h.is ∙ ap (λ (l : List ℕ). l ++ h.more) g.is ∙ append_assoc old g.more h.more;
-  from = λ b k. elim (Contains-append_cases g.more h.more b k) as (λ _. Contains (xs ++ x ∷ []) b) [
+  from = λ b k. elim (Contains-append_cases g.more h.more b k) [
     | inl early ↦ Contains-append_left xs (x ∷ []) b (g.from b early)
-    | inr late ↦ elim (first_or_after x [] b (h.from b late)) as (λ _. Contains (xs ++ x ∷ []) b) [
+    | inr late ↦ elim (first_or_after x [] b (h.from b late)) [
       | inl here ↦ subst (λ c. Contains (xs ++ x ∷ []) c) here (Contains-push xs x)
       | inr none ↦ absurd (none_in_empty b none)
     ]
   ];
-  all = λ b k. elim (Contains-push_cases xs x b k) as (λ _. Contains new b) [
+  all = λ b k. elim (Contains-push_cases xs x b k) [
     | inl early ↦ subst (λ (l : List ℕ). Contains l b) (sym h.is) (Contains-append_left now h.more b (g.all b early))
     | inr here ↦ h.all b (0, omega arith, here)
   ];
@@ -128,11 +128,10 @@ module _ (old starts new : List ℕ) (g : GoesOn old starts new) where
   went_kept a k = subst (λ (l : List ℕ). Contains l a) (sym g.is) (Contains-append_left old g.more a k)
 
   pub went_from : (a : ℕ) → Contains new a → Contains old a ⊎ Contains starts a
-  went_from a k = elim (Contains-append_cases old g.more a (subst (λ (l : List ℕ). Contains l a) g.is k)) as
-      (λ _. Contains old a ⊎ Contains starts a) [
-        | inl before ↦ inl before
-        | inr late ↦ inr (g.from a late)
-      ]
+  went_from a k = elim (Contains-append_cases old g.more a (subst (λ (l : List ℕ). Contains l a) g.is k)) [
+    | inl before ↦ inl before
+    | inr late ↦ inr (g.from a late)
+  ]
 
   pub went_front : (i d : ℕ) → i < length old → get_or new i d ≡ get_or old i d
   went_front i d below = ap (λ (l : List ℕ). get_or l i d) g.is ∙ grind (arith, common_steps, below)
@@ -173,12 +172,12 @@ module _ (rows : List (List ℕ)) (from : ℕ) (old : List ℕ) where
       record {
         more = w.more ++ g.more;
         is = g.is ∙ ap (λ (l : List ℕ). l ++ g.more) w.is ∙ append_assoc old w.more g.more;
-        only = λ a k. elim (Contains-append_cases w.more g.more a k) as (λ _. Leads rows from a) [
+        only = λ a k. elim (Contains-append_cases w.more g.more a k) [
           | inl before ↦ w.only a before
           | inr later ↦ Over via a (w.only via (added old w.more now next w.is high below)) (g.from a later)
         ];
         begun = λ a k. went_kept now (callee_row rows via) new g a (w.begun a k);
-        looked = λ i up low inside a k. elim (cases_lt i next) as (λ _. Contains new a) [
+        looked = λ i up low inside a k. elim (cases_lt i next) [
           | inl early ↦
               let within : i < length now = omega (arith, early, below) in
               went_kept now (callee_row rows via) new g a
@@ -201,7 +200,7 @@ module _ (rows : List (List ℕ)) (from : ℕ) (old : List ℕ) where
     begun = w.begun;
     closed = λ a k.
         let at : get_or starts k.0 0 ≡ a = grind (arith, common_steps, k.1, k.2) in
-        elim (cases_lt k.0 (length old)) as (λ _. Contains old a ⊎ HasCallees rows starts a) [
+        elim (cases_lt k.0 (length old)) [
           | inl early ↦
               let was : get_or starts k.0 0 ≡ get_or old k.0 0 = ap (λ (l : List ℕ). get_or l k.0 0) w.is
               ∙ get_or_append_left old w.more 0 k.0 early in
@@ -216,7 +215,7 @@ module _ (rows : List (List ℕ)) (from : ℕ) (old : List ℕ) where
     pub led_found : IsClosed rows old → (a : ℕ) → Leads rows from a → Contains new a
     led_found closed _ (Once a called) = w.begun a called
     led_found closed _ (Over via a before called) =
-        elim (w.closed via (led_found closed via before)) as (λ _. Contains new a) [
+        elim (w.closed via (led_found closed via before)) [
           | inl early ↦ subst (λ (l : List ℕ). Contains l a) (sym w.is)
               (Contains-append_left old w.more a (closed via early a called))
           | inr here ↦ here a called
@@ -226,7 +225,7 @@ module _ (rows : List (List ℕ)) (from : ℕ) (old : List ℕ) where
     pub alone : IsClosed rows old → (Contains old from → ⊥) → length new ≡ length old → Leads rows from from → ⊥
     alone closed fresh same h =
         elim (Contains-append_cases old w.more from
-        (subst (λ (l : List ℕ). Contains l from) w.is (led_found closed from h))) as (λ _. ⊥) [
+        (subst (λ (l : List ℕ). Contains l from) w.is (led_found closed from h))) [
           | inl early ↦ fresh early
           | inr late ↦ omega (arith, same, late.1, ap (λ (l : List ℕ). length l) w.is, length-append old w.more)
         ]
@@ -234,13 +233,13 @@ module _ (rows : List (List ℕ)) (from : ℕ) (old : List ℕ) where
     -- and with the start itself it is closed again
     pub closed_again : (after : List ℕ) → IsClosed rows old → GoesOn new (from ∷ []) after → IsClosed rows after
     closed_again after closed g a k b called =
-        went_kept new (from ∷ []) after g b (elim (went_from new (from ∷ []) after g a k) as (λ _. Contains new b) [
-          | inl before ↦ elim (w.closed a before) as (λ _. Contains new b) [
+        went_kept new (from ∷ []) after g b (elim (went_from new (from ∷ []) after g a k) [
+          | inl before ↦ elim (w.closed a before) [
             | inl early ↦ subst (λ (l : List ℕ). Contains l b) (sym w.is)
                 (Contains-append_left old w.more b (closed a early b called))
             | inr here ↦ here b called
           ]
-          | inr last ↦ elim (first_or_after from [] a last) as (λ _. Contains new b) [
+          | inr last ↦ elim (first_or_after from [] a last) [
             | inl here ↦ w.begun b (subst (λ n. Contains (callee_row rows n) b) (sym here) called)
             | inr none ↦ absurd (none_in_empty a none)
           ]
@@ -261,7 +260,7 @@ pub cleared_more : (rows : List (List ℕ)) (cleared : List Bool) (start : ℕ) 
 cleared_more rows cleared start false few apart h = h
 cleared_more rows cleared start true few apart h = record {
   len = length-set cleared start true ∙ h.len;
-  apart = λ a k. elim (same_or_not a start) as (λ _. Leads rows a a → ⊥) [
+  apart = λ a k. elim (same_or_not a start) [
     | inl e ↦ subst (λ n. Leads rows n n → ⊥) (sym e) (apart refl)
     | inr ne ↦ h.apart a (sym (get_or-set_other cleared start a true false ne) ∙ k)
   ];

@@ -44,7 +44,7 @@ earlier_cases Ends b = inl refl
 earlier_cases (Calls a) Unknown = inl refl
 earlier_cases (Calls a) Ends = inr refl
 earlier_cases (Calls a) (Calls b) =
-    elim (min_cases a b) as (λ _. (earlier (Calls a) (Calls b) ≡ Calls a) ⊎ (earlier (Calls a) (Calls b) ≡ Calls b)) [
+    elim (min_cases a b) [
       | inl e ↦ inl (ap Calls e)
       | inr e ↦ inr (ap Calls e)
     ]
@@ -167,23 +167,20 @@ module _ (l : LayoutParts) (image : List ℕ) (points : List Point) (depths : Li
     one_more : (start : Start) (old : Next) → here.start ≡ start → IsEarliest l image (take i points) depths start old
         → IsEarliest l image (take (i + 1) points) depths start (earlier old way)
     one_more start o s h = record {
-      given = elim (earlier_cases o way) as
-          (λ _. (earlier o way ≡ Unknown) ⊎ Gives l image (take (i + 1) points) depths start (earlier o way)) [
-            | inl e ↦ elim h.given as
-                (λ _. (earlier o way ≡ Unknown) ⊎ Gives l image (take (i + 1) points) depths start (earlier o way)) [
-                  | inl none ↦ inl (e ∙ none)
-                  | inr g ↦ inr
-                      (subst (λ n. Gives l image (take (i + 1) points) depths start n) (sym e) (kept start o g))
-                ]
-            | inr e ↦ inr (subst (λ n. Gives l image (take (i + 1) points) depths start n) (sym e) (newest start s))
-          ];
-      earliest = λ p k q. elim (front_cases points i d p below k) as
-          (λ _. IsNoLater (earlier o way) (next_by depths p (call_of l image p))) [
-            | inl before ↦ no_later_twice (earlier o way) o (next_by depths p (call_of l image p))
-                (earlier_first o way) (h.earliest p before q)
-            | inr is ↦ subst (λ (r : Point). IsNoLater (earlier o way) (next_by depths r (call_of l image r))) is
-                (earlier_second o way)
-          ];
+      given = elim (earlier_cases o way) [
+        | inl e ↦ elim h.given [
+          | inl none ↦ inl (e ∙ none)
+          | inr g ↦ inr
+              (subst (λ n. Gives l image (take (i + 1) points) depths start n) (sym e) (kept start o g))
+        ]
+        | inr e ↦ inr (subst (λ n. Gives l image (take (i + 1) points) depths start n) (sym e) (newest start s))
+      ];
+      earliest = λ p k q. elim (front_cases points i d p below k) [
+        | inl before ↦ no_later_twice (earlier o way) o (next_by depths p (call_of l image p))
+            (earlier_first o way) (h.earliest p before q)
+        | inr is ↦ subst (λ (r : Point). IsNoLater (earlier o way) (next_by depths r (call_of l image r))) is
+            (earlier_second o way)
+      ];
     }
 
     -- another start
@@ -191,15 +188,14 @@ module _ (l : LayoutParts) (image : List ℕ) (points : List Point) (depths : Li
         → IsEarliest l image (take i points) depths start old
         → IsEarliest l image (take (i + 1) points) depths start old
     other_start start old other h = record {
-      given = elim h.given as (λ _. (old ≡ Unknown) ⊎ Gives l image (take (i + 1) points) depths start old) [
+      given = elim h.given [
         | inl none ↦ inl none
         | inr g ↦ inr (kept start old g)
       ];
-      earliest = λ p k q. elim (front_cases points i d p below k) as
-          (λ _. IsNoLater old (next_by depths p (call_of l image p))) [
-            | inl before ↦ h.earliest p before q
-            | inr is ↦ absurd (other (ap (λ (r : Point). r.start) is ∙ q))
-          ];
+      earliest = λ p k q. elim (front_cases points i d p below k) [
+        | inl before ↦ h.earliest p before q
+        | inr is ↦ absurd (other (ap (λ (r : Point). r.start) is ∙ q))
+      ];
     }
 
     pub nexts_more : (old new : List Next) → rank here.start < length old
@@ -208,17 +204,15 @@ module _ (l : LayoutParts) (image : List ℕ) (points : List Point) (depths : Li
         → AreNexts l image (take (i + 1) points) depths new
     nexts_more old new inside is h = subst (λ ns. AreNexts l image (take (i + 1) points) depths ns) (sym is) (record {
       len = length-set old (rank here.start) (earlier (next_in old here.start) way) ∙ h.len;
-      each = λ start. elim (same_or_not (rank start) (rank here.start)) as
-          (λ _. IsEarliest l image (take (i + 1) points) depths start
-          (get_or (set old (rank here.start) (earlier (next_in old here.start) way)) (rank start) Unknown)) [
-            | inl e ↦
-                let s : start ≡ here.start = rank_same start here.start e in
-                subst (λ t. IsEarliest l image (take (i + 1) points) depths t
-                (get_or (set old (rank here.start) (earlier (next_in old here.start) way)) (rank t) Unknown)) (sym s)
-                (rw (get_or-set_same old (rank here.start) (earlier (next_in old here.start) way) Unknown inside)
-                (one_more here.start (next_in old here.start) refl (h.each here.start)))
-            | inr ne ↦ rw (get_or-set_other old (rank here.start) (rank start) (earlier (next_in old here.start) way)
-                Unknown ne)
-                (other_start start (next_in old start) (λ e. ne (ap rank (sym e))) (h.each start))
-          ];
+      each = λ start. elim (same_or_not (rank start) (rank here.start)) [
+        | inl e ↦
+            let s : start ≡ here.start = rank_same start here.start e in
+            subst (λ t. IsEarliest l image (take (i + 1) points) depths t
+            (get_or (set old (rank here.start) (earlier (next_in old here.start) way)) (rank t) Unknown)) (sym s)
+            (rw (get_or-set_same old (rank here.start) (earlier (next_in old here.start) way) Unknown inside)
+            (one_more here.start (next_in old here.start) refl (h.each here.start)))
+        | inr ne ↦ rw (get_or-set_other old (rank here.start) (rank start) (earlier (next_in old here.start) way)
+            Unknown ne)
+            (other_start start (next_in old start) (λ e. ne (ap rank (sym e))) (h.each start))
+      ];
     })

@@ -11,3 +11,4 @@ pub mod LineLaws
 pub mod KeptLaws
 pub mod RateLaws
 pub mod RowLaws
+pub mod Resting

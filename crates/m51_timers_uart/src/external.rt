@@ -1,6 +1,10 @@
 //! External interrupts.
-ghost use Rattle.std.specs.Prelude.{◌≡◌, ◌<◌};
+ghost use Rattle.std.specs.Prelude.{◌≡◌, ◌<◌, true, IsTrue};
+ghost use Rattle.m51_flat.specs.Flags.{ie0, ie1, it0, it1};
+ghost use Rattle.m51_flat.specs.Sfr.{latch, tcon, with_bit};
+ghost use Rattle.m51_timers_uart.specs.declared.levels.Input.TheVariants.{Int0, Int1};
 ghost use Rattle.m51_timers_uart.specs.External.{externals_ticked, requested};
+ghost use Rattle.m51_timers_uart.specs.Resting.{request_rests};
 
 use crate::levels::{Input, Levels};
 use m51_flat::Cpu;
@@ -27,4 +31,45 @@ pub(crate) fn tick_externals(cpu: &mut Cpu, levels: &Levels)
 {
     request(cpu, levels, Input::Int0, IT0, IE0);
     request(cpu, levels, Input::Int1, IT1, IE1);
+}
+
+/// A byte with one bit replaced.
+#[tactic(auto, unfolding(m51_flat::specs::Sfr::with_bit))]
+#[inline(always)]
+fn replace_bit(byte: u8, number: u8, bit: bool) -> u8
+    requires { number < 8 }
+    ensures { result ≡ with_bit byte number bit }
+{
+    if bit {
+        byte | 1 << number
+    } else {
+        byte & !(1 << number)
+    }
+}
+
+/// The request of a pin is as it is to be where TCON is this byte, so that `request` changes nothing.
+#[tactic(auto, unfolding(crate::specs::Resting::request_rests))]
+#[inline(always)]
+fn request_rests(levels: &Levels, byte: u8, pin: Input, it: u8, ask: u8) -> bool
+    requires it { it < 8 }
+    requires ask { ask < 8 }
+    ensures { result ≡ request_rests levels.now pin it ask byte }
+{
+    if byte >> it & 1 == 1 {
+        !levels.falls(pin)
+    } else {
+        replace_bit(byte, ask, !levels.is_high(pin)) == byte
+    }
+}
+
+/// Both are as they are to be, so that `tick_externals` changes nothing.
+#[inline(always)]
+pub(crate) fn externals_rest(cpu: &Cpu, levels: &Levels) -> bool
+    ensures int0 { IsTrue result → request_rests levels.now Int0 it0 ie0 (latch cpu.now tcon) ≡ true }
+    ensures int1 { IsTrue result → request_rests levels.now Int1 it1 ie1 (latch cpu.now tcon) ≡ true }
+{
+    let byte = cpu.latch(TCON);
+    let zero = request_rests(levels, byte, Input::Int0, IT0, IE0);
+    let one = request_rests(levels, byte, Input::Int1, IT1, IE1);
+    zero && one
 }

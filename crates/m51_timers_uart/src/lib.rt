@@ -5,6 +5,7 @@ mod counting;
 mod external;
 mod laws;
 mod levels;
+mod looking;
 mod periph;
 mod receiving;
 mod sending;
@@ -16,5 +17,6 @@ pub use laws::{
     one_bit_passes, one_byte_is_sent, the_rest_is_kept, timer_0_is_told, timer_1_counts_cycles,
     timers_count_up,
 };
+pub use looking::look_alike;
 pub use periph::{Periph, Sent};
 pub use receiving::Frame;

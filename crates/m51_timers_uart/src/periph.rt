@@ -1,9 +1,10 @@
 //! The devices, and one machine cycle of them.
-ghost use Rattle.std.specs.Prelude.{◌≡◌, ◌++◌};
+ghost use Rattle.std.specs.Prelude.{◌≡◌, ◌++◌, IsTrue};
+ghost use Rattle.m51_timers_uart.specs.Resting.{AreResting};
 ghost use Rattle.m51_timers_uart.specs.Sending.{begun};
 ghost use Rattle.m51_timers_uart.specs.Tick.{clocks_rest, clocks_ticked, reset_periph, ticked};
 
-use crate::external::tick_externals;
+use crate::external::{externals_rest, tick_externals};
 use crate::levels::{Levels, read_levels};
 use crate::receiving::{Frame, receive_both};
 use crate::sending::{start, tick_sending};
@@ -43,6 +44,7 @@ pub struct Periph {
 
 /// No timer runs, and no byte is on its way.
 #[tactic(auto, unfolding(crate::specs::Tick::clocks_rest))]
+#[inline(always)]
 fn clocks_rest(periph: &Periph, cpu: &Cpu) -> bool
     ensures { result ≡ clocks_rest cpu.now periph.now }
 {
@@ -63,6 +65,14 @@ fn tick_clocks(periph: &mut Periph, cpu: &mut Cpu, levels: &Levels) -> Option<Se
     let timer1 = tick_timers(cpu, levels);
     let timer2 = tick_timer2(cpu, levels);
     tick_sending(periph, cpu, timer1, timer2)
+}
+
+/// All levels are those of the last tick.
+#[inline(always)]
+fn levels_stay(levels: &Levels) -> bool
+    ensures { IsTrue result → levels.now.present ≡ levels.now.before }
+{
+    levels.present == levels.before
 }
 
 impl Periph {
@@ -90,6 +100,22 @@ impl Periph {
         ensures { self.new ≡ begun cpu.now byte self.old }
     {
         start(self, cpu, byte);
+    }
+
+    /// The devices rest if these are the levels outside: no timer runs, no byte is on its way, no level is another than
+    /// at the last tick, and the external requests are as they are to be. Then a machine cycle in which no frame
+    /// arrives changes nothing.
+    ///
+    /// Source: own choice ("Cycles in which nothing happens").
+    #[inline(always)]
+    pub fn rests(&self, cpu: &Cpu, ext: &Pins) -> bool
+        ensures { IsTrue result → AreResting cpu.now ext.now self.now }
+    {
+        let levels = Levels {
+            before: self.levels,
+            present: read_levels(cpu, ext),
+        };
+        clocks_rest(self, cpu) && levels_stay(&levels) && externals_rest(cpu, &levels)
     }
 
     /// One machine cycle: timers 0 and 1, timer 2, sending, receiving, the external interrupts. `ext` are the levels

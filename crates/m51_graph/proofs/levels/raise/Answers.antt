@@ -36,7 +36,7 @@ loop-from-preserved c =
     subst (λ n. LeadWithin n edges) (sym c.loop-from.auto.levels) c.requires.within in
     let before : Bool = c.loop-from.rose in
     let rose : (c.lift.result || before) ≡ c.if-lift.rose =
-    elim c.if-lift.branch as (λ _. (c.lift.result || before) ≡ c.if-lift.rose) [
+    elim c.if-lift.branch [
       | then-lift w ↦ ap (λ b. b || before) w.if-lift.true ∙ sym w.rose-is
       | else-lift w ↦ ap (λ b. b || before) w.if-lift.false ∙ sym w.rose-is
     ] in

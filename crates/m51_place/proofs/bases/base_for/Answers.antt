@@ -2,7 +2,7 @@ use Rattle.m51_place.proofs.Common.{ℕ, List, sym, ap, subst, ◌∙◌, All, I
 use Rattle.m51_place.proofs.Common.{conflicting, extents_in}
 use Rattle.m51_place.specs.Bases.{least_base}
 use Rattle.m51_bases.specs.Raising.{EndsWithin}
-use Rattle.m51_place.proofs.Clearing.{found_below, least_is}
+use Rattle.m51_place.proofs.Free.{found_below, least_is}
 use Rattle.m51_place.proofs.Conflicting.{in_the_way_is}
 use Rattle.m51_place.proofs.bases.base_for.Goals as goal
 

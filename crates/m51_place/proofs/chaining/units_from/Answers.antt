@@ -2,8 +2,7 @@ use Rattle.m51_place.proofs.Common.{◌≡◌, ◌-◌, ◌<◌, ℕ, List, [], 
 use Rattle.m51_place.proofs.Common.{IsFront}
 use Rattle.m51_graph.proofs.Climbing.{tally_le}
 use Rattle.m51_place.specs.Heaviest.{FollowsHeaviest, IsNext}
-use Rattle.m51_place.proofs.Chained.{front_more, front_start}
-use Rattle.m51_place.proofs.Ranking.{rank, rank_edge}
+use Rattle.m51_place.proofs.Chained.{front_more, front_start, rank, rank_edge}
 use Rattle.m51_place.proofs.chaining.units_from.Goals as goal
 
 pub loop-next-init : goal.loop-next-init

@@ -1,4 +1,4 @@
-use Rattle.m51_place.proofs.Rising.{in_order}
+use Rattle.m51_place.proofs.Ranks.{in_order}
 use Rattle.m51_place.proofs.laws.order_rises.Goals as goal
 
 pub returns : goal.returns

@@ -1,4 +1,4 @@
-use Rattle.m51_place.proofs.SameWeight.{weights_agree as agree}
+use Rattle.m51_place.proofs.Tight.{weights_agree as agree}
 use Rattle.m51_place.proofs.laws.weights_agree.Goals as goal
 
 pub returns : goal.returns

@@ -1,10 +1,9 @@
 use Rattle.m51_place.proofs.Common.{◌≡◌, ℕ, List, sym, ap, subst, ◌∙◌, All, Control, JoinedSegment, segments_of}
 use Rattle.m51_place.proofs.Common.{Numbered, Ranked, fixed_of, order_of, IsNumbered}
 use Rattle.m51_place.specs.Ready.{IsPlaceable}
-use Rattle.m51_place.proofs.Segments.{all_joined, graph_is}
-use Rattle.m51_place.proofs.Whole.{numbered}
-use Rattle.m51_place.proofs.Start.{fixed_spots}
-use Rattle.m51_place.proofs.Ranks.{order_ranked, ready}
+use Rattle.m51_place.proofs.Ranks.{all_joined, graph_is, order_ranked, ready}
+use Rattle.m51_place.proofs.Whole.{numbered, fixed_spots}
+use Rattle.m51_cells.proofs.Members.{every_all, every_weaker}
 use Rattle.m51_place.proofs.placing.locate.Goals as goal
 
 pub place_after-requires-clause-order : goal.place_after-requires-clause-order
@@ -18,8 +17,8 @@ place_after-requires-clause-order c =
     ∙ ap (λ (cs : List (ℕ × Control)). order_of g cs c.segments.result.now) c.lines.ensures.list
     ∙ ap (order_of g c.args.controls.now) c.segments.ensures.list in
     subst (λ (ts : List Ranked). All (IsPlaceable g) ts) (sym order)
-    (λ k d below. ready segments c.args.controls.now g is joined _
-    (order_ranked g c.args.controls.now segments k d below))
+    (every_all (IsPlaceable g) _ (every_weaker _ (IsPlaceable g) _ (ready segments c.args.controls.now g is joined)
+    (order_ranked g c.args.controls.now segments)))
 
 pub place_after-requires-clause-earlier : goal.place_after-requires-clause-earlier
 place_after-requires-clause-earlier c =

@@ -1,11 +1,8 @@
-use Rattle.m51_place.proofs.Common.{◌≡◌, ℕ, List, length, map, sym, ap, subst, ◌∙◌, arith, All, range_with_len}
-use Rattle.m51_place.proofs.Common.{LayoutParts, IsSound, JoinedSegment, segments_of, Numbered, parts_of_layout}
-use Rattle.m51_place.proofs.Common.{IsNumbered}
+use Rattle.m51_place.proofs.Common.{List, length, map, sym, ap, subst, ◌∙◌, range_with_len, IsSound, JoinedSegment}
+use Rattle.m51_place.proofs.Common.{segments_of, Numbered, parts_of_layout}
 use Rattle.m51_place.specs.Placement.{joined_base}
-use Rattle.m51_place.specs.Places.{ArePlaces}
-use Rattle.m51_place.proofs.PlacedAt.{places_are}
-use Rattle.m51_place.proofs.Segments.{graph_is}
-use Rattle.m51_place.proofs.SoundLayout.{sound}
+use Rattle.m51_place.proofs.Ranks.{graph_is}
+use Rattle.m51_place.proofs.SoundLayout.{places_are, sound}
 use Rattle.m51_place.proofs.Whole.{numbered, placed_whole}
 use Rattle.m51_place.proofs.placing.place_all.Goals as goal
 
@@ -13,13 +10,13 @@ pub parts_of_layout-requires-clause-few : goal.parts_of_layout-requires-clause-f
 parts_of_layout-requires-clause-few c =
     let all = placed_whole _ _ _ _ c.requires c.modules.ensures.valid c.modules.ensures.resolved c.lines.ensures.kept
     c.in_ok-located.ensures in
-    omega (arith, ap (λ (xs : List Numbered). length xs) c.deref-2.ensures.value, all.few)
+    rw c.deref-2.ensures.value all.few
 
 pub parts_of_layout-requires-clause-numbered : goal.parts_of_layout-requires-clause-numbered
 parts_of_layout-requires-clause-numbered c =
     let all = placed_whole _ _ _ _ c.requires c.modules.ensures.valid c.modules.ensures.resolved c.lines.ensures.kept
     c.in_ok-located.ensures in
-    subst (λ (xs : List Numbered). All (IsNumbered c.args.graph.now) xs) (sym c.deref-2.ensures.value)
+    rw c.deref-2.ensures.value
     (numbered _ c.args.controls.now _ _ (graph_is c.args.joined.now c.args.controls.now _ c.requires) all.spots)
 
 pub make-requires : goal.make-requires
@@ -37,14 +34,10 @@ returns-clause-bases c =
     let located : List Numbered = c.in_ok-located.located.items in
     let all = placed_whole _ _ _ _ c.requires c.modules.ensures.valid c.modules.ensures.resolved c.lines.ensures.kept
     c.in_ok-located.ensures in
-    let layout : c.in_ok-layout.layout ≡ parts_of_layout g located =
-    c.in_ok-layout.ensures ∙ c.in_ok-parts.ensures ∙ ap (parts_of_layout g) c.deref-2.ensures.value in
-    let bases : c.of.result ≡ map (joined_base located) (range_with_len 0 (length segments)) =
-    c.of.ensures ∙ c.in_ok-bases.ensures
+    let bases = c.of.ensures ∙ c.in_ok-bases.ensures
     ∙ ap (λ (es : List Numbered). map (joined_base es) (range_with_len 0 (length c.segments.result.now)))
     c.deref.ensures.value
     ∙ ap (λ (js : List JoinedSegment). map (joined_base located) (range_with_len 0 (length js)))
     c.segments.ensures.list in
-    subst (λ (l : LayoutParts). ArePlaces segments (record { layout = l; bases = c.of.result })) (sym layout)
-    (subst (λ (bases : List ℕ). ArePlaces segments (record { layout = parts_of_layout g located; bases = bases }))
-    (sym bases) (places_are g segments located all))
+    let layout = c.in_ok-layout.ensures ∙ c.in_ok-parts.ensures ∙ ap (parts_of_layout g) c.deref-2.ensures.value in
+    rw (layout, bases) (places_are g segments located all)

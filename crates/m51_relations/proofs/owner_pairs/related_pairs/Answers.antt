@@ -17,7 +17,7 @@ loop-unit-preserved c =
     let test : ℕ → ℕ → Bool = λ u v. related_by (pairs c.args.reach.now) c.args.under.now v u in
     record {
       count = c.put_related.ensures.count ∙ c.loop-unit.invariant.count;
-      done = λ u v below below'. elim (cases_eq u unit) as (λ _. pairs c.put_related.new.set u v ≡ test u v) [
+      done = λ u v below below'. elim (cases_eq u unit) [
         | inl here ↦ subst (λ w. pairs c.put_related.new.set w v ≡ test w v) (sym here)
             (c.put_related.ensures.done v (omega (arith, below', c.loop-unit.invariant.count)))
         | inr other ↦ c.put_related.ensures.others u v other

@@ -22,7 +22,7 @@ loop-point-preserved c =
     λ calls e. e ∙ ap (λ (o : Option Call). c.loop-point.calls.items ++ cons_option o []) is
     ∙ ap (λ (cs : List Call). cs ++ cons_option (call_from p (call_of l image p)) []) c.loop-point.invariant
     ∙ sym (calls_more l image points i none c.loop-point-test.true) in
-    elim c.match-call_from.branch as (λ _. c.match-call_from.calls.items ≡ calls_of l image (take (i + 1) points)) [
+    elim c.match-call_from.branch [
       | in-Some+in_ok-push-in-Some w ↦ rw w.calls-is
           (more w.push.new.self.items
           (w.in_ok-push-in-Some.ensures.items ∙ ap (λ (o : Option Call). c.loop-point.calls.items ++ cons_option o [])

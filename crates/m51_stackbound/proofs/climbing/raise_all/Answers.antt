@@ -23,7 +23,7 @@ loop-call-preserved c =
     let up : Raises call.from (depth_by now call) now new c.raise.result =
     subst (λ (d : ℕ). Raises call.from d now new c.raise.result) c.depth_by-depth.ensures c.raise.ensures.raised in
     let rose : (c.raise.result || before) ≡ c.if-raise.rose =
-    elim c.if-raise.branch as (λ _. (c.raise.result || before) ≡ c.if-raise.rose) [
+    elim c.if-raise.branch [
       | then-raise w ↦ ap (λ b. b || before) w.if-raise.true ∙ sym w.rose-is
       | else-raise w ↦ ap (λ b. b || before) w.if-raise.false ∙ sym w.rose-is
     ] in

@@ -25,14 +25,14 @@ loop-point-preserved c =
           ap (λ (p : ReachedAddress). Some (lesser least p)) (sym c.reached_address-reached.ensures)
           ∙ ap Some (sym w.lesser.ensures) ∙ sym w.least-is in
           subst (λ (r : Option ReachedAddress). IsDoubling points (i + 1) new r) is
-          (elim noted as (λ _. IsDoubling points (i + 1) new (Some (lesser least here))) [
+          (elim noted [
             | inl old ↦ doubling_again points i none c.loop-point-test.true addresses new least old.1 old.2
                 c.loop-point.invariant
             | inr first ↦ absurd (cc (first.0, w.if-branch.true))
           ])
       | else-branch w ↦
           subst (λ (r : Option ReachedAddress). IsDoubling points (i + 1) new r) (sym w.least-is)
-          (elim noted as (λ _. IsDoubling points (i + 1) new least) [
+          (elim noted [
             | inl old ↦ absurd (cc (old.0, w.if-branch.false))
             | inr first ↦ doubling_new points i none c.loop-point-test.true addresses new least first.1 first.2
                 c.loop-point.invariant

@@ -8,7 +8,7 @@ pub loop-init : goal.loop-init
 loop-init c = marks_len 65536 c.in_ok-entered.entered.items c.in_ok-entered.ensures
 
 pub loop-preserved : goal.loop-preserved
-loop-preserved c = elim c.match-pop.branch as (λ _. length c.match-pop.entered.items ≡ 65536) [
+loop-preserved c = elim c.match-pop.branch [
   | in-Some+in_ok-follow w ↦ rw w.entered-is w.follow.ensures
   | in_default+then-first-lt-ADDRESSES+in_ok-enter w ↦ rw w.entered-is w.enter.ensures
 ]

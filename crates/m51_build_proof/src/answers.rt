@@ -1,0 +1,40 @@
+//! Laws on the outcomes and answers of all verbs, each as the contract of a function with an empty body.
+ghost use Rattle.m51_build_proof.specs.Answers.{ChainIsComplete, EachHasOneAnswer, EachJobHasOne, NoJobHasTwo};
+ghost use Rattle.m51_build_proof.specs.Answers.{NoWordsHaveTwo};
+
+/// No job has two outcomes for one list of contents, whatever its verb, out of memory aside.
+///
+/// Source: own choice ("The top call").
+pub fn no_job_has_two_outcomes()
+    ensures { NoJobHasTwo }
+{}
+
+/// No arguments and files have two answers.
+///
+/// Source: own choice ("The top call").
+pub fn no_words_have_two_answers()
+    ensures { NoWordsHaveTwo }
+{}
+
+/// Each job of `build`, `asm`, `lib`, `flat`, `gen` and `dis` that arguments can ask for has exactly one outcome,
+/// whatever bytes its files hold.
+///
+/// Source: own choice ("The top call").
+pub fn each_job_has_one_outcome()
+    ensures { EachJobHasOne }
+{}
+
+/// Arguments that are faulty or ask for one of these verbs have exactly one answer, whatever bytes the files hold.
+///
+/// Source: own choice ("The top call").
+pub fn each_has_one_answer()
+    ensures { EachHasOneAnswer }
+{}
+
+/// The clause `told` of the top call says of such arguments that their one answer is kept and written whole, with its
+/// status, unless a call failed or memory ran out.
+///
+/// Source: own choice ("The top call").
+pub fn chain_is_complete()
+    ensures { ChainIsComplete }
+{}

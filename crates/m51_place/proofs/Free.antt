@@ -1,0 +1,580 @@
+-- The bases that are free of what was placed before, and the segments that are placed there one after another.
+use Rattle.m51_place.proofs.Common.{◌≡◌, ℕ, zero, suc, ◌+◌, ◌/◌, ◌<◌, ◌≤◌, false, Bool, refl, sym, ◌∙◌, arith, Decides}
+use Rattle.m51_place.proofs.Common.{false≢true, Decides-eqb, Decides-ltb, same_from_decides, Space, Extent, Kind, Code}
+use Rattle.m51_place.proofs.Common.{Xdata, Direct, Idata, Bits, Number, Reloc, Bitaddressable, Inpage, Inblock, Page}
+use Rattle.m51_place.proofs.Common.{Covers, Meet, Fits, FitsBlock, FitsMemory, parted, and_decides, same_space, ◌≢◌}
+use Rattle.m51_place.proofs.Common.{inl, inr, true, not, List, [], ◌∷◌, Option, Some, None, ap, find, MatchOption}
+use Rattle.m51_place.proofs.Common.{list_all, range_with_len, IsPermutation, All-permutation, cases_Bool, cases_lt}
+use Rattle.m51_place.proofs.Common.{UnitType, extent_of, Placed, extent_at, extents_in, ◌++◌, filter, map, Result, Ok}
+use Rattle.m51_place.proofs.Common.{Err, append_assoc, option_map_or, AllZip, append-nil, L12, GraphParts, Numbered}
+use Rattle.m51_place.proofs.Common.{Ranked, Refusal, base_for, located_at, place_after, conflicting, in_conflict_with}
+use Rattle.m51_place.proofs.Common.{◌-◌, ◌*◌, subst, Ram, Cell, AreOneRun, IsOpen}
+use Rattle.std.proofs.Common.{◌%◌}
+use Rattle.std.proofs.lemmas.Bool.Decides.{nat_tests, Decides-by_and, Decides-like, Decides-not}
+use Rattle.std.specs.Prelude.{nat_le, IfSome}
+use Rattle.m51_cells.proofs.Meeting.{shared}
+use Rattle.m51_place.specs.Bases.{overlap, share, fits_block, fits_memory, fits_at, HasNoBase, is_free, IsApart, IsFree}
+use Rattle.m51_place.specs.Bases.{IsLeastBase, least_base}
+use Rattle.std.proofs.lemmas.Bool.{cases_eq, false_from_ne_true, not-false}
+use Rattle.std.proofs.lemmas.List.Sorted.{IsPermutation-sym}
+use Rattle.m51_place.specs.Laws.{LeastIsLeast}
+use Rattle.m51_bases.specs.Raising.{IsClear, IsFirstClear, IsOutside, NoneIsClear}
+use Rattle.m51_cells.proofs.Members.{all_every, Every, every_all, every_weaker, Pairs, pairs_push, every_in, every_of}
+use Rattle.m51_cells.proofs.Members.{In, in_cases, in_left, in_right}
+
+-- The decisions on cells and bases are right.
+
+pub le_decides : (a b : ℕ) → Decides (nat_le a b) (a ≤ b)
+le_decides a b = (λ h. grind (arith, nat_tests), λ h. grind (arith, nat_tests))
+
+pub space_tells : (a b : Space) → Decides (same_space a b) (a ≡ b)
+space_tells a b = (λ h. grind arith, λ h. grind arith)
+
+-- what overlap decides
+abbrev Overlaps : Extent → Extent → Type 0
+Overlaps a b = ((0 < a.len) × (0 < b.len)) × ((a.first < b.first + b.len) × (b.first < a.first + a.len))
+
+overlap_tells : (a b : Extent) → Decides (overlap a b) (Overlaps a b)
+overlap_tells a b =
+    and_decides _ _ (and_decides _ _ (Decides-ltb 0 a.len) (Decides-ltb 0 b.len))
+    (and_decides _ _ (Decides-ltb a.first (b.first + b.len)) (Decides-ltb b.first (a.first + a.len)))
+
+pub share_tells : (a b : Extent) → Decides (share a b) (Meet a b)
+unfolding share
+share_tells a b =
+    let both : Decides (share a b) ((a.space ≡ b.space) × Overlaps a b) =
+    and_decides _ _ (space_tells a.space b.space) (overlap_tells a b) in (
+      λ h. let o = both.0 h in shared a b o.0 o.1.0.0 o.1.0.1 o.1.1.0 o.1.1.1,
+      λ m. let o = parted a b m in
+          let ca : Covers a m.0 = m.1 in
+          let cb : Covers b m.0 = m.2 in
+          both.1 (sym ca.space ∙ cb.space, ((o.first_some, o.second_some), (o.first_before, o.second_before))),
+    )
+
+pub share_is : (a b : Extent) (r : Bool) → Decides r (Meet a b) → r ≡ share a b
+share_is a b r h = same_from_decides r (share a b) h (share_tells a b)
+
+-- fitting
+
+block_tells : (block base size : ℕ) → Decides (fits_block block base size) (FitsBlock block base size)
+block_tells block base zero = (λ _. tt, λ _. refl)
+block_tells block base (suc more) =
+    and_decides _ _ (Decides-eqb (base / block) ((base + more) / block)) (le_decides (base + suc more) 0x10000)
+
+memory_tells : (reloc : Reloc) (base size : ℕ) → Decides (fits_memory reloc base size) (FitsMemory reloc base size)
+memory_tells Page base size = and_decides _ _ (Decides-eqb (base % 256) 0) (le_decides (base + size) 0x10000)
+memory_tells Inpage base size = block_tells 256 base size
+memory_tells Inblock base size = block_tells 2048 base size
+memory_tells reloc base size = le_decides (base + size) 0x10000
+
+pub fits_tells : (kind : Kind) (reloc : Reloc) (base size : ℕ)
+    → Decides (fits_at kind reloc base size) (Fits kind reloc base size)
+unfolding fits_at
+fits_tells Direct Bitaddressable base size = and_decides _ _ (le_decides 0x20 base) (le_decides (base + size) 0x30)
+fits_tells Direct reloc base size = le_decides (base + size) 0x80
+fits_tells Idata reloc base size = le_decides (base + size) 0x100
+fits_tells Bits reloc base size = le_decides (base + size) 0x80
+fits_tells Code reloc base size = memory_tells reloc base size
+fits_tells Xdata reloc base size = memory_tells reloc base size
+fits_tells Number reloc base size = (λ h. absurd (false≢true h), λ h. absurd h)
+
+-- The first base that is found free is the least of all, and so is the first that is clear of the extents in one
+-- memory.
+
+-- the first number that passes from one on, before another; or none does
+abbrev IsFirst : (ℕ → Bool) → ℕ → ℕ → Option ℕ → Type 0
+IsFirst p from end None = (k : ℕ) → from ≤ k → k < end → p k ≡ false
+IsFirst p from end (Some x) = (p x ≡ true) × (x < end) × ((k : ℕ) → from ≤ k → k < x → p k ≡ false)
+
+first_later : (p : ℕ → Bool) (from end : ℕ) (found : Option ℕ) → p from ≡ false → IsFirst p (from + 1) end found
+    → IsFirst p from end found
+first_later p from end None fails h = λ k up below. elim (cases_eq from k)
+    [ inl e ↦ rw (← e) fails | inr ne ↦ h k (omega (arith, up, ne)) below ]
+first_later p from end (Some x) fails h = (
+  h.0,
+  h.1,
+  λ k up less. elim (cases_eq from k) [ inl e ↦ rw (← e) fails | inr ne ↦ h.2 k (omega (arith, up, ne)) less ],
+)
+
+first_found : (p : ℕ → Bool) (n from : ℕ) → IsFirst p from (from + n) (find p (range_with_len from n))
+first_found p zero from = λ k up below. absurd (omega (arith, up, below))
+first_found p (suc n) from = elim (cases_Bool (p from)) [
+  | inl here ↦ rw here (here, omega arith, λ k up less. absurd (omega (arith, up, less)))
+  | inr fails ↦
+      let next : from + suc n ≡ from + 1 + n = omega arith in
+      rw (fails, next) (first_later p from (from + 1 + n) (find p (range_with_len (from + 1) n)) fails
+      (first_found p n (from + 1)))
+]
+
+pub find_first : (p : ℕ → Bool) (n : ℕ) (found : Option ℕ) → find p (range_with_len 0 n) ≡ found → IsFirst p 0 n found
+find_first p n found is = let none : 0 + n ≡ n = omega arith in rw (is, none) at (first_found p n 0)
+
+-- two that are first are one
+same_first : (p : ℕ → Bool) (n : ℕ) (one two : Option ℕ) → IsFirst p 0 n one → IsFirst p 0 n two → one ≡ two
+same_first p n None None h k = refl
+same_first p n None (Some x) h k = absurd (false≢true (sym (h x (omega arith) k.1) ∙ k.0))
+same_first p n (Some x) None h k = absurd (false≢true (sym (k x (omega arith) h.1) ∙ h.0))
+same_first p n (Some x) (Some y) h k = elim (cases_lt x y) [
+  | inl less ↦ absurd (false≢true (sym (k.2 x (omega arith) less) ∙ h.0))
+  | inr up ↦ elim (cases_lt y x) [
+    | inl less ↦ absurd (false≢true (sym (h.2 y (omega arith) less) ∙ k.0))
+    | inr up' ↦ let e : x ≡ y = omega (arith, up, up') in ap (λ (n : ℕ). Some n) e
+  ]
+]
+
+-- what is decided to be free is
+apart_tells : (cells : Extent) (p : Placed) → Decides (not (share (extent_at p) cells)) (IsApart cells p)
+apart_tells cells p =
+    Decides-like _ (λ h. record { none = h }) (λ h. h.none) (Decides-not _ (share_tells (extent_at p) cells))
+
+pub free_tells : (others : List Placed) (kind : Kind) (reloc : Reloc) (size base : ℕ)
+    → Decides (is_free others kind reloc size base) (IsFree others kind reloc size base)
+unfolding is_free
+free_tells others kind reloc size base =
+    let cells : Extent = extent_of kind base size in
+    let free : Placed → Bool = λ p. not (share (extent_at p) cells) in
+    Decides-like _ (λ h. record { fits = h.0; apart = h.1 }) (λ h. (h.fits, h.apart))
+    (and_decides _ (list_all free others) (fits_tells kind reloc base size)
+    (Decides-by_and free (IsApart cells) (list_all free) (apart_tells cells) refl (λ _ _. refl) others))
+
+-- where something fits it ends below 65,536, or it is empty and fits at 32 or at 0
+pub fits_below : (kind : Kind) (reloc : Reloc) (base more : ℕ) → Fits kind reloc base (suc more) → base < 65536
+fits_below kind reloc base more h = grind arith
+
+pub start : (kind : Kind) → ℕ
+start Direct = 32
+start _ = 0
+
+start_fits : (kind : Kind) (reloc : Reloc) → kind ≢ Number → Fits kind reloc (start kind) 0
+unfolding start
+start_fits kind reloc ne = grind arith
+
+start_low : (kind : Kind) → start kind ≤ 32
+unfolding start
+start_low kind = grind arith
+
+no_cells : (kind : Kind) (base : ℕ) → (extent_of kind base 0).len ≡ 0
+no_cells kind base = grind arith
+
+nothing_met : (kind : Kind) (base : ℕ) (e : Extent) → Meet e (extent_of kind base 0) → ⊥
+nothing_met kind base e meet = omega (arith, no_cells kind base, (parted e (extent_of kind base 0) meet).second_some)
+
+fits_kind : (kind : Kind) (reloc : Reloc) (base size : ℕ) → Fits kind reloc base size → kind ≢ Number
+fits_kind kind reloc base size h e = rw e at h
+
+-- where a base is free, one below 65,536 is
+low_free : (others : List Placed) (kind : Kind) (reloc : Reloc) (size base : ℕ) → IsFree others kind reloc size base
+    → (low : ℕ) × (low < 65536) × IsFree others kind reloc size low
+low_free others kind reloc (suc more) base h = (base, fits_below kind reloc base more h.fits, h)
+low_free others kind reloc zero base h = (
+  start kind,
+  omega (arith, start_low kind),
+  record {
+    fits = start_fits kind reloc (fits_kind kind reloc base 0 h.fits);
+    apart = λ k d below. record { none = λ meet. nothing_met kind (start kind) _ meet };
+  },
+)
+
+of_found : (others : List Placed) (kind : Kind) (reloc : Reloc) (size : ℕ) (found : Option ℕ)
+    → IsFirst (is_free others kind reloc size) 0 65536 found
+    → MatchOption found (HasNoBase others kind reloc size) (λ base. IsLeastBase others kind reloc size base)
+of_found others kind reloc size None h = λ base free.
+    let low = low_free others kind reloc size base free in
+    false≢true (sym (h low.0 (omega arith) low.1) ∙ (free_tells others kind reloc size low.0).1 low.2)
+of_found others kind reloc size (Some base) h = record {
+  free = (free_tells others kind reloc size base).0 h.0;
+  least = λ lower less free.
+      false≢true (sym (h.2 lower (omega arith) less) ∙ (free_tells others kind reloc size lower).1 free);
+}
+
+pub least_is_least : LeastIsLeast
+unfolding least_base
+least_is_least others kind reloc size = of_found others kind reloc size (least_base others kind reloc size)
+    (find_first (is_free others kind reloc size) 65536 (least_base others kind reloc size) refl)
+
+pub least_low : (others : List Placed) (kind : Kind) (reloc : Reloc) (size base : ℕ)
+    → least_base others kind reloc size ≡ Some base → base < 65536
+unfolding least_base
+least_low others kind reloc size base h = (find_first (is_free others kind reloc size) 65536 (Some base) h).1
+
+-- what is clear of the extents in one memory is free
+module _ (kind : Kind) (reloc : Reloc) (size : ℕ) (space : Space)
+    (in_space : (base : ℕ) → space ≡ (extent_of kind base size).space) where
+  -- an extent of another memory shares no cell
+  other_memory : (base : ℕ) (p : Placed) → same_space (extent_at p).space space ≡ false
+      → IsApart (extent_of kind base size) p
+  other_memory base p other = record {
+    none = λ meet.
+        let a : Covers (extent_at p) meet.0 = meet.1 in
+        let b : Covers (extent_of kind base size) meet.0 = meet.2 in
+        false≢true
+        (sym other ∙ (space_tells (extent_at p).space space).1 (sym a.space ∙ b.space ∙ sym (in_space base)));
+  }
+
+  apart_all : (base : ℕ) (ps : List Placed) → Every (IsOutside (extent_of kind base size)) (extents_in space ps)
+      → Every (IsApart (extent_of kind base size)) ps
+  apart_all base [] h = tt
+  apart_all base (p ∷ more) h = elim (cases_Bool (same_space (extent_at p).space space)) [
+    | inl same ↦ let all = rw same at h in (record { none = all.0.none }, apart_all base more all.1)
+    | inr other ↦ (other_memory base p other, apart_all base more (rw other at h))
+  ]
+
+  outside_all : (base : ℕ) (ps : List Placed) → Every (IsApart (extent_of kind base size)) ps
+      → Every (IsOutside (extent_of kind base size)) (extents_in space ps)
+  outside_all base [] h = tt
+  outside_all base (p ∷ more) h = elim (cases_Bool (same_space (extent_at p).space space)) [
+    | inl same ↦ rw same (record { none = h.0.none }, outside_all base more h.1)
+    | inr other ↦ rw other (outside_all base more h.1)
+  ]
+
+  module _ (others : List Placed) (extents : List Extent) (moved : IsPermutation (extents_in space others) extents)
+    where
+      clear_is_free : (base : ℕ) → IsClear extents kind reloc size base → is_free others kind reloc size base ≡ true
+      clear_is_free base h =
+          let P : Extent → Type 0 = IsOutside (extent_of kind base size) in
+          let all = All-permutation P extents (extents_in space others) (IsPermutation-sym _ _ moved) h.outside in
+          (free_tells others kind reloc size base).1 (record {
+            fits = h.fits;
+            apart = every_all _ others (apart_all base others (all_every P (extents_in space others) all));
+          })
+
+      not_free : (base : ℕ) → (IsClear extents kind reloc size base → ⊥) → is_free others kind reloc size base ≡ false
+      not_free base h = false_from_ne_true _ (λ is.
+          let free = (free_tells others kind reloc size base).0 is in
+          let P : Extent → Type 0 = IsOutside (extent_of kind base size) in
+          h (record {
+            fits = free.fits;
+            outside = All-permutation P (extents_in space others) extents moved
+                (every_all P _ (outside_all base others (all_every _ others free.apart)));
+          }))
+
+      first_is : (found : Option ℕ)
+          → MatchOption found (NoneIsClear extents kind reloc size) (λ base. IsFirstClear extents kind reloc size base)
+          → IfSome found (λ b. b < 65536) → IsFirst (is_free others kind reloc size) 0 65536 found
+      first_is None h below = λ k up less. not_free k (h k)
+      first_is (Some base) h below =
+          let first : IsFirstClear extents kind reloc size base = h in
+          (clear_is_free base first.clear, below, λ k up less. not_free k (first.none k less))
+
+      pub least_is : (found : Option ℕ)
+          → MatchOption found (NoneIsClear extents kind reloc size) (λ base. IsFirstClear extents kind reloc size base)
+          → IfSome found (λ b. b < 65536) → found ≡ least_base others kind reloc size
+      unfolding least_base
+      least_is found h below =
+          let test : ℕ → Bool = is_free others kind reloc size in
+          same_first test 65536 found (find test (range_with_len 0 65536)) (first_is found h below)
+          (find_first test 65536 (find test (range_with_len 0 65536)) refl)
+
+first_below : (extents : List Extent) (kind : Kind) (reloc : Reloc) (size base : ℕ) → kind ≢ Number
+    → IsFirstClear extents kind reloc size base → base < 65536
+first_below extents kind reloc (suc more) base ne h = fits_below kind reloc base more h.clear.fits
+first_below extents kind reloc zero base ne h = elim (cases_lt (start kind) base) [
+  | inl less ↦ absurd (h.none (start kind) less (record {
+    fits = start_fits kind reloc ne;
+    outside = λ k d below. record { none = λ meet. nothing_met kind (start kind) _ meet };
+  }))
+  | inr up ↦ omega (arith, up, start_low kind)
+]
+
+pub found_below : (extents : List Extent) (kind : Kind) (reloc : Reloc) (size : ℕ) (found : Option ℕ) → kind ≢ Number
+    → MatchOption found (NoneIsClear extents kind reloc size) (λ base. IsFirstClear extents kind reloc size base)
+    → IfSome found (λ b. b < 65536)
+found_below extents kind reloc size None ne h = tt
+found_below extents kind reloc size (Some base) ne h = first_below extents kind reloc size base ne h
+
+-- Segments that are placed one after another: each at a base that is free.
+
+-- the two extents must not share a cell: one is no segment, or they are segments in conflict
+abbrev pub conflicts : GraphParts → Numbered → Numbered → Bool
+conflicts g e f = option_map_or (λ number. in_conflict_with g number e) f.number true
+
+pub record KeepApart (g : GraphParts) (e f : Numbered) : Type 0 where
+  pub none : conflicts g e f ≡ true → Meet (extent_at e.placed) (extent_at f.placed) → ⊥
+
+-- the segment is placed where it fits
+pub record IsPlacedRanked (t : Ranked) (e : Numbered) : Type 0 where
+  pub base : ℕ
+  pub is : e ≡ located_at t base
+  pub low : base < 65536
+  pub fits : Fits t.segment.kind t.segment.reloc base t.segment.size
+
+-- what is placed after earlier extents
+pub record AreAfter (g : GraphParts) (earlier : List Numbered) (order : List Ranked)
+    (located : List Numbered) : Type 0 where
+  pub later : List Numbered
+  pub are : located ≡ earlier ++ later
+  pub each : AllZip IsPlacedRanked order later
+  pub apart : Pairs (KeepApart g) located
+
+kept_apart : (cells : Extent) (test : Numbered → Bool) (xs : List Numbered)
+    → Every (IsApart cells) (map (λ (e : Numbered). e.placed) (filter test xs))
+    → Every (λ e. test e ≡ true → IsApart cells e.placed) xs
+kept_apart cells test [] h = tt
+kept_apart cells test (x ∷ xs) h = elim (cases_Bool (test x)) [
+  | inl passes ↦ let all = rw passes at h in (λ _. all.0, kept_apart cells test xs all.1)
+  | inr fails ↦ (λ is. absurd (false≢true (sym fails ∙ is)), kept_apart cells test xs (rw fails at h))
+]
+
+-- the base of a segment is free
+pub record IsFreeFor (g : GraphParts) (earlier : List Numbered) (t : Ranked) (base : ℕ) : Type 0 where
+  pub low : base < 65536
+  pub fits : Fits t.segment.kind t.segment.reloc base t.segment.size
+  pub apart : Every (λ e. in_conflict_with g t.number e ≡ true
+      → IsApart (extent_of t.segment.kind base t.segment.size) e.placed) earlier
+
+pub base_is_free : (g : GraphParts) (earlier : List Numbered) (t : Ranked) (base : ℕ) → base_for g earlier t ≡ Some base
+    → IsFreeFor g earlier t base
+base_is_free g earlier t base h =
+    let j = t.segment in
+    let others : List Placed = conflicting g t.number earlier in
+    let least = rw h at (least_is_least others j.kind j.reloc j.size) in
+    record {
+      low = least_low others j.kind j.reloc j.size base h;
+      fits = least.free.fits;
+      apart = kept_apart _ (in_conflict_with g t.number) earlier (all_every _ others least.free.apart);
+    }
+
+-- one more is placed, and then the others
+pub place_step : (g : GraphParts) (earlier : List Numbered) (t : Ranked) (more : List Ranked) (located : List Numbered)
+    (found : Option ℕ) → base_for g earlier t ≡ found
+    → option_map_or (λ base. place_after g (earlier ++ located_at t base ∷ []) more) found (Err (L12 t.segment.title))
+    ≡ Ok located
+    → (base : ℕ) × (base_for g earlier t ≡ Some base)
+    × (place_after g (earlier ++ located_at t base ∷ []) more ≡ Ok located)
+place_step g earlier t more located None is h = absurd (cc h)
+place_step g earlier t more located (Some base) is h = (base, is, h)
+
+pub are_after : (g : GraphParts) (order : List Ranked) (earlier located : List Numbered)
+    → Pairs (KeepApart g) earlier → place_after g earlier order ≡ Ok located → AreAfter g earlier order located
+are_after g [] earlier located apart h =
+    let same : earlier ≡ located = cc h in
+    record { later = []; are = sym same ∙ sym (append-nil earlier); each = tt; apart = rw (← same) apart }
+are_after g (t ∷ more) earlier located apart h =
+    let next = place_step g earlier t more located (base_for g earlier t) refl h in
+    let e : Numbered = located_at t next.0 in
+    let free = base_is_free g earlier t next.0 next.1 in
+    let rest =
+    are_after g more (earlier ++ e ∷ []) located
+    (pairs_push (KeepApart g) earlier e apart
+    (every_weaker _ (λ x. KeepApart g x e) earlier (λ x h. record { none = λ c. (h c).none }) free.apart)) next.2 in
+    record {
+      later = e ∷ rest.later;
+      are = rest.are ∙ append_assoc earlier (e ∷ []) rest.later;
+      each = (record { base = next.0; is = refl; low = free.low; fits = free.fits }, rest.each);
+      apart = rest.apart;
+    }
+
+-- what holds of each that is placed, by the ranked segment that it is
+pub zip_every : (P : Ranked → Type 0) (Q : Numbered → Type 0) (order : List Ranked) (later : List Numbered)
+    → ((t : Ranked) (e : Numbered) → IsPlacedRanked t e → P t → Q e) → AllZip IsPlacedRanked order later → Every P order
+    → Every Q later
+zip_every P Q [] [] f h all = tt
+zip_every P Q [] (e ∷ later) f h all = absurd h
+zip_every P Q (t ∷ order) [] f h all = absurd h
+zip_every P Q (t ∷ order) (e ∷ later) f h all = (f t e h.0 all.0, zip_every P Q order later f h.1 all.1)
+
+-- placing the first segments of an order, and then the others
+abbrev pub Answer : Type 0
+Answer = Result (List Numbered) Refusal
+
+abbrev pub and_then : Answer → (List Numbered → Answer) → Answer
+and_then (Ok es) f = f es
+and_then (Err refusal) f = Err refusal
+
+pub both_ok : (answer : Answer) (f : List Numbered → Answer) (z : List Numbered) → and_then answer f ≡ Ok z
+    → (es : List Numbered) × (answer ≡ Ok es) × (f es ≡ Ok z)
+both_ok (Ok es) f z h = (es, refl, h)
+both_ok (Err refusal) f z h = absurd (cc h)
+
+append_by : (g : GraphParts) (earlier : List Numbered) (t : Ranked) (more later : List Ranked) (found : Option ℕ)
+    → ((base : ℕ) → place_after g (earlier ++ located_at t base ∷ []) (more ++ later)
+    ≡ and_then (place_after g (earlier ++ located_at t base ∷ []) more) (λ es. place_after g es later))
+    → option_map_or (λ base. place_after g (earlier ++ located_at t base ∷ []) (more ++ later)) found
+    (Err (L12 t.segment.title))
+    ≡ and_then
+    (option_map_or (λ base. place_after g (earlier ++ located_at t base ∷ []) more) found (Err (L12 t.segment.title)))
+    (λ es. place_after g es later)
+append_by g earlier t more later None again = refl
+append_by g earlier t more later (Some base) again = again base
+
+pub place_append : (g : GraphParts) (first later : List Ranked) (earlier : List Numbered)
+    → place_after g earlier (first ++ later) ≡ and_then (place_after g earlier first) (λ es. place_after g es later)
+place_append g [] later earlier = refl
+place_append g (t ∷ more) later earlier =
+    append_by g earlier t more later (base_for g earlier t)
+    (λ base. place_append g more later (earlier ++ located_at t base ∷ []))
+
+-- Where overlaid DATA is placed in a run of open bytes: at its low end, or on an earlier segment in conflict.
+
+-- a cell of internal RAM
+abbrev pub ram : ℕ → Cell
+ram at = record { space = Ram; at = at }
+
+-- an extent covers no cell of these bytes of internal RAM
+abbrev pub IsOut : ℕ → ℕ → Placed → Type 0
+IsOut base size p = (at : ℕ) → 8 * base ≤ at → at < 8 * (base + size) → Covers (extent_at p) (ram at) → ⊥
+
+in_ram : (base size : ℕ) (c : Cell) → Covers (extent_of Direct base size) c → (c ≡ ram c.at) × (8 * base ≤ c.at)
+    × (c.at < 8 * (base + size))
+in_ram base size c h =
+    let from : 8 * base ≤ c.at = h.from in
+    let below : c.at < 8 * base + 8 * size = h.below in
+    (ap (λ (x : Space). record { space = x; at = c.at }) h.space, from, omega (arith, below))
+
+pub out_apart : (kind : Kind) (base size : ℕ) (p : Placed) → kind ≡ Direct → IsOut base size p
+    → IsApart (extent_of kind base size) p
+out_apart kind base size p direct out = record {
+  none = λ meet.
+      let of = in_ram base size meet.0 (subst (λ k. Covers (extent_of k base size) meet.0) direct meet.2) in
+      out meet.0.at of.1 of.2 (rw of.0 at meet.1);
+}
+
+pub apart_out : (kind : Kind) (base size : ℕ) (p : Placed) → kind ≡ Direct → IsApart (extent_of kind base size) p
+    → IsOut base size p
+apart_out kind base size p direct h at from below covers =
+    h.none (ram at, covers, rw direct (record { space = refl; from = from; below = omega (arith, below) }))
+
+-- Where a segment of DATA is seated: at the low end of the run, or on an earlier one.
+pub data IsSeated (g : GraphParts) (done : List Numbered) (t : Ranked) (low base : ℕ) : Type 0 where
+  AtLow : base ≡ low → IsSeated g done t low base
+  OnTop : (e : Numbered) → In e done → in_conflict_with g t.number e ≡ true → 0 < e.placed.size
+      → e.placed.base + e.placed.size ≡ base → IsSeated g done t low base
+
+-- an open byte is one of which no extent covers a cell
+pub open_out : (es : List Numbered) (byte : ℕ) → IsOpen es byte → Every (λ e. IsOut byte 1 e.placed) es
+open_out es byte h = every_weaker _ _ es (λ e. apart_out Direct byte 1 e.placed refl) (all_every _ es h.apart)
+
+pub out_open : (es : List Numbered) (byte : ℕ) → Every (λ e. IsOut byte 1 e.placed) es → IsOpen es byte
+out_open es byte h = record {
+  apart = every_all _ es (every_weaker _ _ es (λ e. out_apart Direct byte 1 e.placed refl) h);
+}
+
+-- of the extents that are in conflict one is not apart, if not all are
+some_meets : (cells : Placed → Bool) (test : Numbered → Bool) (xs : List Numbered)
+    → list_all cells (map (λ (e : Numbered). e.placed) (filter test xs)) ≡ false
+    → (e : Numbered) × In e xs × (test e ≡ true) × (cells e.placed ≡ false)
+some_meets cells test [] h = absurd (cc h)
+some_meets cells test (x ∷ xs) h = elim (cases_Bool (test x)) [
+  | inl passes ↦ let all = rw passes at h in elim (cases_Bool (cells x.placed)) [
+    | inl clear ↦ let rest = some_meets cells test xs (rw clear at all) in (rest.0, inr rest.1, rest.2, rest.3)
+    | inr meets ↦ (x, inl refl, passes, meets)
+  ]
+  | inr leaves ↦ let rest = some_meets cells test xs (rw leaves at h) in (rest.0, inr rest.1, rest.2, rest.3)
+]
+
+module _ (g : GraphParts) (front done : List Numbered) (t : Ranked) (low high base : ℕ)
+    (run : AreOneRun front low high) (against : Every (λ e. in_conflict_with g t.number e ≡ true) front)
+    (data_only : Every (λ e. e.placed.kind ≡ Direct) done) (kind : t.segment.kind ≡ Direct)
+    (reloc : t.segment.reloc ≡ UnitType) (some : 0 < t.segment.size)
+    (is : base_for g (front ++ done) t ≡ Some base) where
+  abbrev size : ℕ
+  size = t.segment.size
+
+  free : IsFreeFor g (front ++ done) t base
+  free = base_is_free g (front ++ done) t base is
+
+  -- it covers no cell of an extent in conflict
+  apart : (e : Numbered) → In e (front ++ done) → in_conflict_with g t.number e ≡ true → IsOut base size e.placed
+  apart e there conflict = apart_out t.segment.kind base size e.placed kind
+      (every_in _ (front ++ done) e free.apart there
+      conflict)
+
+  front_apart : (e : Numbered) → In e front → IsOut base size e.placed
+  front_apart e there = apart e (in_left front done e there) (every_in _ front e against there)
+
+  ends : base + size ≤ 0x80
+  ends = let fits = rw (kind, reloc) at free.fits in fits
+
+  -- its bytes are open
+  in_run : (byte : ℕ) → base ≤ byte → byte < base + size → (low ≤ byte) × (byte < high)
+  in_run byte from below =
+      (run.are byte (omega (arith, ends, below))).0
+      (out_open front byte (every_of _ front
+      (λ e there at p q. front_apart e there at (omega (arith, from, p)) (omega (arith, below, q)))))
+
+  pub not_below : low ≤ base
+  not_below = (in_run base (omega arith) (omega (arith, some))).0
+
+  pub not_past : base + size ≤ high
+  not_past = let last = in_run (base + size - 1) (omega (arith, some)) (omega (arith, some)) in
+      omega (arith, last.1, some)
+
+  -- one byte lower it is not free
+  abbrev lower : ℕ
+  lower = base - 1
+
+  clear_of : Placed → Bool
+  clear_of p = not (share (extent_at p) (extent_of t.segment.kind lower size))
+
+  blocked : 0 < base → list_all clear_of (conflicting g t.number (front ++ done)) ≡ false
+  unfolding least_base is_free clear_of
+  blocked above =
+      let fails = (find_first (is_free (conflicting g t.number (front ++ done)) t.segment.kind t.segment.reloc size)
+      65536 (Some base)
+      is).2 lower (omega arith) (omega (arith, above)) in
+      let direct : Fits Direct UnitType lower size = let h : lower + size ≤ 0x80 = omega (arith, ends) in h in
+      let fits = (fits_tells t.segment.kind t.segment.reloc lower size).1 (rw (kind, reloc) direct) in
+      rw fits at fails
+
+  -- a cell of the bytes one byte lower
+  abbrev Shared : Numbered → Type 0
+  Shared e = (at : ℕ) × (8 * lower ≤ at) × (at < 8 * (lower + size)) × Covers (extent_at e.placed) (ram at)
+
+  lower_cell : (e : Numbered) → clear_of e.placed ≡ false → Shared e
+  unfolding clear_of
+  lower_cell e h =
+      let meet =
+      (share_tells (extent_at e.placed) (extent_of t.segment.kind lower size)).0
+      (not-false (share (extent_at e.placed) (extent_of t.segment.kind lower size)) h) in
+      let of = in_ram lower size meet.0 (subst (λ k. Covers (extent_of k lower size) meet.0) kind meet.2) in
+      (meet.0.at, of.1, of.2, rw of.0 at meet.1)
+
+  -- an extent placed before the overlaid segments would cover the byte below, which is open
+  not_front : (e : Numbered) → low < base → In e front → Shared e → ⊥
+  not_front e above there s = elim (cases_lt s.0 (8 * base)) [
+    | inl less ↦
+        let clear = (run.are lower (omega (arith, above, ends))).1
+        (omega (arith, above), omega (arith, above, not_past, some)) in
+        every_in _ front e (open_out front lower clear) there s.0 s.1 (omega (arith, less, above)) s.3
+    | inr not_less ↦ front_apart e there s.0 not_less (omega (arith, s.2)) s.3
+  ]
+
+  -- an earlier one of DATA ends there
+  ends_there : (e : Numbered) → low < base → In e done → in_conflict_with g t.number e ≡ true → Shared e
+      → (0 < e.placed.size) × (e.placed.base + e.placed.size ≡ base)
+  ends_there e above there conflict s =
+      let first : ℕ = e.placed.base in
+      let len : ℕ = e.placed.size in
+      let direct = every_in _ done e data_only there in
+      let covers = in_ram first len (ram s.0) (subst (λ k. Covers (extent_of k first len) (ram s.0)) direct s.3) in
+      let outside : (at : ℕ) → 8 * base ≤ at → at < 8 * (base + size) → 8 * first ≤ at → at < 8 * (first + len) → ⊥ =
+      λ at p q r u. apart e (in_right front done e there) conflict at p q
+      (subst (λ k. Covers (extent_of k first len) (ram at)) (sym direct)
+      (record { space = refl; from = r; below = omega (arith, u) })) in (
+        omega (arith, covers.1, covers.2),
+        elim (cases_lt base (first + len)) [
+          | inr not_more ↦ omega (arith, not_more, covers.2, s.1, above)
+          | inl more ↦ elim (cases_lt base first) [
+            | inl later ↦ absurd
+                (outside (8 * first) (omega (arith, later)) (omega (arith, covers.1, s.2, above)) (omega arith)
+                (omega (arith, covers.1, covers.2)))
+            | inr not_later ↦ absurd
+                (outside (8 * base) (omega arith) (omega (arith, some)) (omega (arith, not_later))
+                (omega (arith, more)))
+          ]
+        ],
+      )
+
+  pub seated : IsSeated g done t low base
+  seated = elim (cases_lt low base) [
+    | inr same ↦ AtLow (omega (arith, same, not_below))
+    | inl above ↦
+        let found = some_meets clear_of (in_conflict_with g t.number) (front ++ done) (blocked (omega (arith, above)))
+        in
+        let s = lower_cell found.0 found.3 in
+        elim (in_cases front done found.0 found.1) [
+          | inl in_front ↦ absurd (not_front found.0 above in_front s)
+          | inr in_done ↦ let there = ends_there found.0 above in_done found.2 s in
+              OnTop found.0 in_done found.2 there.0 there.1
+        ]
+  ]

@@ -1,0 +1,102 @@
+-- Cycles in which nothing happens.
+use Rattle.m51_sim.proofs.Common.{◌≡◌, ℕ, zero, suc, List, [], Option, refl, sym, subst, ap, ◌∙◌, arith, length}
+use Rattle.m51_sim.proofs.Common.{frames_in, inputs_of, with_extra, Cpu, Effect, Inputs, Pins}
+use Rattle.std.specs.Prelude.{◌+◌, ◌-◌, ◌^◌, ◌≤◌, ◌++◌, ◌==◌, None, Some, min, nat_le}
+use Rattle.m51_cells.specs.declared.event.Entry.{Entry}
+use Rattle.m51_timers_uart.specs.declared.receiving.Frame.{Frame}
+use Rattle.m51_timers_uart.specs.declared.periph.Periph.{Periph}
+use Rattle.m51_timers_uart.specs.LineLaws.{written_to}
+use Rattle.m51_timers_uart.specs.Resting.{AreResting, looked_at}
+use Rattle.m51_timers_uart.specs.Sending.{Ticked}
+use Rattle.m51_timers_uart.specs.Tick.{ticked}
+use Rattle.m51_timers_uart.proofs.Resting.{still_rest, tick_stays}
+use Rattle.m51_script.specs.declared.script.Script.{Script}
+use Rattle.m51_script.specs.Levels.{all_high, levels_after}
+use Rattle.m51_script.specs.Timing.{those}
+use Rattle.m51_sim.specs.declared.cycles.Passing.{Passing}
+use Rattle.m51_sim.specs.declared.cycles.Timed.{Timed}
+use Rattle.m51_sim.specs.Cycles.{Rests, after_tick, cycle_passed, cycles_passed, first_sent, next_cycle}
+use Rattle.m51_sim.proofs.Alone.{none_arrive}
+
+-- in each cycle the tick of these leaves them as they are, and no byte has been sent
+abbrev IsQuiet : Inputs → Passing → Type 0
+IsQuiet inputs p =
+    (cycle : ℕ) → ticked p.cpu (inputs.pins cycle) (inputs.frames cycle) p.periph
+    ≡ record { cpu = p.cpu; periph = p.periph; sent = None }
+
+-- a script without lines gives the same in each cycle
+module _ (script : Script) (extra : List Timed) (pins : script.pins.cycles ≡ []) (frames : script.frames.cycles ≡ [])
+    (alone : length extra ≡ 0) where
+  same_pins : (cycle : ℕ) → (inputs_of script).pins cycle ≡ all_high
+  same_pins cycle =
+      ap (λ (cs : List ℕ). levels_after all_high (those (λ d. nat_le d cycle) cs script.pins.items)) pins
+
+  no_frames : (cycle : ℕ) → (with_extra extra (inputs_of script)).frames cycle ≡ []
+  no_frames cycle =
+      ap (λ (cs : List ℕ). those (λ d. d == cycle) cs script.frames.items ++ frames_in cycle extra) frames
+      ∙ none_arrive extra alone cycle
+
+  quiet : (p : Passing) → AreResting p.cpu all_high p.periph → IsQuiet (with_extra extra (inputs_of script)) p
+  quiet p rest cycle =
+      ap (λ (e : Pins). ticked p.cpu e ((with_extra extra (inputs_of script)).frames cycle) p.periph) (same_pins cycle)
+      ∙ ap (λ (fs : List Frame). ticked p.cpu all_high fs p.periph) (no_frames cycle)
+      ∙ tick_stays p.cpu all_high p.periph rest
+
+none_sent : (sent : Option Entry) → first_sent sent None ≡ sent
+none_sent None = refl
+none_sent (Some e) = refl
+
+abbrev later : (p : Passing) → ℕ → Passing
+later p cycle = record { cpu = p.cpu; periph = p.periph; cycle = cycle; sent = p.sent }
+
+next_is : (c n : ℕ) → next_cycle (min (c + n) (2 ^ 64 - 1)) ≡ min (c + suc n) (2 ^ 64 - 1)
+next_is c n = omega arith
+
+one_passes : (inputs : Inputs) (p : Passing) (cycle : ℕ) → IsQuiet inputs p
+    → cycle_passed inputs (later p cycle) ≡ later p (next_cycle cycle)
+unfolding cycle_passed
+one_passes inputs p cycle h =
+    ap (λ (t : Ticked). after_tick (next_cycle cycle) p.sent t) (h (next_cycle cycle))
+    ∙ ap (λ (s : Option Entry). record { cpu = p.cpu; periph = p.periph; cycle = next_cycle cycle; sent = s })
+    (none_sent p.sent)
+
+quiet_passes : (inputs : Inputs) (count : ℕ) (p : Passing) → p.cycle ≤ 2 ^ 64 - 1 → IsQuiet inputs p
+    → record p { cycle = min (p.cycle + count) (2 ^ 64 - 1) } ≡ cycles_passed inputs count p
+unfolding cycles_passed
+quiet_passes inputs zero p most h = ap (later p) (omega (arith, most))
+quiet_passes inputs (suc n) p most h =
+    ap (later p) (sym (next_is p.cycle n))
+    ∙ sym (one_passes inputs p (min (p.cycle + n) (2 ^ 64 - 1)) h)
+    ∙ ap (cycle_passed inputs) (quiet_passes inputs n p most h)
+
+-- where the devices rest and no further frame comes, cycles only pass
+pub rest_passes : (script : Script) (extra : List Timed) (count : ℕ) (p : Passing) → p.cycle ≤ 2 ^ 64 - 1
+    → length extra ≡ 0 → Rests script p
+    → record p { cycle = min (p.cycle + count) (2 ^ 64 - 1) }
+    ≡ cycles_passed (with_extra extra (inputs_of script)) count p
+rest_passes script extra count p most alone rest =
+    quiet_passes (with_extra extra (inputs_of script)) count p most
+    (quiet script extra rest.pins rest.frames alone p rest.devices)
+
+-- and they rest after them
+pub rest_lasts : (script : Script) (p q : Passing) (cycle : ℕ) → q ≡ record p { cycle = cycle } → Rests script p
+    → Rests script q
+rest_lasts script p q cycle e h =
+    subst (Rests script) (sym e) (record { pins = h.pins; frames = h.frames; devices = h.devices })
+
+none_begins : (cpu : Cpu) (sbuf : Option ℕ) (p : Periph) → sbuf ≡ None → p ≡ written_to cpu sbuf p
+none_begins cpu None p h = refl
+none_begins cpu (Some byte) p h = absurd (cc h)
+
+-- devices that rest do so after an effect that sends nothing and keeps the registers that show it
+pub rest_stays : (script : Script) (p q : Passing) (e : Effect) → Rests script p → looked_at p.cpu ≡ looked_at e.cpu
+    → e.sbuf ≡ None → q.cpu ≡ e.cpu → q.periph ≡ written_to e.cpu e.sbuf p.periph → Rests script q
+rest_stays script p q e rest same none is begun =
+    let still = still_rest p.cpu e.cpu same all_high p.periph rest.devices in
+    let kept = none_begins e.cpu e.sbuf p.periph none ∙ sym begun in
+    record {
+      pins = rest.pins;
+      frames = rest.frames;
+      devices = subst (λ (c : Cpu). AreResting c all_high q.periph) (sym is)
+          (subst (λ (d : Periph). AreResting e.cpu all_high d) kept still);
+    }

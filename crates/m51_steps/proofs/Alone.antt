@@ -1,0 +1,47 @@
+-- A run with notes that are empty is the record of the run.
+use Rattle.std.proofs.Common.{◌≡◌, ℕ, zero, suc, ◌+◌, List, [], ◌++◌, Some, None, Result, Ok, Err, refl, sym, ap, ◌∙◌}
+use Rattle.std.proofs.Common.{append_assoc, zero-add, add-zero, arith}
+use Rattle.std.specs.Prelude.{flat_map}
+use Rattle.std.proofs.lemmas.Grind.{flat_map-append}
+use Rattle.m51_cells.specs.declared.event.Event.{Event}
+use Rattle.m51_print.specs.Lines.{entry_line, last_line}
+use Rattle.m51_sim.specs.Run.{entry_lines, record_text}
+use Rattle.m51_sim.specs.Runs.{Machine, Performed, Record, State, entries_of, record_from, record_of}
+use Rattle.m51_steps.specs.Noted.{Notes, after_note, follows, noted}
+
+-- the text of a record that begins after some steps
+abbrev pub text_after : {M : Type 0} → List (List ℕ) → ℕ → Record M → List ℕ
+text_after titles done r = entry_lines r ++ last_line titles r.event (done + r.steps) r.last.cycle
+
+module _ {M : Type 0} (titles : List (List ℕ)) (machine : Machine M) where
+  abbrev none : Notes M
+  none done before s = []
+
+  by_step : (left done : ℕ) (s : State M) (r : Result (Performed M) Event)
+      → ((t : State M) → follows titles machine none left (suc done) t
+      ≡ text_after titles (suc done) (record_of machine left t))
+      → after_note titles done s (λ t. follows titles machine none left (suc done) t) r
+      ≡ text_after titles done (record_from s (record_of machine left) r)
+  by_step left done s (Ok step) rest =
+      let r = record_of machine left step.state in
+      let count : suc done + r.steps ≡ done + suc r.steps = omega arith in
+      ap (λ t. flat_map entry_line (entries_of step.told) ++ t) (rest step.state)
+      ∙ sym (append_assoc (flat_map entry_line (entries_of step.told)) (entry_lines r) _)
+      ∙ ap (λ t. t ++ last_line titles r.event (suc done + r.steps) r.last.cycle)
+      (sym (flat_map-append entry_line (entries_of step.told) r.entries))
+      ∙ ap (λ c. flat_map entry_line (entries_of step.told ++ r.entries) ++ last_line titles r.event c r.last.cycle)
+      count
+  by_step left done s (Err event) rest = ap (λ (c : ℕ). last_line titles (Some event) c s.cycle) (sym (add-zero done))
+
+  follows_alone : (left done : ℕ) (s : State M)
+      → follows titles machine none left done s ≡ text_after titles done (record_of machine left s)
+  unfolding follows record_of
+  follows_alone zero done s = ap (λ (c : ℕ). last_line titles None c s.cycle) (sym (add-zero done))
+  follows_alone (suc left) done s = by_step left done s (machine s) (λ t. follows_alone left (suc done) t)
+
+  pub alone : (n : ℕ) (first : State M)
+      → noted titles machine none n first ≡ record_text titles (record_of machine n first)
+  alone n first = follows_alone n 0 first
+      ∙ ap (λ c. entry_lines (record_of machine n first)
+      ++ last_line titles (record_of machine n first).event c (record_of machine n first).last.cycle)
+      (zero-add (record_of machine n first).steps)

@@ -1,0 +1,13 @@
+pub mod Pieces
+pub mod Places
+pub mod Codes
+pub mod Cells
+pub mod Listed
+pub mod Shown
+pub mod Tabled
+pub mod Counted
+pub mod UnderWay
+pub mod Alone
+pub mod Moved
+pub mod Running
+pub mod Ended

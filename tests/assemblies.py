@@ -53,7 +53,18 @@ class Drawn:
             lines.append((None, 'SET', ('V0', self.rng.choice(NUMBERS))))
         for name in self.rng.sample([*self.above], self.rng.choice([0, 0, 1, 3])):
             lines.insert(self.rng.randint(0, len(lines)), (None, 'PUBLIC', (name,)))
+        if self.chance(0.1):
+            lines.insert(self.rng.randint(0, len(lines)), self.again(lines))
         return lines
+
+    def again(self, lines):
+        """A line that defines a name of the source a second time, or makes it public twice."""
+        name = self.rng.choice([*self.segments, *(label for label, _, _ in lines if label), 'X0', 'X1'])
+        number = self.rng.choice(NUMBERS)
+        return self.rng.choice([
+            (name, 'NONE', ()), (None, 'EQU', (name, number)), (None, 'SET', (name, number)),
+            (None, 'PUBLIC', (name, name)), (None, 'SEGMENT', (name, CODE, UNIT, False)),
+            (None, 'EXTRN', (CODE, [name])), (None, 'ADDRESS', (name, DATA, 0x20))])
 
     def segment(self, name, kind):
         types = {CODE: [UNIT, INPAGE, INBLOCK, PAGE], XDATA: [UNIT, INPAGE, PAGE], DATA: [UNIT, BITADDRESSABLE]}

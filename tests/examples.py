@@ -59,8 +59,10 @@ def include_differs(path):
     images = []
     for source, given in ('CSEG AT 0\n' + values, []), *((text, [path.name]) for text in texts):
         files = {'a.a51': source.encode(), path.name: path.read_bytes()}
-        answer = run_in_folder(['build', '--hex', 'a.hex', '--steps', '1', 'a.a51', *given], files)
-        images.append(answer[2].get('a.hex', answer[1]))
+        status, text, left = run_in_folder(['build', '--hex', 'a.hex', '--steps', '1', 'a.a51', *given], files)
+        if status not in (0, 1) or not left.get('a.hex'):
+            return f'{status} {text[:200]!r}'
+        images.append(left['a.hex'])
     return None if images[0] == images[1] == images[2] else f'{images[1][:200]!r}'
 
 

@@ -27,7 +27,7 @@ PAGES = ('README.md', *(f'docs/{name}.md' for name in 'TUTORIAL PROJECT PORTING 
 COMMANDS = 'm51 ./m51 ../m51 ../../m51 cat cd cp diff echo grep m4 make mkdir mv printf rm sed srec_cat tail'.split()
 # Commands that not every machine has: without one its block and its answer are left out.
 OPTIONAL = ('m4', 'srec_cat')
-FILE = re.compile(r'`?([\w./-]+\.(?:a51|brd|ctl|hex|inc|py|txt|want)|Makefile)`?( holding|:)$')
+FILE = re.compile(r'`?([\w./-]+\.(?:a51|asm|brd|ctl|hex|inc|py|txt|want)|Makefile)`?( holding|:)$')
 EDIT = re.compile(r'[Ww]rite `([^`]*)` instead of `([^`]*)` in `?([\w./-]+\w)')
 ADD = re.compile(r'[Aa]dd the line `([^`]*)` after `([^`]*)` in `?([\w./-]+\w)')
 SPAN = re.compile(r'`([^`]+)`')

@@ -1,21 +1,25 @@
 """Runs of the built program in a folder of their own."""
+import os
 import pathlib
 import subprocess
 import sys
 import tempfile
 
 TESTS = pathlib.Path(__file__).resolve().parent
-PROGRAM = TESTS.parent / 'crates' / 'm51' / 'out' / 'm51'
+# As for the script m51, this asks for the unproved program.
+IS_UNPROVED = bool(os.environ.get('M51_UNPROVED'))
+PROGRAM = TESTS.parent / 'crates' / 'm51' / 'out' / ('m51-unproved' if IS_UNPROVED else 'm51')
 # The stored cases, which m51_rows runs too.
 ROWS = TESTS.parent / 'crates' / 'm51_rows' / 'data'
-# The most that a run may take.
-SECONDS = 120
+# The most that a run may take; the unproved program is slower.
+SECONDS = 600 if IS_UNPROVED else 120
 
 
 def stop_unless_built(program=PROGRAM):
     """Ends with status 2 and one line if there is no program to test."""
     if not program.is_file():
-        print(f'{program} is not built: rt ci, at the top of the repository, builds it', file=sys.stderr)
+        print(f'{program} is not built: rt ci, at the top of the repository, builds it; tests/run --unproved tests the '
+              'unproved program', file=sys.stderr)
         sys.exit(2)
 
 

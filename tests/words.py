@@ -32,11 +32,18 @@ def given(text):
     return words, {words.split()[-1]: data}
 
 
+def has_run(status, written):
+    """Whether a text ends with the last line of a run, and the status is that of the line."""
+    last = (written.splitlines() or [b''])[-1].split(b' ')[0]
+    return (status, last) in ((0, b'END'), (1, b'EVENT'))
+
+
 def has_image(wanted, ran):
-    """Whether the kept HEX file has the bytes that a row such as `1000:3433` wants."""
+    """Whether it is run, and the kept HEX file has the bytes that a row such as `1000:3433` wants."""
     at, digits = wanted.split(':')
     image = objects.read_hex(ran[2].get('h', b''))
-    return all(image.get(int(at, 16) + offset) == byte for offset, byte in enumerate(bytes.fromhex(digits)))
+    has_bytes = all(image.get(int(at, 16) + offset) == byte for offset, byte in enumerate(bytes.fromhex(digits)))
+    return has_run(*ran[:2]) and has_bytes
 
 
 def is_right_for(answer, files):

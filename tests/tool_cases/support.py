@@ -1,4 +1,5 @@
 """What the tests of the script and of the tools share."""
+import hashlib
 import os
 import pathlib
 import shutil
@@ -14,8 +15,11 @@ sys.path.insert(0, str(TOOLS))
 import sources  # noqa: E402
 
 PROGRAM = os.environ.get('M51') or sources.proved() or sources.unproved()
-# The tools find the program by this.
-os.environ['M51'] = PROGRAM or ''
+# The tools find the programs by these. Where m51-trace is not built, a second one takes its place.
+os.environ['M51_PROGRAM'] = PROGRAM or ''
+TRACE = os.environ.get('M51_TRACE') or sources.proved(sources.TRACE) or sources.unproved(sources.TRACE)
+SECOND_TRACE = str(TOP / 'tests' / 'tool_cases' / 'second_trace.py')
+os.environ['M51_TRACE'] = TRACE or SECOND_TRACE
 
 
 def ran(words, text='', folder=TUTORIAL, status=0, **how):
@@ -36,6 +40,32 @@ def tool(name, *words, **how):
 def build(*words, **how):
     """The answer of a build."""
     return ran([PROGRAM, 'build', *words], **how)
+
+
+def sum_of(path):
+    """The sha256 sum of a file."""
+    with open(path, 'rb') as file:
+        return hashlib.sha256(file.read()).hexdigest()
+
+
+def on_terminal(words, **environment):
+    """What a command writes to a terminal, from which nothing comes; and its status."""
+    main, other = os.openpty()
+    done = subprocess.run(list(map(str, words)), stdin=other, stdout=other, stderr=other, timeout=60,
+                          env={**os.environ, **environment})
+    os.close(other)
+    text = b''
+    try:
+        while True:
+            part = os.read(main, 65536)
+            if not part:
+                break
+            text += part
+    except OSError:
+        # A terminal that nobody holds ends so.
+        pass
+    os.close(main)
+    return done.returncode, text.decode('latin-1').replace('\r\n', '\n')
 
 
 class Folder(unittest.TestCase):

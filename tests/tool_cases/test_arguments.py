@@ -14,7 +14,12 @@ FORMS = (
     '', 'a.a51', '--steps 4', '--steps 4 a.a51', '--steps 4 a.a51 b.a51', '--out /dev/null', '--out /dev/null a.a51',
     '--out /dev/null a.a51 b.a51', '--out /dev/null a.inc', '-- a.a51', '--control c a.a51',
     '--script c --steps 4 a.hex', '--hex', '--step 4 a.a51', '--steps 4 --steps 4 a.a51', 'list', 'list l.lib',
-    'lst l.lib', 'a.a51 --steps 4', '--hex - --steps 4 a.a51', '--hex -x --steps 4 a.a51')
+    'lst l.lib', 'build', 'build l.lib', 'build l.lib o.obj', 'build l.lib x', 'add l.lib', 'add l.lib o',
+    'replace l.lib',
+    'delete l.lib', 'delete l.lib M', 'delete l.lib m n', 'delete l.lib 9X', 'delete l.lib scale.obj', 'raise l.lib',
+    'raise l.lib ?m', 'raise l.lib A', 'raise l.lib mov', 'extract l.lib', 'extract l.lib A', 'extract l.lib A B',
+    'extract l.lib ' + 31 * 'n', 'extract l.lib ' + 32 * 'n', 'list l.lib more', 'a.a51 --steps 4',
+    '--hex - --steps 4 a.a51', '--hex -x --steps 4 a.a51')
 
 
 def calls():
@@ -29,6 +34,8 @@ def calls():
     for verb in (*arguments.VERBS, 'run', ''):
         for form in FORMS:
             yield [verb, *form.split()]
+    for operation in arguments.OPERATIONS:
+        yield from (['lib', operation, *words] for words in ([''], ['l.lib', ''], ['l.lib', 'a', ''], ['', 'a']))
     for count in range(10):
         yield ['party', '--steps', '4', *['a.a51'] * count]
     yield ['gen', '--units', '1', '--start', '1', '--steps', '1', 'a.a51']
@@ -54,4 +61,5 @@ class Arguments(unittest.TestCase):
                 ('lib list l', ['l'], [], []),
                 ('lib', [], [], [])):
             found = [function(words.split()) for function in (arguments.inputs, arguments.made, arguments.kept)]
+            found[1] = [name for _, name in found[1]]
             self.assertEqual(found, [read, made, kept], words)

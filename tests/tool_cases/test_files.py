@@ -3,7 +3,7 @@ import os
 
 import listings
 import m51files
-from support import Folder
+from support import SHARED, Folder
 
 # The object of docs/OBJECTS.md.
 OBJECT = bytes.fromhex('02040001 4101B7 0E0900000000000005 0000E4 0609000100007590 5580FE18 04040001 4101B5')
@@ -60,4 +60,9 @@ class Files(Folder):
         names = {'dir/main.a51': 'MAIN', '8051-x.y.a51': 'M8051XY', '-.a51': 'M', 'a' * 40 + '.a51': 'A' * 31}
         self.assertEqual({path: listings.module_name(path) for path in names}, names)
 
-
+    def test_a_map_that_is_cut(self):
+        lines = SHARED.splitlines()
+        self.assertEqual(m51files.Map(lines).image, 35)
+        for count in range(lines.index('IMAGE 35 BYTES') + 1):
+            with self.assertRaises(m51files.BadFile):
+                m51files.Map(lines[:count])

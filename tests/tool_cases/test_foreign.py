@@ -57,7 +57,7 @@ class Foreign(Folder):
                   'Z: DS 1 / END')
         self.keep('h.a51', 'EXTRN DATA (Z) / CSEG AT 0 / MOV A,Z / MOV R0,#LOW(Z) / SJMP $ / END')
         answer = build('--steps', '1', 'h.a51', 'g.a51', folder=self.folder, status=1)
-        said = tool('foreign', 'g.a51', 'h.a51', text=answer, folder=self.folder, status=1)
+        said = tool('foreign', 'h.a51', 'g.a51', text=answer, folder=self.folder, status=1)
         self.assertEqual(
             said.splitlines(),
             [f'h.a51({line}): @0000 uses Z, a local of ?PR?G, which need not be active then' for line in (3, 4)])

@@ -43,7 +43,7 @@ class Pages(Folder):
         return ran(['bash', '-c', script, TOP / 'completions' / 'm51.bash', *words], folder=self.folder).split()
 
     def test_completions_of_bash(self):
-        verbs = [*arguments.VERBS, *arguments.TOOLS, '--help', '--version']
+        verbs = [*arguments.VERBS, *arguments.TOOLS, 'help', '--help', '--version']
         self.assertEqual(sorted(self.completed('m51', '')), sorted(verbs))
         for verb, (words, _) in arguments.VERBS.items():
             options = [word.strip('[]') for word in words.split() if '--' in word]
@@ -59,6 +59,23 @@ class Pages(Folder):
         self.assertEqual(self.completed('m51', 'asm', ''), ['a.a51'])
         self.assertEqual(sorted(self.completed('m51', 'build', '')), ['a.a51', 'c.obj', 'd.lib'])
         self.assertEqual(self.completed('m51', 'lib', 'add', ''), ['d.lib'])
+        self.assertEqual(self.completed('m51', 'lib', 'add', 'd.lib', ''), ['c.obj'])
+        for words in (['where', '-m', ''], ['symbols', '--map', ''], ['foreign', '--map', '=', 'e']):
+            self.assertIn('e.txt', self.completed('m51', *words), words)
+        self.assertEqual(self.completed('m51', 'build', '--hex', '='), ['b.hex'])
+        self.assertEqual(self.completed('m51', 'build', '--hex', '=', 'b'), ['b.hex'])
+        self.assertEqual(self.completed('m51', 'where', '-a', ''), [])
+        self.assertEqual(self.completed('m51', 'help', ''), [*arguments.VERBS, *arguments.TOOLS])
+        self.assertEqual(self.completed('m51', 'explain', 'NO'), ['NOUNIT', 'NOEDGE', 'NOTCALLED', 'NOHANDLER'])
+        self.assertEqual(self.completed('m51', 'explain', '7'), ['7', '70'])
+        self.assertEqual(self.completed('m51', 'symbols', '--format', ''), ['cdb', 'lst', 'json'])
+        os.symlink(PROGRAM, self.path('m51'))
+        self.keep('p.a51', 'NAME PART / END')
+        ran([PROGRAM, 'asm', '--out', 'p.obj', 'p.a51'], folder=self.folder)
+        os.remove(self.path('d.lib'))
+        ran([PROGRAM, 'lib', 'build', 'd.lib', 'p.obj'], folder=self.folder)
+        for operation in ('delete', 'raise', 'extract'):
+            self.assertEqual(self.completed('./m51', 'lib', operation, 'd.lib', ''), ['PART'])
 
     def test_completions_of_zsh(self):
         text = (TOP / 'completions' / '_m51').read_text()

@@ -1,8 +1,7 @@
 """ram: the text and the picture."""
-import unittest
 import xml.etree.ElementTree
 
-from support import SHARED, tool
+from support import SHARED, TOOLS, Folder, on_terminal, tool
 
 SPACE = '{http://www.w3.org/2000/svg}'
 
@@ -20,7 +19,7 @@ def coloured(picture, byte):
             yield float(box.get('y')), float(box.get('height'))
 
 
-class Ram(unittest.TestCase):
+class Ram(Folder):
     def test_text(self):
         lines = tool('ram', text=SHARED).splitlines()
         for line in (
@@ -72,3 +71,21 @@ class Ram(unittest.TestCase):
     def test_no_map(self):
         tool('ram', text='LINK L8\n', status=2)
         tool('ram', 'nosuch', status=2)
+
+    def test_colours(self):
+        """On a terminal, but not where somebody asks for none."""
+        self.keep('m.map', SHARED)
+        words = [TOOLS / 'ram', self.path('m.map')]
+        for environment, is_coloured in (
+                ({'TERM': 'xterm', 'NO_COLOR': ''}, True), ({'TERM': 'dumb', 'NO_COLOR': ''}, False),
+                ({'TERM': 'xterm', 'NO_COLOR': '1'}, False)):
+            self.assertEqual('\x1b[' in on_terminal(words, **environment)[1], is_coloured, environment)
+        for word in ('--colour', '--color'):
+            self.assertIn('\x1b[', tool('ram', word, text=SHARED))
+        self.assertEqual(tool('ram', '-', text=SHARED), tool('ram', text=SHARED))
+
+    def test_a_terminal_and_no_map(self):
+        for words in (['ram'], ['wave'], ['serial', 'tx'], ['symbols', '--format', 'lst', 'a.a51'], ['where', 'a.a51']):
+            status, said = on_terminal([TOOLS / words[0], *words[1:]])
+            self.assertEqual(status, 2, words)
+            self.assertIn('missing', said)

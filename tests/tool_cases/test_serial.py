@@ -32,3 +32,8 @@ class Serial(Folder):
         self.keep('e.brd', tool('serial', 'rx', '--at', '100', '--every', '500', 'echo 1'))
         answer = build('--script', 'e.brd', '--steps', '3000', 'e.a51', folder=self.folder)
         self.assertEqual(tool('serial', 'tx', text=answer), 'echo 1')
+
+    def test_no_trace(self):
+        self.assertEqual(tool('serial', 'tx', text='        CSEG AT 0\n        END\n', status=2), '')
+        self.assertEqual(tool('serial', 'tx', text='RUN\n'), '')
+        self.assertEqual(tool('serial', status=2), '')

@@ -58,6 +58,18 @@ class Unproved(StandIn):
         self.call(*GEN, VERSION='kit 2')
         self.assertEqual(self.compiled(), 4, 'a source less')
 
+    def test_another_kit(self):
+        """What the kit of VERSION compiled stays right beside another kit; another one is named before it compiles."""
+        with open(self.path('top', 'VERSION')) as file:
+            kit = file.read().splitlines()[1]
+        self.assertNotIn('these sources need', self.call(*GEN, VERSION=kit)[2])
+        self.script('bin/rt', TOOLCHAIN + '# another one\n')
+        self.assertEqual(self.call(*GEN, VERSION='kit 9')[0], 0)
+        self.assertEqual(self.compiled(), 1)
+        self.change_source('fn other')
+        self.assertIn(f'/bin/rt is kit 9, and these sources need {kit}\n', self.call(*GEN, VERSION='kit 9')[2])
+        self.assertEqual(self.compiled(), 2)
+
     def test_beside_a_proved_program(self):
         self.prove()
         self.assertEqual(self.call(*GEN)[1].split()[0], 'm51')

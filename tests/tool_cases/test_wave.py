@@ -95,3 +95,8 @@ class Wave(Folder):
 
     def test_no_trace(self):
         tool('wave', text='LINK L8\n', status=2)
+
+    def test_arguments(self):
+        for words in (['--mhz', '0'], ['--mhz', '-1'], ['--mhz', 'nan'], ['--mhz', 'inf'], ['--from', '3'],
+                      ['--to', '9']):
+            self.assertEqual(tool('wave', *words, text=TRACE, status=2), '', words)

@@ -60,5 +60,23 @@ class Where(Folder):
 
     def test_refused(self):
         ran([TOOLS / 'where'], status=2)
+        self.keep('m.map', build('--steps', '1', *FILES))
+        for address in ('29H', '0x29', '0029', '29'):
+            said = tool('where', '-m', self.path('m.map'), '-a', address, *FILES)
+            self.assertTrue(said.startswith('0029 main.a51(39)'), address)
+        for address in ('G', '10000', '', '29HH', '-1'):
+            tool('where', '-m', self.path('m.map'), f'--address={address}', *FILES, status=2)
         for text, file in (('SEGMENTS\n', 'nosuch.obj'), ('LINK L8\n', 'main.a51'), ('SEGMENTS\n', 'main.c')):
             self.assertEqual(tool('where', file, text=text, folder=TUTORIAL, status=2), '')
+
+    def test_a_label_alone(self):
+        """A line with a label and nothing else does not hide the statement below it, in any tool."""
+        self.keep('a.a51', 'CSEG AT 0 / START: / MOV P1,#1 / LAST: / SJMP LAST / END')
+        self.keep('m.map', build('--steps', '3', 'a.a51', folder=self.folder))
+        found = tool('where', '-m', 'm.map', '-a', '0', '-a', '2', '-a', '3', '-a', '4', 'a.a51', folder=self.folder)
+        self.assertEqual(found, ''.join(f'{line}\n' for line in (
+            '0000 a.a51(3), START: MOV P1,#1', '0002 a.a51(3), START+2: MOV P1,#1', '0003 a.a51(5), LAST: SJMP LAST',
+            '0004 a.a51(5), LAST+1: SJMP LAST')))
+        self.assertIn(' a.a51(4) @0000\n', tool('where', '-m', 'm.map', 'a.a51', folder=self.folder))
+        records = tool('symbols', '--format', 'cdb', '-m', 'm.map', 'a.a51', folder=self.folder)
+        self.assertIn('L:A$a$3:0\n', records)

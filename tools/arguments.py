@@ -3,6 +3,7 @@
 Nothing here decides what the program does. tests/tools compares `wrong` with the calls that the program refuses.
 """
 import os
+import re
 
 USAGE = 'usage: m51 build [--control F] [--script F] [--hex F] --steps N FILE..'
 VERBS = {
@@ -22,6 +23,14 @@ TOOLS = {
     'wave': ('[--script F] RECORD', 'writes a run for a viewer of waveforms'),
     'serial': ('rx TEXT.. | tx RECORD', 'text to lines of a script, and a run to text'),
     'foreign': ('-m MAP FILE..', 'finds uses of locals of other units'),
+    'trace': ('[--ram | --counts] --steps N FILE..', 'writes what happens inside a run'),
+    'profile': ('[--calls] [--html P] --steps N FILE..', 'says where a run spends its cycles'),
+    'cover': ('[--at-least N] [--html P] --steps N FILE..', 'says which lines a run has executed'),
+    'debug': ('[--commands C] --steps N FILE..', 'goes through a run, forwards and back'),
+    'report': ('--out P --steps N FILE..', 'writes one page of a program and a run'),
+    'expand': ('[--out F] [-D NAME=VALUE] FILE', 'writes macros and conditions of a source out'),
+    'port': ('--from as31|sdas|asem|mcu8051ide FILE', 'edits a source of another assembler for m51'),
+    'symbols': ('--format cdb|omf|lst|json -m MAP FILE..', 'symbols, lines, a listing with final addresses'),
 }
 OPERATIONS = ('build', 'add', 'replace', 'delete', 'raise', 'extract', 'list')
 LINKED = ('.a51', '.inc', '.obj', '.lib')
@@ -30,6 +39,12 @@ BOUNDS = {'--steps': (1, 10_000_000), '--units': (1, 100), '--start': (0, 4_294_
 # Endings that other tools give to the same files.
 LIKELY = {'.asm': '.a51', '.s': '.a51', '.src': '.a51', '.s51': '.a51', '.a': '.lib', '.rel': '.obj', '.o': '.obj'}
 LIKELY['.h'] = '.inc'
+# Words by which other tools call the same.
+OTHER_VERBS = {'assemble': 'asm', 'as': 'asm', 'link': 'build', 'ld': 'build', 'run': 'build', 'sim': 'build',
+               'library': 'lib', 'ar': 'lib', 'disassemble': 'dis', 'macro': 'expand', 'pp': 'expand', 'map': 'ram'}
+OTHER_OPTIONS = {
+    ('build', '--out'): '--hex', ('asm', '--hex'): '--out', ('build', '-o'): '--hex', ('asm', '-o'): '--out'}
+NAME = re.compile('[A-Z?_][A-Z0-9?_]{0,30}')
 
 
 def help_text():
@@ -73,8 +88,14 @@ def near(word, words):
     """A question, if a word is like one of these."""
     import difflib
 
-    found = difflib.get_close_matches(word, words, 1)
-    return f', did you mean {found[0]}?' if found else ''
+    lower = {name.lower(): name for name in words}
+    found = difflib.get_close_matches(word.lower(), lower, 1)
+    return f', did you mean {shown(lower[found[0]])}?' if found else ''
+
+
+def shown(name):
+    """A name as a text shows it: in quotes if it has anything that may not be seen."""
+    return name if re.fullmatch(r'[\w./+~%@,:=-]+', name) else f'"{name}"'
 
 
 def is_number(name, value):
@@ -91,12 +112,16 @@ def wrong_options(verb, options):
     names = [name for name, _ in options]
     for name, value in options:
         if name not in known:
-            yield f'{verb} has no option {name}{near(name, known)}'
+            other = OTHER_OPTIONS.get((verb, name))
+            yield f'{verb} has no option {name}' + (f', did you mean {other}?' if other else near(name, known))
         elif value is None:
             yield f'{name} has no value'
         elif name in BOUNDS and not is_number(name, value):
             low, high = BOUNDS[name]
-            yield f'{name} is a number from {low} to {high}, not {value or "an empty word"}'
+            is_in = value.isascii() and value.isdigit() and low <= int(value) <= high
+            form = ', without a 0 in front' if name == '--units' else f' in at most {len(str(high))} digits'
+            digits = form if is_in else ''
+            yield f'{name} is a number from {low} to {high}{digits}, not {shown(value) if value else "an empty word"}'
     yield from (f'{name} is there twice' for name in sorted(set(names)) if names.count(name) > 1)
     yield from (f'{name} is missing' for name in known if name not in names and f'[{name}' not in words)
 
@@ -106,9 +131,28 @@ def wrong_endings(verb, files):
     for file in files if verb in ENDINGS else ():
         ending = os.path.splitext(file)[1].lower()
         if ending not in ENDINGS[verb]:
-            said = f'ends in {ending}' if ending else 'has no ending'
+            said = f'ends in {shown(ending)}' if ending else 'has no ending'
             better = LIKELY.get(ending)
-            yield f'{file or "an empty word"} {said}' + (f'; it should be {better}' if better else '')
+            left = '; no file is called so: the shell found none' if '*' in file and not os.path.exists(file) else ''
+            why = f'; it should be {better}' if better else left
+            yield f'{shown(file) if file else "an empty word"} {said}{why}'
+
+
+def wrong_library(operation, others):
+    """What is wrong with the library, the objects and the names of modules after an operation of `lib`."""
+    if not others:
+        return 'a library is missing'
+    names, is_of_names = others[1:], operation in ('delete', 'raise', 'extract')
+    if operation == 'list':
+        return 'lib list takes one library and nothing else' if names else None
+    if not names:
+        return f'lib {operation} needs ' + ('the name of a module' if is_of_names else 'an object')
+    if operation == 'extract' and len(names) > 1:
+        return 'lib extract takes one module'
+    bad = next((name for name in names if is_of_names and not NAME.fullmatch(name.upper())), None)
+    if bad is not None:
+        return f'{shown(bad)} is no name of a module; `m51 lib list` tells the names'
+    return 'an object is an empty word' if '' in names else None
 
 
 def wrong_count(verb, others):
@@ -118,7 +162,7 @@ def wrong_count(verb, others):
             return 'an operation is missing'
         if others[0] not in OPERATIONS:
             return f'lib has no operation {others[0]}{near(others[0], OPERATIONS)}'
-        return 'a library is missing' if len(others) < 2 else None
+        return wrong_library(others[0], others[1:])
     if verb == 'gen':
         return 'gen takes no file' if others else None
     if not others:
@@ -136,7 +180,11 @@ def wrong(words):
         return ['a verb is missing']
     verb = words[0]
     if verb not in VERBS:
-        return [f'there is no verb {verb}{near(verb.lower(), [*VERBS, *TOOLS])}']
+        if os.path.splitext(verb)[1].lower() in LINKED:
+            return [f'a verb is missing before {shown(verb)}: m51 build --steps N {shown(verb)} links and runs it']
+        other = OTHER_VERBS.get(verb.lower())
+        like = f', did you mean {other}?' if other else near(verb, [*VERBS, *TOOLS])
+        return [f'there is no verb {shown(verb) if verb else "that is an empty word"}{like}']
     options, others = parse(words[1:])
     count = wrong_count(verb, others)
     return [*wrong_options(verb, options), *wrong_endings(verb, others), *([count] if count else [])]
@@ -155,15 +203,15 @@ def inputs(words):
 
 
 def made(words):
-    """The files that a call makes anew: those of --out and --hex, and the library of `lib build`."""
+    """The files that a call makes anew, each after its option or `lib`: --out, --hex, the library of `lib build`."""
     options, others = parse(words[1:])
-    files = [value for name, value in options if name in ('--out', '--hex') and value is not None]
-    return files + (others[1:2] if words[0] == 'lib' and others[:1] == ['build'] else [])
+    files = [(name, value) for name, value in options if name in ('--out', '--hex') and value is not None]
+    return files + ([('lib', name) for name in others[1:2]] if words[0] == 'lib' and others[:1] == ['build'] else [])
 
 
 def kept(words):
     """The files that a call keeps: those that it makes, and what the other operations of `lib` keep."""
     _, others = parse(words[1:])
     if words[0] != 'lib' or others[:1] in ([], ['build'], ['list']):
-        return made(words)
+        return [name for _, name in made(words)]
     return [f'{name.upper()}.obj' for name in others[2:3]] if others[0] == 'extract' else others[1:2]

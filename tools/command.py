@@ -16,6 +16,10 @@ import sources
 NOT_RUN = 70
 NUMBERED = (1, 3, 4, 5, 6, 7, 11)
 HINTED = (2, 8, 9, 12, *NUMBERED)
+# Python ignores these two, and a program should not.
+DEFAULT = (signal.SIGPIPE, signal.SIGXFSZ)
+# How a file begins that a call may write over: an object, a HEX file, a library.
+BEGINS = {'--out': b'\x02', '--hex': b':', 'lib': b'\x2c'}
 
 
 def say(text):
@@ -28,6 +32,29 @@ def fail(text):
     """Says why nothing was run, and gives the status for that."""
     say(text)
     return NOT_RUN
+
+
+def is_long(words):
+    """Whether a run may take so long that it should not outlive a script that is killed."""
+    return any(len(word.rpartition('=')[2]) > 5 and word.rpartition('=')[2].isdigit() for word in words)
+
+
+def start_long(program, words):
+    """Starts a program that ends with this process, also where that is killed."""
+    import ctypes
+
+    library, parent = ctypes.CDLL(None), os.getpid()
+    child = os.fork()
+    if child:
+        return child
+    try:
+        library.prctl(1, signal.SIGKILL, 0, 0, 0)
+        for number in DEFAULT:
+            signal.signal(number, signal.SIG_DFL)
+        if os.getppid() == parent:
+            os.execv(program, [program, *words])
+    finally:
+        os._exit(NOT_RUN)
 
 
 def run(program, words):
@@ -45,8 +72,8 @@ def run(program, words):
     for number in (signal.SIGTERM, signal.SIGHUP):
         if signal.getsignal(number) != signal.SIG_IGN:
             signal.signal(number, hand_on)
-    # Python ignores these two, and a program should not.
-    child = os.posix_spawn(program, [program, *words], os.environ, setsigdef=[signal.SIGPIPE, signal.SIGXFSZ])
+    child = start_long(program, words) if is_long(words) else os.posix_spawn(
+        program, [program, *words], os.environ, setsigdef=DEFAULT)
     for number in early:
         os.kill(child, number)
     status = os.waitpid(child, 0)[1]
@@ -65,28 +92,64 @@ def size_of_output():
     return state.st_size if stat.S_ISREG(state.st_mode) else None
 
 
+def is_other_file(name, begin):
+    """Whether a plain file is there that has bytes and does not begin as what would be kept."""
+    try:
+        with open(name, 'rb') as file:
+            return os.path.isfile(name) and file.read(1) not in (b'', begin)
+    except OSError:
+        return False
+
+
 def overwritten(words):
-    """A source that a call would write over, or nothing."""
-    for made in arguments.made(words):
+    """Why a call would write over a file that it should not, or nothing."""
+    for what, made in arguments.made(words):
+        shown = arguments.shown(made)
         for name in arguments.inputs(words):
             if os.path.exists(made) and os.path.exists(name) and os.path.samefile(made, name):
-                return name
+                return f'{arguments.shown(name)} is read by the same call'
         if made.lower().endswith(('.a51', '.inc')) and os.path.isfile(made):
-            return made
+            return f'{shown} is a source'
+        if is_other_file(made, BEGINS[what]):
+            kind = {'--out': 'object', '--hex': 'HEX file', 'lib': 'library'}[what]
+            return f'{shown} is there and is no {kind}'
     return None
 
 
 def version():
     """The version, the program and its verbs."""
-    with open(os.path.join(sources.TOP, 'VERSION')) as file:
-        number, kit = file.read().splitlines()
-    if sources.proved():
-        program = f'the proved program {sources.proved()}'
-    elif sources.unproved():
-        program = f'the unproved program {sources.unproved()}'
+    number, kit = sources.version()
+    program = kind_of_program('m51') or 'no program is built yet'
+    trace = kind_of_program(sources.TRACE)
+    return '\n'.join([f'm51 {number}, {kit}', program, *certificate(), *([f'm51-trace: {trace}'] if trace else []), f'verbs: {" ".join(arguments.VERBS)}'])
+
+
+def kind_of_program(crate):
+    """Whether a program is the proved one, and where it is; nothing if there is none."""
+    if sources.proved(crate):
+        return f'the proved program {sources.proved(crate)}'
+    return f'the unproved program {sources.unproved(crate)}' if sources.unproved(crate) else None
+
+
+def certificate():
+    """The sum of the program, whether it is that of its certificate, or of what was installed, and what that says."""
+    program = sources.proved() or sources.unproved()
+    if not program:
+        return
+    import hashlib
+
+    with open(program, 'rb') as file:
+        found = hashlib.sha256(file.read()).hexdigest()
+    lines = sources.lines_of('CERTIFICATE')
+    if f'{found}  {os.path.basename(program)}' in lines:
+        yield f'sha256 {found}, that of the certificate'
+        yield from (line[2:] for line in lines if line.startswith(('# commit ', '# gate ')))
+    elif lines:
+        yield f'sha256 {found}, WHICH IS NOT THAT OF THE CERTIFICATE'
+    elif program == sources.installed() and sources.lines_of('SHA256') != [found]:
+        yield f'sha256 {found}, WHICH IS NOT WHAT WAS INSTALLED'
     else:
-        program = 'no program is built yet'
-    return f'm51 {number}, {kit}\n{program}\nverbs: {" ".join(arguments.VERBS)}'
+        yield f'sha256 {found}, without a certificate'
 
 
 def answer_without_program(words):
@@ -101,14 +164,16 @@ def answer_without_program(words):
         return 0
     if verb in ('-h', '--help', 'help'):
         of_verb = words[1:2] and words[1] in verbs
+        if words[1:2] and words[1] in arguments.TOOLS:
+            run_tool([words[1], '--help'])
         print(arguments.usage(words[1]) if of_verb else arguments.help_text())
         return 0
     flags = words[: words.index('--')] if '--' in words else words
     if verb in verbs and ('-h' in flags or '--help' in flags):
         print(arguments.usage(verb))
         return 0
-    source = overwritten(words) if verb in verbs else None
-    return fail(f'{source} is a source and would be overwritten; nothing was done') if source else None
+    why = overwritten(words) if verb in verbs else None
+    return fail(f'{why}, and would be overwritten; nothing was done') if why else None
 
 
 def refuse_before_compiling(words):
@@ -153,13 +218,18 @@ def program_for(words):
     return program, 0
 
 
+def run_tool(words):
+    """Runs a tool in place of this process."""
+    tool = os.path.join(sources.TOP, 'tools', words[0])
+    os.execv(tool, [tool, *words[1:]])
+
+
 def main(words):
     """Answers a call, and gives its status."""
     signal.signal(signal.SIGINT, signal.SIG_DFL)
     signal.signal(signal.SIGPIPE, signal.SIG_DFL)
     if words and words[0] in arguments.TOOLS:
-        tool = os.path.join(sources.TOP, 'tools', words[0])
-        os.execv(tool, [tool, *words[1:]])
+        run_tool(words)
     answered = answer_without_program(words)
     if answered is not None:
         return answered
@@ -167,6 +237,10 @@ def main(words):
     if not program:
         return refused
     size = size_of_output()
+    if size is not None and words[0] in arguments.VERBS and arguments.kept(words):
+        import hints
+
+        hints.say_one_file(words)
     try:
         status = run(program, words)
     except OSError as error:
@@ -174,5 +248,5 @@ def main(words):
     if status in HINTED:
         import hints
 
-        hints.after(status, words, size)
+        hints.after(status, words, size, program)
     return status

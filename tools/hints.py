@@ -5,6 +5,7 @@ The program's text goes straight to standard output, so it is known here only wh
 """
 import os
 import stat
+import sys
 
 import arguments
 from command import NUMBERED, say
@@ -12,8 +13,28 @@ from command import NUMBERED, say
 EXAMPLES = {1: 'V3', 3: 'E14', 4: 'L11', 5: 'O3', 6: 'S1', 7: 'LIMIT', 11: 'K2'}
 # What a kept file may need.
 LITTLE_ROOM = 1_048_576
+UNWRITTEN = 'standard output could not be written'
+# How long the name of a file that is kept may be: the part beside it has the longest name that a folder takes.
+MOST_OF_NAME = 246
 # How much of an answer in a file is read again.
 MOST_READ = 65_536
+# How many seconds a call may take that is made again to know its faults.
+MOST_SECONDS = 5
+
+
+def no_file(name, folder):
+    """That there is no such file, and one of its kind that has nearly this name."""
+    import difflib
+
+    stem, ending = os.path.splitext(os.path.basename(name))
+    try:
+        parts = [os.path.splitext(it) for it in os.listdir(folder) if not it.startswith('.')]
+    except OSError:
+        parts = []
+    stems = {it.lower(): it + end for it, end in parts if end.lower() == ending.lower()}
+    found = difflib.get_close_matches(stem.lower(), stems, 1)
+    like = f', did you mean {arguments.shown(os.path.join(os.path.dirname(name), stems[found[0]]))}?' if found else ''
+    return f'there is no file {arguments.shown(name)}{like}'
 
 
 def why_unread(name):
@@ -24,7 +45,7 @@ def why_unread(name):
     if not os.path.isdir(folder):
         return f'there is no folder {folder}'
     if not os.path.exists(name):
-        return f'there is no file {name}' if name else 'the name of a file is empty'
+        return no_file(name, folder) if name else 'the name of a file is empty'
     return None if os.access(name, os.R_OK) else f'permission denied: {name} may not be read'
 
 
@@ -37,6 +58,8 @@ def why_unkept(name):
         return f'{name} is a folder'
     if not os.path.isdir(folder):
         return f'there is no folder {folder} for {name}'
+    if len(os.fsencode(os.path.basename(name))) > MOST_OF_NAME:
+        return f'the name {name} is too long: a file that is kept has at most {MOST_OF_NAME} bytes in its name'
     if os.path.exists(name) and not os.access(name, os.W_OK):
         return f'permission denied: {name} may not be written'
     if (os.path.isfile(name) or not os.path.exists(name)) and not os.access(folder, os.W_OK):
@@ -59,15 +82,33 @@ def why_unwritten():
     except OSError:
         return 'standard output is closed'
     if stat.S_ISFIFO(kind) or stat.S_ISSOCK(kind):
-        return 'the reader of standard output has gone'
-    return no_room('for standard output', os.fstatvfs(1)) or 'standard output could not be written'
+        return 'the reader of standard output has gone' if has_gone() else None
+    return no_room('for standard output', os.fstatvfs(1))
+
+
+def has_gone():
+    """Whether nobody reads standard output any more."""
+    import select
+
+    poll = select.poll()
+    poll.register(1, 0)
+    return any(state & (select.POLLERR | select.POLLHUP) for _, state in poll.poll(0))
 
 
 def say_unkept(words):
     """Why a file could not be kept, or the text not be written."""
-    causes = [why for why in map(why_unkept, arguments.kept(words)) if why]
-    for why in causes or [why_unwritten()]:
+    kept = [name for name in arguments.kept(words) if os.path.realpath(name) != os.devnull]
+    causes = [why for why in map(why_unkept, kept) if why] or [why for why in [why_unwritten()] if why]
+    for why in causes or [f'{arguments.shown(name)} could not be kept' for name in kept] or [UNWRITTEN]:
         say(why)
+
+
+def say_one_file(words):
+    """That the file which is kept is the one that standard output goes to, so that both are written from its beginning."""
+    for name in arguments.kept(words):
+        if os.path.exists(name) and os.path.samestat(os.stat(name), os.fstat(1)):
+            say(f'{arguments.shown(name)} is the file that standard output goes to: what is kept and the text are '
+                'written over each other; through a pipe, as `| cat`, one comes after the other')
 
 
 def say_unread(words):
@@ -97,21 +138,60 @@ def printed(status, size):
         return []
 
 
-def say_number(status, size):
-    """Where the number of the answer is explained; the answer itself, if it went into a file."""
-    lines = printed(status, size)
-    if lines:
-        import numbers_table
+def said_again(words, program):
+    """The faults of a call, where standard output has gone elsewhere: a source with faults keeps nothing, so the same
+    call says the same again. Nothing if its files can't be read twice, or it takes long."""
+    import subprocess
 
-        for line in lines:
+    if not all(map(os.path.isfile, arguments.inputs(words))):
+        return []
+    try:
+        ran = subprocess.run([program, *words], stdin=subprocess.DEVNULL, stdout=subprocess.PIPE,
+                             stderr=subprocess.DEVNULL, timeout=MOST_SECONDS)
+    except (OSError, subprocess.TimeoutExpired):
+        return []
+    return ran.stdout.decode('utf-8', 'replace').splitlines() if ran.returncode == 3 else []
+
+
+def say_real(lines):
+    """The faults at the places of which `m51 expand` made their lines; whether there is one."""
+    import line_table
+    import numbers_table
+
+    pairs = [(line, numbers_table.place_of(line)) for line in lines]
+    places = [(line, place, line_table.real(*place)) for line, place in pairs if place]
+    for line, place, real in places:
+        if real:
+            # An editor goes to this place.
             key, meaning = numbers_table.short(line)
-            if key:
-                say(f'{line}: {meaning}; `m51 explain {key}` says more')
-                return
+            through = line_table.through_of(real)
+            print(f'{real.file}({real.line}): {key}: {meaning}{through} ({place[0]}, line {place[1]})', file=sys.stderr)
+    return any(real for _, _, real in places)
+
+
+def number_text(line):
+    """What a line with a number says: what it is most likely about, or else what the number means; and its key."""
+    import numbers_table
+
+    key, meaning = numbers_table.short(line)
+    # An editor takes `file(line):` for a place to go to, and this line is none.
+    place = numbers_table.place_of(line)
+    if not place:
+        return key, f'{line}: {meaning}'
+    return key, f'{key}: {numbers_table.guess_of(line) or meaning} ({place[0]}, line {place[1]})'
+
+
+def say_number(status, lines):
+    """Where the number of the answer is explained; what it means in the answer, if that is known."""
+    for line in lines:
+        key, text = number_text(line)
+        if key:
+            say(f'{text}; `m51 explain {key}` says more')
+            return
     say(f'`m51 explain {EXAMPLES[status]}` says what {EXAMPLES[status]} means, and so for each number')
 
 
-def after(status, words, size):
+def after(status, words, size, program=None):
     """Says what may help after a status."""
     if status == 2:
         say_wrong(words)
@@ -122,4 +202,6 @@ def after(status, words, size):
     elif status == 12:
         say('an argument is not valid UTF-8')
     elif status in NUMBERED:
-        say_number(status, size)
+        lines = printed(status, size) or (said_again(words, program) if status == 3 and program else [])
+        if status != 3 or not say_real(lines):
+            say_number(status, lines)

@@ -1,8 +1,13 @@
 """Reads listings of `m51 asm`: which statement of which file gives which address."""
 import os
 import re
+from collections import namedtuple
 
+import line_table
 from m51files import BadFile, Row
+
+# A line of a listing: its text, its row if it has an address, and where it comes from, through how many macros.
+Line = namedtuple('Line', 'text row file number depth')
 
 LABEL = r'\s*(?:([A-Za-z?_][\w?]*)\s*:)?'
 STATEMENT = re.compile(LABEL + r'\s*([A-Za-z?_][\w?]*)?\s*([A-Za-z?_][\w?]*)?')
@@ -14,6 +19,17 @@ def statement_of(row):
     """The statement of a row, without its label and its comment."""
     text = row.text.partition(':')[2] if row.label else row.text
     return re.match(r"(?:'[^']*'|[^;'])*", text)[0].strip()
+
+
+def place_of(row):
+    """`file(line)` of a row, and through which macros it came."""
+    return f'{row.file}({row.line}){row.through}'
+
+
+def call_of(row):
+    """File and line of a row, or of the call outside all macros through which it came."""
+    found = re.findall(r'called at (.*?)\((\d+)\)(?:,|$)', row.through)
+    return (found[-1][0], int(found[-1][1])) if found else (row.file, row.line)
 
 
 def module_name(path):
@@ -43,20 +59,26 @@ class File:
 
 
 class Listing:
-    """The name of a module, and the rows of its listing that have an address. A row of an absolute segment names none.
+    """The name of a module and its source, its lines, and the rows of those that have an address.
 
-    A listing has the lines of an include without its name, so its end is taken from the file, if that is in the folder.
+    A row of an absolute segment names none. If `m51 expand` wrote the source, all is said of what that was made of. A
+    listing has the lines of an include without its name, so its end is taken from the file, if that is in the folder.
     """
 
     def __init__(self, text, source, folder='.'):
-        self.name, self.rows, self.folder = None, [], folder
+        self.name, self.rows, self.lines, self.folder = None, [], [], folder
+        self.source = line_table.root(self.path_of(source)) or source
         self.files, self.segment, self.kind = [File(source)], None, 'CODE'
         for line in filter(None, text.split('\n')):
-            self.add(int(line[:5]), line[6:10].strip(), line[19:])
+            self.add(int(line[:5]), line[6:10].strip(), bytes.fromhex(line[11:17].strip()), line[19:])
         self.name = self.name or module_name(source)
 
-    def add(self, number, place, text):
-        """Adds a line: its number, its address, and the statement."""
+    def path_of(self, file):
+        """A file of the listing, as it is found from here."""
+        return os.path.join(self.folder, file) if self.folder != '.' else file
+
+    def add(self, number, place, data, text):
+        """Adds a line: its number, its address, its first bytes, and the statement."""
         while len(self.files) > 1 and self.files[-1].is_over(number):
             self.files.pop()
         self.files[-1].last = number
@@ -71,8 +93,13 @@ class Listing:
             self.segment, self.kind = second, None
         elif first in ABSOLUTE:
             self.segment, self.kind = None, ABSOLUTE[first]
+        real = line_table.real(self.path_of(file), number)
+        at, row = (real.file, real.line) if real else (file, number), None
         if place:
-            self.rows.append(Row(file, number, self.segment, self.kind, int(place, 16), label, text.strip()))
+            through = line_table.through_of(real) if real else ''
+            row = Row(*at, self.segment, self.kind, int(place, 16), label, text.strip(), data, through)
+            self.rows.append(row)
+        self.lines.append(Line(text, row, *at, len(real.macros) if real else 0))
 
 
 def read_listing(path):

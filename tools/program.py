@@ -8,10 +8,11 @@ from collections import namedtuple
 
 import m51files
 import sources
-from listings import Listing, read_listing, statement_of
+from listings import Listing, place_of, read_listing, statement_of
 from m51files import KINDS, PAGE, BadFile
+from same_program import stop_unless_same, stop_unless_same_bytes, stop_unless_same_listing
 
-Label = namedtuple('Label', 'kind address size name place title')
+Label = namedtuple('Label', 'kind address size name place title module is_public file line')
 
 
 def bases_of(modules, of_map):
@@ -51,39 +52,55 @@ class Program:
     """A linked program: its map, its modules in the order of the link, and where each part of them lies."""
 
     def __init__(self, of_map, modules, listings):
+        stop_unless_same(of_map, modules)
         self.map, self.modules, self.bases = of_map, modules, bases_of(modules, of_map)
         self.lines, self.labels = {}, []
+        self.listings = {listing.name: listing for listing in listings}
         rows = {listing.name: listing.rows for listing in listings}
         for module in modules:
-            self.add_rows(module, rows.get(module.name, []))
+            placed = [(part_of(module, row), row) for row in rows.get(module.name, [])]
+            stop_unless_same_listing(module, placed)
+            self.add_rows(module, placed)
 
-    def add_rows(self, module, rows):
+    def add_rows(self, module, placed):
         """Adds the labels and the lines of a module, and its publics that have no line."""
         known = set()
-        placed = [(part_of(module, row), row) for row in rows]
         for number, row in placed:
             base = self.bases.get((module.name, number))
             if base is None:
                 continue
             segment = module.segments[number - 1]
             place = row.offset if row.segment else row.offset - base
-            if KINDS[segment.kind] == 'CODE':
+            # A line with a label and nothing else has no bytes: they are of the statement below it.
+            if KINDS[segment.kind] == 'CODE' and statement_of(row):
                 self.lines.setdefault(base + place, row)
             if row.label:
                 known.add(row.label)
                 later = [it.offset - row.offset for part, it in placed
                          if it.label and it.offset > row.offset and part == number]
                 size = min([segment.size - place, *later])
-                self.add_label(segment, base + place, size, row.label, f'{row.file}({row.line})')
+                self.add_label(module, segment, base + place, size, row.label, row)
         for public in module.publics:
             base = self.bases.get((module.name, public.segment))
             if public.name not in known and base is not None:
                 segment = module.segments[public.segment - 1]
-                self.add_label(segment, base + public.number, 1, public.name, module.name)
+                self.add_label(module, segment, base + public.number, 1, public.name)
 
-    def add_label(self, segment, address, size, name, place):
+    def add_label(self, module, segment, address, size, name, row=None):
         title = segment.name or f'@{segment.base:04X}'
-        self.labels.append(Label(KINDS[segment.kind], address, size, name, place, title))
+        is_public = any(public.name == name for public in module.publics)
+        place = place_of(row) if row else module.name
+        of_row = (row.file, row.line) if row else (None, None)
+        self.labels.append(Label(
+            KINDS[segment.kind], address, size, name, place, title, module.name, is_public, *of_row))
+
+    def address_of(self, module, row):
+        """The address of a row, or nothing if its segment is not linked."""
+        number = part_of(module, row)
+        base = self.bases.get((module.name, number))
+        if base is None:
+            return None
+        return base + row.offset - (0 if row.segment else module.segments[number - 1].base)
 
     def line_of(self, address):
         """The row of the source at whose statement a code address lies, or nothing."""
@@ -102,7 +119,7 @@ class Program:
         text = plus(name, address - start)
         if not row:
             return f'{text}, of which no listing is here'
-        return f'{row.file}({row.line}), {text}: {statement_of(row)}'
+        return f'{place_of(row)}, {text}: {statement_of(row)}'
 
     def covers(self, label, space, address, bit):
         """Whether a label covers a byte of internal RAM (space D) or of external memory (X), or a bit of it."""
@@ -120,9 +137,9 @@ class Program:
 
 
 def command():
-    """The command m51: that of the environment's M51, else the program, else the script, which compiles it."""
+    """The program: that of the environment's M51_PROGRAM, else the one of m51, else the script, which compiles it."""
     built = sources.proved() or (sources.unproved() if sources.is_current() else None)
-    return os.environ.get('M51') or built or os.path.join(sources.TOP, 'm51')
+    return os.environ.get('M51_PROGRAM') or built or os.path.join(sources.TOP, 'm51')
 
 
 def assemble(source, includes):
@@ -176,12 +193,16 @@ def read_files(files):
     return m51files.choose(given, libraries), listings
 
 
-def read_program(lines, files):
-    """The program of a map and of the files of its build."""
-    return Program(m51files.Map(lines), *read_files(files))
+def read_program(lines, files, hex_file=None):
+    """The program of a map and of the files of its build; its bytes are those of a HEX file, if one is named."""
+    of = Program(m51files.Map(lines), *read_files(files))
+    if hex_file:
+        stop_unless_same_bytes(of, hex_file)
+    return of
 
 
 def add_arguments(parser):
     """The arguments that name a program."""
     parser.add_argument('-m', '--map', metavar='MAP', help='what m51 build wrote; else standard input is that')
+    parser.add_argument('--hex', metavar='F', help='what that build kept as HEX: its bytes are compared as well')
     parser.add_argument('files', metavar='FILE', nargs='+', help='the files of the build, and listings')

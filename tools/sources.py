@@ -1,8 +1,8 @@
-"""Where the program m51 and its sources are, and whether a program is that of the sources.
+"""Where the programs m51 and m51-trace and their sources are, and whether a program is that of the sources.
 
-`rt ci` builds the proved program. tools/unproved compiles the unproved one and keeps it beside that, with a stamp: the
-checksum of the sources, the name of the toolchain, and where its command lies. What ./install has put into a folder has
-no sources.
+A program is known by its crate, which is m51 where none is said. `rt ci` builds the proved one. tools/unproved compiles
+the unproved one and keeps it beside that, with a stamp: the checksum of the sources, the name of the toolchain, and
+where its command lies. What ./install has put into a folder has no sources.
 """
 import os
 
@@ -13,31 +13,65 @@ STAMP = UNPROVED + '.stamp'
 INSTALLED = os.path.join(TOP, 'program')
 INSTALLED_UNPROVED = os.path.join(TOP, 'program-unproved')
 CRATES = os.path.join(TOP, 'crates.txt')
+TRACE = 'm51_trace'
+INSTALLED_AS = {'m51': 'program', TRACE: 'trace-program'}
 
 
 def is_program(path):
     return os.path.isfile(path) and os.access(path, os.X_OK)
 
 
-def proved():
+def out_of(crate):
+    """The folder in which a program is kept."""
+    return os.path.join(TOP, 'crates', crate, 'out')
+
+
+def kept_unproved(crate):
+    """Where an unproved program is kept."""
+    return os.path.join(out_of(crate), f'{crate}-unproved')
+
+
+def proved(crate='m51'):
     """The proved program, or nothing."""
-    return next(filter(is_program, (INSTALLED, os.path.join(OUT, 'm51'))), None)
+    places = (os.path.join(TOP, INSTALLED_AS[crate]), os.path.join(out_of(crate), crate))
+    return next(filter(is_program, places), None)
 
 
-def unproved():
+def unproved(crate='m51'):
     """The unproved program, or nothing."""
-    return next(filter(is_program, (INSTALLED_UNPROVED, UNPROVED)), None)
+    places = (os.path.join(TOP, f'{INSTALLED_AS[crate]}-unproved'), kept_unproved(crate))
+    return next(filter(is_program, places), None)
+
+
+def installed():
+    """The program that ./install has put here, or nothing."""
+    return next(filter(is_program, (INSTALLED, INSTALLED_UNPROVED)), None)
+
+
+def lines_of(name):
+    """The lines of a file at the top; none if it is not there."""
+    try:
+        with open(os.path.join(TOP, name)) as file:
+            return file.read().splitlines()
+    except OSError:
+        return []
 
 
 def has_sources():
     return os.path.isfile(CRATES)
 
 
-def crates():
-    """The crates of which the program is made."""
+def version():
+    """The version, and the name of the toolchain that it needs."""
+    with open(os.path.join(TOP, 'VERSION')) as file:
+        return file.read().splitlines()[:2]
+
+
+def crates(program='m51'):
+    """The crates of which a program is made."""
     with open(CRATES) as file:
         uses = {name: words.split() for name, _, words in (line.partition(':') for line in file)}
-    found, left = set(), ['m51']
+    found, left = set(), [program]
     while left:
         name = left.pop()
         if name in uses and name not in found:
@@ -46,10 +80,10 @@ def crates():
     return sorted(found)
 
 
-def entries():
-    """The sources of the program with their state, and the folders in which they lie; proofs are none of them."""
+def entries(program='m51'):
+    """The sources of a program with their state, and the folders in which they lie; proofs are none of them."""
     yield CRATES, os.stat(CRATES)
-    left = [os.path.join(TOP, 'crates', crate, part) for crate in crates() for part in ('src', 'specs')]
+    left = [os.path.join(TOP, 'crates', crate, part) for crate in crates(program) for part in ('src', 'specs')]
     while left:
         folder = left.pop()
         if not os.path.isdir(folder):
@@ -63,9 +97,10 @@ def entries():
                     yield entry.path, entry.stat()
 
 
-def newer(time):
+def newer(time, program='m51'):
     """A source, or a folder of sources, that is newer than a time in nanoseconds, or nothing."""
-    return next((os.path.relpath(path, TOP) for path, state in entries() if state.st_mtime_ns > time), None)
+    return next((os.path.relpath(path, TOP) for path, state in entries(program) if state.st_mtime_ns > time),
+                None)
 
 
 def newer_than_proved(program):
@@ -75,12 +110,12 @@ def newer_than_proved(program):
     return newer(os.stat(program).st_mtime_ns)
 
 
-def checksum():
+def checksum(program='m51'):
     """The checksum of the sources."""
     import hashlib
 
     total = hashlib.sha256()
-    for path in sorted(path for path, _ in entries() if os.path.isfile(path)):
+    for path in sorted(path for path, _ in entries(program) if os.path.isfile(path)):
         with open(path, 'rb') as file:
             text = file.read()
         total.update(f'{os.path.relpath(path, TOP)} {len(text)}\n'.encode() + text)
@@ -112,36 +147,41 @@ def stamp_of(sources, command):
     return [sources, toolchain_name(command), toolchain_place(command)]
 
 
-def write_stamp(lines, time):
+def write_stamp(lines, time, crate='m51'):
     """Keeps a stamp, with the time from which on a source is newer than its program."""
-    part = f'{STAMP}.{os.getpid()}'
+    stamp = kept_unproved(crate) + '.stamp'
+    part = f'{stamp}.{os.getpid()}'
     with open(part, 'w') as file:
         file.write('\n'.join(lines) + '\n')
     os.utime(part, ns=(time, time))
-    os.replace(part, STAMP)
+    os.replace(part, stamp)
 
 
-def is_current():
+def is_current(crate='m51'):
     """Whether the unproved program that is kept is that of the sources and of the toolchain."""
-    if is_program(INSTALLED_UNPROVED):
+    if is_program(os.path.join(TOP, f'{INSTALLED_AS[crate]}-unproved')):
         return True
-    if not is_program(UNPROVED) or not os.path.isfile(STAMP):
+    program, stamp = kept_unproved(crate), kept_unproved(crate) + '.stamp'
+    if not is_program(program) or not os.path.isfile(stamp):
         return False
-    with open(STAMP) as file:
+    with open(stamp) as file:
         kept = file.read().splitlines()
     if len(kept) != 3:
         return False
     command = toolchain_command()
-    time = os.stat(STAMP).st_mtime_ns
+    time = os.stat(stamp).st_mtime_ns
     is_moved = command and toolchain_place(command) != kept[-1]
-    if not is_moved and not newer(time):
+    if not is_moved and not newer(time, crate):
         return True
-    now = max(state.st_mtime_ns for _, state in entries())
-    found = [checksum(), *(stamp_of('', command)[1:] if command else kept[1:])]
-    if found[:2] != kept[:2]:
+    now = max(state.st_mtime_ns for _, state in entries(crate))
+    found = [checksum(crate), *(stamp_of('', command)[1:] if command else kept[1:])]
+    if found[0] != kept[0]:
         return False
+    if found[1] != kept[1]:
+        # What the right toolchain compiled stays right beside another one.
+        return kept[1] == version()[1]
     try:
-        write_stamp(found, max(time, now))
+        write_stamp(found, max(time, now), crate)
     except OSError:
         # Where the folder may not be written, the next call asks for the checksum again.
         pass

@@ -121,7 +121,7 @@ def cdb(of):
         yield f'L:{cdb_name(of, label, count)}:{label.address:X}'
         if label.kind == 'CODE' and label.size:
             yield f'L:X{cdb_name(of, label, count)}:{label.address + label.size - 1:X}'
-    for address, row in sorted(of.statements.items()):
+    for address, row in sorted(of.lines.items()):
         file, line = call_of(row)
         if row.data:
             yield f'L:A${os.path.splitext(os.path.basename(file))[0]}${line}:{address:X}'

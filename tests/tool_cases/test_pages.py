@@ -68,7 +68,7 @@ class Pages(Folder):
         self.assertEqual(self.completed('m51', 'help', ''), [*arguments.VERBS, *arguments.TOOLS])
         self.assertEqual(self.completed('m51', 'explain', 'NO'), ['NOUNIT', 'NOEDGE', 'NOTCALLED', 'NOHANDLER'])
         self.assertEqual(self.completed('m51', 'explain', '7'), ['7', '70'])
-        self.assertEqual(self.completed('m51', 'symbols', '--format', ''), ['cdb', 'lst', 'json'])
+        self.assertEqual(self.completed('m51', 'symbols', '--format', ''), ['cdb', 'omf', 'lst', 'json'])
         os.symlink(PROGRAM, self.path('m51'))
         self.keep('p.a51', 'NAME PART / END')
         ran([PROGRAM, 'asm', '--out', 'p.obj', 'p.a51'], folder=self.folder)

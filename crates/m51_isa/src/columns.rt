@@ -7,6 +7,7 @@ use crate::instr::{Flow, Instr};
 /// How many bytes an instruction has, 1 to 3.
 ///
 /// Source: family manual.
+#[inline(always)]
 pub fn length(instr: &Instr) -> u8
     ensures { result ≡ length_of instr.now }
 {
@@ -128,6 +129,7 @@ pub fn length(instr: &Instr) -> u8
 /// How many machine cycles an instruction takes: 1, 2 or 4.
 ///
 /// Source: family manual.
+#[inline(always)]
 pub fn cycles(instr: &Instr) -> u8
     ensures { result ≡ cycles_of instr.now }
 {

@@ -1,24 +1,15 @@
 -- What is written, one piece after another, where the last write may have failed.
 use Rattle.m51_party.proofs.Common.{◌≡◌, ℕ, ◌+◌, ◌≤◌, ◌<◌, List, [], ◌∷◌, ◌++◌, Option, Some, Result, Ok, Err, ap, ◌∙◌}
-use Rattle.m51_party.proofs.Common.{arith, append-nil, OnErr, Appends, front_at_end, AppendsFront, Entry, entry_line}
+use Rattle.m51_party.proofs.Common.{arith, append-nil, OnErr, Appends, AppendsFront, Entry, entry_line}
 use Rattle.m51_party.proofs.Common.{head_text, front_of}
 use Rattle.std.specs.Prelude.{codes}
 use Rattle.std.proofs.lemmas.Fmt.{decimal_digit}
 use Rattle.m51_shelf.specs.Writing.{StopsWithin}
-use Rattle.m51_sim.proofs.Tellings.{front_of_stop}
+use Rattle.m51_cells.proofs.Fronts.{front_then}
+use Rattle.m51_sim.proofs.Tellings.{stop_front}
 use Rattle.m51_party.specs.Seats.{entry_text}
 
--- the same of what a call answers
-pub stop_front : {T E : Type 0} (r : Result T E) (a b : Option (List ℕ)) (xs : List ℕ) → OnErr r (StopsWithin a b xs)
-    → OnErr r (AppendsFront a b xs)
-stop_front (Ok x) a b xs q = tt
-stop_front (Err e) a b xs q = front_of_stop a b xs q
-
-pub front_then : {T E : Type 0} (r : Result T E) (a b c : Option (List ℕ)) (xs ys : List ℕ) → Appends a b xs
-    → OnErr r (AppendsFront b c ys) → OnErr r (AppendsFront a c (xs ++ ys))
-front_then (Ok x) a b c xs ys p q = tt
-front_then (Err e) a b c xs ys p q = front_at_end a b c xs ys p q
-
+-- the same of two calls, of which the second may stop
 pub stop_then : {T E : Type 0} (r : Result T E) (a b c : Option (List ℕ)) (xs ys : List ℕ) → Appends a b xs
     → OnErr r (StopsWithin b c ys) → OnErr r (AppendsFront a c (xs ++ ys))
 stop_then r a b c xs ys p q = front_then r a b c xs ys p (stop_front r b c ys q)

@@ -15,6 +15,12 @@ use Rattle.m51_shelf.specs.Writing.{StopsWithin}
 pub front_of_stop : (a b : Option (List ℕ)) (xs : List ℕ) → StopsWithin a b xs → AppendsFront a b xs
 front_of_stop a b xs q = (q.0, omega (arith, q.1), q.2)
 
+-- the same of what a call answers
+pub stop_front : {T E : Type 0} (r : Result T E) (a b : Option (List ℕ)) (xs : List ℕ) → OnErr r (StopsWithin a b xs)
+    → OnErr r (AppendsFront a b xs)
+stop_front (Ok x) a b xs q = tt
+stop_front (Err e) a b xs q = front_of_stop a b xs q
+
 two_lines : (told : Entries) → flat_map entry_line (entries_of told) ≡ flat_map entry_line (option_to_list told.port)
     ++ flat_map entry_line (option_to_list told.sent)
 two_lines told = flat_map-append entry_line (option_to_list told.port) (option_to_list told.sent)

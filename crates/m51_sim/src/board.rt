@@ -315,6 +315,7 @@ impl Runnable for Board {
 
     ghost extents = { λ loaded. loaded.layout.placed };
 
+    #[inline(always)]
     fn advance(&mut self) -> Result<Entries, Event> {
         advance_alone(&mut self.monitor, &mut self.chip, &mut self.effect)
     }

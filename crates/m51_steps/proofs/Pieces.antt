@@ -1,46 +1,21 @@
 -- Texts that are written one after another, of which the last may be cut.
-use Rattle.std.proofs.Common.{◌≡◌, ℕ, List, [], ◌++◌, Option, Result, Ok, Err, arith}
+use Rattle.std.proofs.Common.{◌≡◌, ℕ, List, ◌++◌, Option, Result, Ok, Err}
 use Rattle.std.specs.Prelude.{OnErr, OnOk, flat_map, option_to_list}
 use Rattle.std.specs.Io.KnownBytes.{Appends}
 use Rattle.std.proofs.KnownBytes.{Appends-trans}
 use Rattle.std.proofs.lemmas.Grind.{flat_map-append}
 use Rattle.m51_cells.specs.Outside.{AppendsFront}
 use Rattle.m51_cells.specs.declared.event.Entry.{Entry}
-use Rattle.m51_cells.proofs.Fronts.{front_at_end, front_more}
+use Rattle.m51_cells.proofs.Fronts.{front_more, front_then}
 use Rattle.m51_print.specs.Lines.{entry_line}
-use Rattle.m51_shelf.specs.Writing.{StopsWithin}
-use Rattle.m51_sim.proofs.Tellings.{front_of_stop}
+use Rattle.m51_sim.proofs.Tellings.{stop_front}
 use Rattle.m51_steps.specs.Noted.{told_lines}
 
-pub stop_front : {T E : Type 0} (r : Result T E) (a b : Option (List ℕ)) (xs : List ℕ) → OnErr r (StopsWithin a b xs)
-    → OnErr r (AppendsFront a b xs)
-stop_front (Ok x) a b xs q = tt
-stop_front (Err e) a b xs q = front_of_stop a b xs q
-
 -- both are written
-pub both_written : (a b c : Option (List ℕ)) (xs ys : List ℕ) → Appends a b xs → Appends b c ys
-    → Appends a c (xs ++ ys)
-both_written a b c xs ys p q = Appends-trans a b c xs ys p q
-
--- the first is cut
-pub first_cut : (a b : Option (List ℕ)) (xs ys : List ℕ) → AppendsFront a b xs → AppendsFront a b (xs ++ ys)
-first_cut a b xs ys q = front_more a b xs ys q
-
--- the first is whole, and the second is cut
-pub second_cut : (a b c : Option (List ℕ)) (xs ys : List ℕ) → Appends a b xs → AppendsFront b c ys
-    → AppendsFront a c (xs ++ ys)
-second_cut a b c xs ys p q = front_at_end a b c xs ys p q
-
--- the same of what a call answers
 pub whole_on : {T E : Type 0} (r : Result T E) (a b c : Option (List ℕ)) (xs ys : List ℕ) → Appends a b xs
     → OnOk r (Appends b c ys) → OnOk r (Appends a c (xs ++ ys))
-whole_on (Ok x) a b c xs ys p q = both_written a b c xs ys p q
+whole_on (Ok x) a b c xs ys p q = Appends-trans a b c xs ys p q
 whole_on (Err e) a b c xs ys p q = tt
-
-pub cut_on : {T E : Type 0} (r : Result T E) (a b c : Option (List ℕ)) (xs ys : List ℕ) → Appends a b xs
-    → OnErr r (AppendsFront b c ys) → OnErr r (AppendsFront a c (xs ++ ys))
-cut_on (Ok x) a b c xs ys p q = tt
-cut_on (Err e) a b c xs ys p q = second_cut a b c xs ys p q
 
 -- the same of what a call passes on
 pub cut_any : {T E : Type 0} (r : Result T E) (a b : Option (List ℕ)) (xs ys : List ℕ) → AppendsFront a b xs
@@ -48,7 +23,7 @@ pub cut_any : {T E : Type 0} (r : Result T E) (a b : Option (List ℕ)) (xs ys :
 cut_any (Ok x) a b xs ys q = tt
 cut_any (Err e) a b xs ys q = front_more a b xs ys q
 
-pub ruleset pieces = (cut_on, first_cut, stop_front, whole_on)
+pub ruleset pieces = (front_then, front_more, stop_front, whole_on)
 
 two_lines : (port sent : Option Entry) → told_lines port sent ≡ flat_map entry_line (option_to_list port)
     ++ flat_map entry_line (option_to_list sent)
@@ -72,6 +47,6 @@ pub lines_cut : {T E : Type 0} (r : Result T E) (a b c : Option (List ℕ)) (por
     → Appends a b (flat_map entry_line (option_to_list port))
     → OnErr r (AppendsFront b c (flat_map entry_line (option_to_list sent)))
     → OnErr r (AppendsFront a c (told_lines port sent))
-lines_cut r a b c port sent p q = rw (two_lines port sent) (cut_on r a b c _ _ p q)
+lines_cut r a b c port sent p q = rw (two_lines port sent) (front_then r a b c _ _ p q)
 
 pub ruleset lines = (line_cut, lines_cut, lines_written)

@@ -1,5 +1,6 @@
 use Rattle.m51_party.proofs.Common.{ℕ, ◌+◌, List, [], ◌∷◌, subst, sym, OnErr, OnOk, Appends, AppendsFront}
-use Rattle.m51_party.proofs.Fronts.{front_digit, stop_front}
+use Rattle.m51_party.proofs.Fronts.{front_digit}
+use Rattle.m51_sim.proofs.Tellings.{stop_front}
 use Rattle.m51_party.proofs.lines.write_front.Goals as goal
 
 pub returns-clause-whole : goal.returns-clause-whole

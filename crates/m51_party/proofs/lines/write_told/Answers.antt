@@ -1,4 +1,4 @@
-use Rattle.m51_party.proofs.Fronts.{front_then}
+use Rattle.m51_cells.proofs.Fronts.{front_then}
 use Rattle.m51_party.specs.Seats.{entry_text}
 use Rattle.m51_party.proofs.lines.write_told.Goals as goal
 

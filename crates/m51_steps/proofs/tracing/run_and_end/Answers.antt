@@ -5,12 +5,12 @@ use Rattle.m51_sim.specs.Boards.{separate_of}
 use Rattle.m51_sim.specs.Runs.{record_of}
 use Rattle.m51_steps.specs.Traced.{machine_of, noted_run, run_table}
 use Rattle.m51_steps.proofs.Ended.{noted_then, noted_then_cut}
-use Rattle.m51_steps.proofs.Pieces.{first_cut}
+use Rattle.m51_cells.proofs.Fronts.{front_more}
 use Rattle.m51_steps.proofs.Tabled.{ending_same}
 use Rattle.m51_steps.proofs.tracing.run_and_end.Goals as goal
 
 pub returns-in-Err-clause-traced : goal.returns-in-Err-clause-traced
-returns-in-Err-clause-traced g c = first_cut _ _ _ _ c.in-Err.ensures.noted
+returns-in-Err-clause-traced g c = front_more _ _ _ _ c.in-Err.ensures.noted
 
 pub returns-in-Ok-write_ending-clause-traced : goal.returns-in-Ok-write_ending-clause-traced
 returns-in-Ok-write_ending-clause-traced g c =

@@ -1,12 +1,11 @@
--- What files of sources give, where they are accepted: a module for each, and the script that was read.
-use Rattle.m51_chain.proofs.Common.{◌≡◌, ℕ, suc, ◌+◌, ◌≤◌, true, List, [], ◌∷◌, length, drop, Option, Some, None}
+-- What files of sources give, where they are accepted: a module for each.
+use Rattle.m51_chain.proofs.Common.{◌≡◌, ℕ, suc, ◌+◌, ◌≤◌, true, List, [], ◌∷◌, length, Option, Some, None}
 use Rattle.m51_chain.proofs.Common.{Result, Ok, Err, refl, sym, ap, ◌∙◌, subst, arith, AnswerTree, Gives, InputError}
-use Rattle.m51_chain.proofs.Common.{InputsTree, ModuleParts, SourceFile, ScriptError, Script, names_read, script_in}
+use Rattle.m51_chain.proofs.Common.{InputsTree, ModuleParts, SourceFile, Script, names_read}
 use Rattle.m51_chain.proofs.Common.{party_files, AreAnswered}
 use Rattle.std.proofs.Common.{take, length-append}
 use Rattle.std.specs.Prelude.{option_to_list}
 use Rattle.std.specs.List.{list_all}
-use Rattle.std.specs.Result.{IsOk}
 use Rattle.std.proofs.lemmas.Bool.{and_parts, leb-true}
 use Rattle.std.proofs.lemmas.List.{length-take-le}
 use Rattle.m51_asm.specs.Answer.{Faults}
@@ -14,17 +13,14 @@ use Rattle.m51_cells.specs.Outcome.{and_then}
 use Rattle.m51_control.specs.declared.control.Control.{Control}
 use Rattle.m51_inputs.specs.declared.error.SourceFaults.{SourceFaults}
 use Rattle.m51_inputs.specs.Files.{includes_of, source_words, sources_of}
-use Rattle.m51_inputs.specs.Inputs.{IsInputsAnswer, inputs_of, or_script}
-use Rattle.m51_inputs.specs.Inputs.{script_in as script_read}
+use Rattle.m51_inputs.specs.Inputs.{IsInputsAnswer, inputs_of}
 use Rattle.m51_inputs.specs.Objects.{Linked, linked_by, linked_from, with_module}
 use Rattle.m51_inputs.specs.Sources.{AreAnswers, faults_in, modules_in, unless_faults}
-use Rattle.m51_script.specs.Reading.{plain_script, script_of}
 use Rattle.m51_jobs.specs.declared.endings.Ending.{Ending}
 use Rattle.m51_jobs.specs.declared.endings.Ending.TheVariants as ending
 use Rattle.m51_jobs.specs.Endings.{are_boards, ending_of, is_a_source, is_source}
 use Rattle.m51_jobs.specs.declared.job.Job.TheVariants.{Party}
 use Rattle.m51_jobs.specs.declared.job.PartyJob.{PartyJob}
-use Rattle.m51_verbs.specs.Optional.{content_if}
 use Rattle.m51_chain.specs.ProgramFiles.{script_content}
 
 -- the value with which a step continues
@@ -35,20 +31,6 @@ on_value (Err e) go y P k h = absurd (cc h)
 
 pub ok_same : {A E : Type 0} (r : Result A E) (x y : A) → r ≡ Ok x → r ≡ Ok y → x ≡ y
 ok_same r x y h k = cc (h, k)
-
-pub is_accepted : {A E : Type 0} (r : Result A E) (x : A) → r ≡ Ok x → IsOk r
-is_accepted r x h = rw h refl
-
--- ---- the script
-
-script_given : (r : Result Script ScriptError) (s : Script) → or_script r ≡ Ok s → r ≡ Ok s
-script_given (Ok x) s h = ap (λ v. Ok v) (ok_same _ x s refl h)
-script_given (Err e) s h = absurd (cc h)
-
--- the script of the files of a program is that of the verb flat
-pub script_is : (file : Option (List ℕ)) (s : Script) → script_read file ≡ Ok s → script_in file ≡ Ok s
-script_is None s h = ap (λ v. Ok v) (ok_same _ plain_script s refl h)
-script_is (Some bytes) s h = script_given (script_of bytes) s h
 
 -- ---- the modules
 
@@ -137,22 +119,20 @@ answered : (names contents : List (List ℕ)) (control file : Option (List ℕ))
     → ((sources : List ModuleParts) (linked : Linked) → length sources ≡ n
     → linked_from 0 names contents sources ≡ Ok linked → length linked.modules ≡ n)
     → inputs_of names contents control file answers ≡ Ok inputs
-    → (length inputs.modules ≡ n) × (script_in file ≡ Ok inputs.script)
+    → length inputs.modules ≡ n
 unfolding inputs_of
 answered names contents control file answers inputs n sourced linked h =
     on_value _ _ inputs _ (λ sources is.
     on_value _ _ inputs _ (λ found are.
     on_value _ _ inputs _ (λ controls read.
     on_value _ _ inputs _ (λ s ran last.
-    let same : inputs_with found controls s ≡ inputs = ok_same _ (inputs_with found controls s) inputs refl last in (
-      subst (λ (i : InputsTree). length i.modules ≡ n) same (linked sources found (sourced sources is) are),
-      subst (λ (i : InputsTree). script_in file ≡ Ok i.script) same (script_is file s ran),
-    ))))) h
+    subst (λ (i : InputsTree). length i.modules ≡ n) (ok_same _ (inputs_with found controls s) inputs refl last)
+    (linked sources found (sourced sources is) are))))) h
 
 pub sources_give : (names contents : List (List ℕ)) (control file : Option (List ℕ)) (inputs : InputsTree)
     → list_all is_source names ≡ true
     → length contents ≡ length names → IsInputsAnswer names contents control file (Ok inputs)
-    → (length inputs.modules ≡ length names) × (script_in file ≡ Ok inputs.script)
+    → length inputs.modules ≡ length names
 sources_give names contents control file inputs all count given =
     let each : length given.answers ≡ length names =
     answers_count (includes_of names contents) (sources_of names contents) given.answers given.are
@@ -177,11 +157,10 @@ boards_are files h =
     let both = and_parts _ _ all.0 in
     record { least = leb-true 2 (length files) both.0; most = leb-true (length files) 8 both.1; sources = all.1 }
 
--- the modules of party and its script, by the contents of its files
+-- the modules of party are as many as its files
 pub record AreGiven (job : PartyJob) (contents : List (List ℕ)) (inputs : InputsTree) : Type 0 where
   pub least : 2 ≤ length inputs.modules
   pub most : length inputs.modules ≤ 8
-  pub script : script_in (content_if job.script (drop (length job.files) contents)) ≡ Ok inputs.script
 
 pub party_given : (job : PartyJob) (contents : List (List ℕ)) (inputs : InputsTree) → are_boards job.files ≡ true
     → length contents ≡ length (names_read (Party job)) → AreAnswered (party_files job) contents (Ok inputs)
@@ -194,9 +173,4 @@ party_given job contents inputs fit count has =
     length-take-le (length job.files) contents (omega (arith, all)) in
     let given = sources_give job.files (take (length job.files) contents) None
     (script_content (party_files job) contents) inputs files.sources words has in
-    let none : length job.files + length (option_to_list (party_files job).control) ≡ length job.files = omega arith in
-    record {
-      least = omega (arith, files.least, given.0);
-      most = omega (arith, files.most, given.0);
-      script = subst (λ (k : ℕ). script_in (content_if job.script (drop k contents)) ≡ Ok inputs.script) none given.1;
-    }
+    record { least = omega (arith, files.least, given); most = omega (arith, files.most, given) }

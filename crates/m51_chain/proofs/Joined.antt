@@ -1,14 +1,13 @@
 -- Modules that are linked each by itself, their boards, and the report of their party.
 use Rattle.m51_chain.proofs.Common.{◌≡◌, ℕ, suc, List, [], ◌∷◌, ◌++◌, length, drop, Result, Ok, Err, refl, sym, ap, ◌∙◌}
 use Rattle.m51_chain.proofs.Common.{subst, arith, All-cons, All-nil, IfSome_then, InputsTree, Linked, Program, Refusal}
-use Rattle.m51_chain.proofs.Common.{ModuleParts, LayoutParts, ScriptError, Script, BoardState, IsStarted, Stop, Follows}
+use Rattle.m51_chain.proofs.Common.{ModuleParts, LayoutParts, Script, BoardState, IsStarted, Stop, Follows}
 use Rattle.m51_chain.proofs.Common.{IsLinkedOr, IsProgramOutcome, Unlinked, sole_program, Outcome, status_if}
 use Rattle.m51_chain.proofs.Common.{IsPartyWork, party_files, AreAnswered, Given, Nothing}
-use Rattle.std.proofs.Common.{◌≢◌, append-nil}
+use Rattle.std.proofs.Common.{append-nil}
 use Rattle.std.specs.Prelude.{All, Vec}
 use Rattle.std.specs.declared.alloc.Global.{Global}
-use Rattle.std.specs.Result.{IsOk}
-use Rattle.m51_cells.specs.Outcome.{RefusesWith, and_then}
+use Rattle.m51_cells.specs.Outcome.{and_then}
 use Rattle.m51_cells.specs.Outside.{Rose}
 use Rattle.m51_party.specs.declared.party.PartyEnd.{PartyEnd}
 use Rattle.m51_party.specs.declared.party.PartyEnd.TheVariants as ends
@@ -18,8 +17,6 @@ use Rattle.m51_party.specs.Rounds.{family_of}
 use Rattle.m51_party.specs.Text.{party_text}
 use Rattle.m51_party.proofs.One.{only_family}
 use Rattle.m51_jobs.specs.declared.job.PartyJob.{PartyJob}
-use Rattle.m51_script.specs.declared.error.ScriptError.TheVariants as script
-use Rattle.m51_script.specs.Reading.{script_refusal}
 use Rattle.m51_sim.specs.Cycles.{inputs_of}
 use Rattle.m51_sim.specs.FlatMachine.{reset_with}
 use Rattle.m51_sim.specs.SeparateMachine.{separate_start}
@@ -33,7 +30,6 @@ use Rattle.m51_chain.specs.Parties.{IsUnlinked, each_of, programs_of}
 use Rattle.m51_verbs.proofs.Edits.{none_left}
 use Rattle.m51_chain.proofs.Accepted.{AreGiven, ok_same}
 use Rattle.m51_chain.proofs.Following.{inputs_refused}
-use Rattle.m51_chain.proofs.InputsGiven.{script_refuses}
 
 -- ---- what each gives
 
@@ -200,28 +196,20 @@ pub alone_refused : (script : Script) (parts : ModuleParts) (why : Stop) → IsL
     → IsBoardOr script parts (Err why)
 alone_refused script parts why h = IfSome_then (stopped why) h (unlinked_only (sole_program parts))
 
--- the board of a program as it is linked, where the script is read again
-pub alone_started : (script again : Script) (parts : ModuleParts) (linked : Linked) (board : BoardState)
-    (answer : Result Script ScriptError)
-    → answer ≡ Ok script → answer ≡ Ok again → IsLinkedOr (sole_program parts) (Ok linked)
-    → IsStarted linked.layout linked.image again board
+-- the board of a program as it is linked, with a copy of the script
+pub alone_started : (script copy : Script) (parts : ModuleParts) (linked : Linked) (board : BoardState)
+    → copy ≡ script → IsLinkedOr (sole_program parts) (Ok linked)
+    → IsStarted linked.layout linked.image copy board
     → IsBoardOr script parts (Ok board)
-alone_started script again parts linked board answer is also h started = (
+alone_started script copy parts linked board same h started = (
   h.0,
   h.1,
   record {
     linked = linked;
     is = h.2;
-    started = subst (λ s. IsStarted linked.layout linked.image s board) (ok_same answer again script also is)
-        started;
+    started = subst (λ s. IsStarted linked.layout linked.image s board) same started;
   },
 )
-
--- a script that was accepted is not refused
-pub accepted : (answer : Result Script ScriptError) (error : ScriptError) → IsOk answer → error ≢ script.Memory
-    → RefusesWith (script_refusal error) answer → ⊥
-accepted answer error ok some h = let refused : IsOk {T = Script} (Err error) =
-    subst (λ (r : Result Script ScriptError). IsOk r) (script_refuses answer error some h) ok in absurd (cc refused)
 
 -- ---- the end of a party
 

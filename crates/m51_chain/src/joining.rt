@@ -1,16 +1,12 @@
 //! The verb `party`.
-ghost use Rattle.std.specs.Prelude.{◌≡◌, ◌≤◌, All, IfOk, Ok, length, true};
-ghost use Rattle.std.specs.Option.{option_copied};
-ghost use Rattle.std.specs.Result.{IsOk};
+ghost use Rattle.std.specs.Prelude.{◌≡◌, ◌≤◌, All, IfOk, length, true};
 ghost use Rattle.m51_party.specs.Family.{IsFresh};
-ghost use Rattle.m51_script.specs.declared.script.Script.{Script as ScriptState};
 ghost use Rattle.m51_jobs.specs.declared.endings.TheConstants.{LEAST_BOARDS, MOST_BOARDS};
 ghost use Rattle.m51_jobs.specs.declared.job.Job.TheVariants.{Party};
 ghost use Rattle.m51_jobs.specs.Endings.{are_boards};
 ghost use Rattle.m51_chain.specs.Parties.{AreBoardsOr, AreJoinedOr, IsBoardOr, IsPartyOutcome, party_outcome};
 ghost use Rattle.m51_chain.specs.Work.{Comes, outcome_of_work};
 ghost use Rattle.m51_verbs.specs.Contents.{AreContentsOf};
-ghost use Rattle.m51_verbs.specs.FlatRuns.{script_in};
 
 use crate::linking::{board_of, inputs_in, link_alone};
 use crate::unrun::UnrunParty;
@@ -19,51 +15,29 @@ use m51_args::{PartyJob, Steps};
 use m51_cells::{Bytes, ListOf, NoMemory};
 use m51_inputs::Inputs;
 use m51_module::Module;
-use m51_script::{Script, ScriptError};
+use m51_script::Script;
 use m51_sim::Board;
-use m51_verbs::{Stop, content_if, script_in};
+use m51_verbs::Stop;
 use std::alloc::Global;
 use std::collections::VecDeque;
 
-// The script of a file that was accepted before: each board has its own.
-fn script_again(alloc: Global, file: Option<&Bytes>) -> Result<Script, NoMemory>
-    requires { IsOk (script_in (option_copied file)) }
-    ensures { IfOk result (λ script. script_in (option_copied file.entry) ≡ Ok script) }
-{
-    match script_in(alloc, file) {
-        Ok(script) => Ok(script),
-        Err(error) => match error {
-            ScriptError::Memory => Err(NoMemory),
-            _ => unreachable!(),
-        },
-    }
-}
-
-// The board of a module that is linked by itself, with the script of this file.
-fn board_alone(alloc: Global, parts: Module, file: Option<&Bytes>) -> Result<Board, Stop>
-    requires { IsOk (script_in (option_copied file)) }
-    ensures { (script : ScriptState) → script_in (option_copied file.entry) ≡ Ok script
-        → IsBoardOr script parts result }
+// The board of a module that is linked by itself, with a copy of the script.
+fn board_alone(alloc: Global, parts: Module, script: &Script) -> Result<Board, Stop>
+    ensures { IsBoardOr script.now parts result }
 {
     let linked = link_alone(alloc, parts)?;
-    let script = script_again(alloc, file)?;
+    let script = script.copy(alloc)?;
     Ok(board_of(alloc, linked, script)?)
 }
 
 // The boards of modules, each linked by itself, in order.
-fn boards_alone(
-    alloc: Global,
-    modules: Vec<Module>,
-    file: Option<&Bytes>,
-) -> Result<Vec<Board>, Stop>
-    requires { IsOk (script_in (option_copied file)) }
-    ensures { (script : ScriptState) → script_in (option_copied file.entry) ≡ Ok script
-        → AreBoardsOr script modules.items result }
+fn boards_alone(alloc: Global, modules: Vec<Module>, script: &Script) -> Result<Vec<Board>, Stop>
+    ensures { AreBoardsOr script.now modules.items result }
 {
     let mut left = VecDeque::from(modules);
     let mut boards = ListOf::new(alloc);
     while let Some(parts) = left.pop_front() {
-        let board = board_alone(alloc, parts, file)?;
+        let board = board_alone(alloc, parts, script)?;
         boards.push(board)?;
     }
     Ok(boards.into_vec())
@@ -88,10 +62,10 @@ fn party_boards(alloc: Global, job: &PartyJob, contents: &[Bytes]) -> Result<Vec
     requires contents { AreContentsOf (Party job.now) contents.now }
     ensures { AreJoinedOr job.now contents.now result }
 {
-    let files = job.files.as_slice();
-    let Inputs { modules, .. } = inputs_in(alloc, files, &None, &job.script, contents)?;
-    let script = content_if(&job.script, &contents[files.len()..]);
-    boards_alone(alloc, modules, script)
+    let Inputs {
+        modules, script, ..
+    } = inputs_in(alloc, job.files.as_slice(), &None, &job.script, contents)?;
+    boards_alone(alloc, modules, &script)
 }
 
 // Builds each program by itself, and joins their boards on one line. The party is the last allocation.

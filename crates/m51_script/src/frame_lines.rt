@@ -61,6 +61,18 @@ impl FrameLines {
         Ok(FrameLines { cycles, frames })
     }
 
+    // The same lines.
+    //
+    // Error: out of memory.
+    pub(crate) fn copy(&self, alloc: Global) -> Result<FrameLines, NoMemory>
+        ensures { IfOk result (λ lines. lines ≡ self.now) }
+    {
+        Ok(FrameLines {
+            cycles: Vec::from_slice(alloc, self.cycles.as_slice())?,
+            frames: Vec::from_slice(alloc, self.frames.as_slice())?,
+        })
+    }
+
     // The frames of this cycle, in order.
     pub(crate) fn at(&self, cycle: u64) -> &[Frame]
         ensures { result.now ≡ those (λ d. d == cycle) self.now.cycles self.now.items }

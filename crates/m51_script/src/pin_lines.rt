@@ -104,6 +104,20 @@ impl PinLines {
         })
     }
 
+    // The same lines.
+    //
+    // Error: out of memory.
+    pub(crate) fn copy(&self, alloc: Global) -> Result<PinLines, NoMemory>
+        ensures { IfOk result (λ lines. lines ≡ self.now) }
+    {
+        Ok(PinLines {
+            cycles: Vec::from_slice(alloc, self.cycles.as_slice())?,
+            changes: Vec::from_slice(alloc, self.changes.as_slice())?,
+            levels: Vec::from_slice(alloc, self.levels.as_slice())?,
+            last: self.last,
+        })
+    }
+
     // The levels that the lines up to this cycle leave.
     pub(crate) fn at(&self, cycle: u64) -> Pins
         ensures { result ≡ levels_after all_high (those (λ d. nat_le d cycle) self.now.cycles self.now.items) }

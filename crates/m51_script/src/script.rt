@@ -38,6 +38,19 @@ impl Script {
         })
     }
 
+    /// A script that is equal to this one, for one more board; the only error is out of memory.
+    ///
+    /// Source: own choice ("Scripts").
+    pub fn copy(&self, alloc: Global) -> Result<Script, NoMemory>
+        ensures { IfOk result (λ script. script ≡ self.now) }
+    {
+        Ok(Script {
+            fill: self.fill,
+            pins: self.pins.copy(alloc)?,
+            frames: self.frames.copy(alloc)?,
+        })
+    }
+
     /// The byte that each byte of memory holds at the start.
     ///
     /// Source: own choice ("Scripts").

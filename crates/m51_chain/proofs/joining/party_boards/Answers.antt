@@ -1,8 +1,6 @@
-use Rattle.m51_chain.proofs.Common.{◌≡◌, Ok, length, IsPartyWork, party_files, script_in}
-use Rattle.std.specs.Option.{option_copied}
-use Rattle.std.proofs.lemmas.List.{take_rest}
+use Rattle.m51_chain.proofs.Common.{IsPartyWork, party_files}
 use Rattle.m51_inputs.specs.Inputs.{inputs_tree}
-use Rattle.m51_chain.proofs.Accepted.{is_accepted, party_given}
+use Rattle.m51_chain.proofs.Accepted.{party_given}
 use Rattle.m51_chain.proofs.Following.{came, file_refused}
 use Rattle.m51_chain.proofs.Joined.{joined}
 use Rattle.m51_chain.proofs.joining.party_boards.Goals as goal
@@ -11,32 +9,12 @@ pub returns-in_err-modules : goal.returns-in_err-modules
 returns-in_err-modules c =
     rw (came c.from_residual.result _ c.from_residual.ensures.1)
     (file_refused (party_files c.args.job.now) c.args.contents.now (IsPartyWork c.args.job.now.steps) _
-    (rw c.as_slice-files.ensures at c.in_err-modules.ensures))
-
-pub boards_alone-requires : goal.boards_alone-requires
-boards_alone-requires c =
-    let inputs = inputs_tree c.in_ok-modules.field-0 in
-    let given = party_given c.args.job.now c.args.contents.now inputs c.requires.fit c.requires.contents.count
-    (rw c.as_slice-files.ensures at c.in_ok-modules.ensures) in
-    let script : script_in (option_copied c.content_if-script.result) ≡ Ok c.in_ok-modules.field-0.script =
-    rw (
-      c.content_if-script.ensures,
-      c.as_slice-files.ensures,
-      take_rest c.args.contents.now (length c.args.job.now.files),
-    ) given.script in
-    is_accepted _ _ script
+    (rw c.as_slice.ensures at c.in_err-modules.ensures))
 
 pub returns : goal.returns
 returns c =
     let inputs = inputs_tree c.in_ok-modules.field-0 in
-    let answered = rw c.as_slice-files.ensures at c.in_ok-modules.ensures in
+    let answered = rw c.as_slice.ensures at c.in_ok-modules.ensures in
     let given = party_given c.args.job.now c.args.contents.now inputs c.requires.fit c.requires.contents.count
     answered in
-    let script : script_in (option_copied c.content_if-script.result) ≡ Ok c.in_ok-modules.field-0.script =
-    rw (
-      c.content_if-script.ensures,
-      c.as_slice-files.ensures,
-      take_rest c.args.contents.now (length c.args.job.now.files),
-    ) given.script in
-    joined c.args.job.now c.args.contents.now inputs c.boards_alone.result answered given
-    (c.boards_alone.ensures c.in_ok-modules.field-0.script script)
+    joined c.args.job.now c.args.contents.now inputs c.boards_alone.result answered given c.boards_alone.ensures

@@ -182,6 +182,23 @@ fn skip_cycles(count: u8, passing: &mut Passing)
     passing.cycle = passing.cycle.saturating_add(u64::from(count));
 }
 
+// This number of machine cycles at once, if the devices only count in them, the script has no lines and no further frame
+// comes. It answers whether it did; if not, nothing changes.
+#[inline(always)]
+fn count_cycles(script: &Script, extra: &[Timed], count: u8, passing: &mut Passing) -> bool
+    ensures { passing.new ≡ (if result then cycles_passed (with_extra extra.now (inputs_of script.now)) count passing.old
+        else passing.old) }
+{
+    if !extra.is_empty() || !script.is_silent() {
+        return false;
+    }
+    if !passing.periph.count_only(&mut passing.cpu, &ALL_HIGH, count) {
+        return false;
+    }
+    skip_cycles(count, passing);
+    true
+}
+
 // This number of machine cycles, one by one.
 #[tactic(auto, unfolding(crate::specs::Cycles::cycles_passed))]
 #[inline(always)]
@@ -213,6 +230,9 @@ pub(crate) fn pass_cycles(
     if are_idle(script, extra, passing, rests) {
         skip_cycles(count, passing);
         return true;
+    }
+    if count_cycles(script, extra, count, passing) {
+        return false;
     }
     pass_each(script, extra, count, passing);
     false

@@ -1,11 +1,13 @@
 //! The devices, and one machine cycle of them.
-ghost use Rattle.std.specs.Prelude.{◌≡◌, ◌++◌, IsTrue};
+ghost use Rattle.std.specs.Prelude.{◌≡◌, ◌++◌, ◌↔◌, IsTrue, if◌then◌else◌};
+ghost use Rattle.m51_timers_uart.specs.OnlyCounting.{OnlyCount, counted_on};
 ghost use Rattle.m51_timers_uart.specs.Resting.{AreResting};
 ghost use Rattle.m51_timers_uart.specs.Sending.{begun};
 ghost use Rattle.m51_timers_uart.specs.Tick.{clocks_rest, clocks_ticked, reset_periph, ticked};
 
 use crate::external::{externals_rest, tick_externals};
 use crate::levels::{Levels, read_levels};
+use crate::only_counting::{all_fit, count_on, is_timer0_plain, is_timer1_plain, is_timer2_plain, waits};
 use crate::receiving::{Frame, receive_both};
 use crate::sending::{start, tick_sending};
 use crate::timer2::{tick_timer2, timer2_rests};
@@ -70,9 +72,27 @@ fn tick_clocks(periph: &mut Periph, cpu: &mut Cpu, levels: &Levels) -> Option<Se
 /// All levels are those of the last tick.
 #[inline(always)]
 fn levels_stay(levels: &Levels) -> bool
-    ensures { IsTrue result → levels.now.present ≡ levels.now.before }
+    ensures { IsTrue result ↔ levels.now.present ≡ levels.now.before }
 {
     levels.present == levels.before
+}
+
+/// Nothing happens in this number of machine cycles but that the timers that run count them.
+#[inline(always)]
+fn only_counts(periph: &Periph, cpu: &Cpu, ext: &Pins, count: u8) -> bool
+    ensures { IsTrue result ↔ OnlyCount count cpu.now ext.now periph.now }
+{
+    let levels = Levels {
+        before: periph.levels,
+        present: read_levels(cpu, ext),
+    };
+    is_timer0_plain(cpu)
+        && is_timer1_plain(cpu)
+        && is_timer2_plain(cpu)
+        && all_fit(count, cpu)
+        && waits(periph, cpu)
+        && levels_stay(&levels)
+        && externals_rest(cpu, &levels)
 }
 
 impl Periph {
@@ -109,13 +129,31 @@ impl Periph {
     /// Source: own choice ("Cycles in which nothing happens").
     #[inline(always)]
     pub fn rests(&self, cpu: &Cpu, ext: &Pins) -> bool
-        ensures { IsTrue result → AreResting cpu.now ext.now self.now }
+        ensures { IsTrue result ↔ AreResting cpu.now ext.now self.now }
     {
         let levels = Levels {
             before: self.levels,
             present: read_levels(cpu, ext),
         };
         clocks_rest(self, cpu) && levels_stay(&levels) && externals_rest(cpu, &levels)
+    }
+
+    /// Passes this number of machine cycles at once, if with these levels outside and without a frame they only count:
+    /// each timer that runs counts each cycle, and none reaches the end of its low byte; no byte on its way moves, no
+    /// level is another than at the last tick, and the external requests are as they are to be. It answers whether it
+    /// did; if not, nothing changes.
+    ///
+    /// Source: own choice ("Cycles in which nothing happens").
+    #[inline(always)]
+    pub fn count_only(&self, cpu: &mut Cpu, ext: &Pins, count: u8) -> bool
+        ensures answer { IsTrue result ↔ OnlyCount count cpu.old ext.now self.now }
+        ensures counted { cpu.new ≡ (if result then counted_on count cpu.old else cpu.old) }
+    {
+        if !only_counts(self, cpu, ext, count) {
+            return false;
+        }
+        count_on(count, cpu);
+        true
     }
 
     /// One machine cycle: timers 0 and 1, timer 2, sending, receiving, the external interrupts. `ext` are the levels

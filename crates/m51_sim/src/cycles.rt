@@ -192,7 +192,10 @@ fn count_cycles(script: &Script, extra: &[Timed], count: u8, passing: &mut Passi
     if !extra.is_empty() || !script.is_silent() {
         return false;
     }
-    if !passing.periph.count_only(&mut passing.cpu, &ALL_HIGH, count) {
+    if !passing
+        .periph
+        .count_only(&mut passing.cpu, &ALL_HIGH, count)
+    {
         return false;
     }
     skip_cycles(count, passing);

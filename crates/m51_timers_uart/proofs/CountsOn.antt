@@ -1,5 +1,5 @@
 -- Machine cycles in which the devices only count: each tick adds one to the low byte of each timer that runs.
-use Rattle.std.proofs.Common.{◌≡◌, ℕ, ◌+◌, ◌<◌, ◌≤◌, Bool, true, false, List, [], ◌∷◌, None, refl, sym, ap, ◌∙◌, arith}
+use Rattle.std.proofs.Common.{◌≡◌, ℕ, zero, suc, ◌+◌, ◌-◌, ◌*◌, ◌/◌, ◌%◌, ◌<◌, ◌≤◌, Bool, true, false, List, [], ◌∷◌, None, Some, refl, sym, ap, ◌∙◌, arith}
 use Rattle.std.proofs.Common.{◌≢◌, length, lit<, lit≤, slice_set}
 use Rattle.std.proofs.lemmas.Bool.{le-leb, leb-true, ne_eqb, not-true}
 use Rattle.std.proofs.lemmas.List.{set-set, set_comm}
@@ -7,9 +7,9 @@ use Rattle.std.specs.Int.{bit_at}
 use Rattle.std.specs.Prelude.{not, nat_le, ◌&&◌, ◌||◌, ◌==◌, if◌then◌else◌}
 use Rattle.m51_flat.specs.declared.state.Cpu.{Cpu}
 use Rattle.m51_flat.specs.declared.state.Pins.{Pins}
-use Rattle.m51_flat.specs.Flags.{ct2, exen2, ie0, ie1, it0, it1, tf0, tr0, tr1, tr2}
-use Rattle.m51_flat.specs.Sfr.{flag, has_register, is_one_of, latch, p0, p1, p2, p3, pcon, t2con, tcon, th0, th1, th2, tl0, tl1}
-use Rattle.m51_flat.specs.Sfr.{tl2, tmod, with_latch}
+use Rattle.m51_flat.specs.Flags.{ct2, exen2, ie0, ie1, it0, it1, tclk, tf0, ti, tr0, tr1, tr2}
+use Rattle.m51_flat.specs.Sfr.{flag, has_register, is_one_of, latch, p0, p1, p2, p3, pcon, scon, t2con, tcon, th0, th1, th2, tl0, tl1}
+use Rattle.m51_flat.specs.Sfr.{tl2, tmod, with_flag, with_latch}
 use Rattle.m51_flat.proofs.RegisterLaws.{registers_are_written}
 use Rattle.m51_timers_uart.specs.declared.counting.Counted.{Counted}
 use Rattle.m51_timers_uart.specs.declared.counting.TimerBytes.{TimerBytes}
@@ -204,18 +204,49 @@ waits_parts false true true h = cc h
 waits_parts false false over h = cc h
 
 mode_there : (mode : ℕ) → (mode == 1 || mode == 3) ≡ true → ((mode == 0) ≡ false) × ((mode == 2) ≡ false)
-mode_there 0 h = cc h
-mode_there 1 h = (refl, refl)
-mode_there 2 h = cc h
-mode_there (suc (suc (suc n))) h = (refl, refl)
+mode_there zero h = cc h
+mode_there (suc zero) h = (refl, refl)
+mode_there (suc (suc zero)) h = cc h
+mode_there (suc (suc (suc n))) h =
+    (ne_eqb (suc (suc (suc n))) 0 (λ e. omega (arith, e)), ne_eqb (suc (suc (suc n))) 2 (λ e. omega (arith, e)))
+
+either_way : (b : Bool) (n : ℕ) → (if b then n else n) ≡ n
+either_way true n = refl
+either_way false n = refl
+
+growth_none : (cpu : Cpu) (mode : ℕ) → (mode == 2) ≡ false → growth cpu mode false 0 ≡ 0
+unfolding growth
+growth_none cpu mode h =
+    ap (λ b. if b then 12 else (if flag cpu t2con tclk then 0 else 0)) h ∙ either_way (flag cpu t2con tclk) 0
+
+abbrev clocked_to : ℕ → Periph → ℕ → Periph
+clocked_to takes p n =
+    if nat_le takes n then record p { left = p.left - 1; count = n - takes } else record p { count = n }
+
+clocked_none : (takes : ℕ) (p : Periph) → nat_le takes p.count ≡ false → clocked 0 takes p ≡ p
+unfolding clocked
+clocked_none takes p h =
+    let none : p.count + 0 ≡ p.count = omega arith in
+    ap (clocked_to takes p) none
+    ∙ ap (λ b. if b then (record p { left = p.left - 1; count = p.count - takes }) else p) h
 
 moved_none : (cpu : Cpu) (p : Periph) → (p.mode == 1 || p.mode == 3) ≡ true
     → nat_le (bit_time cpu p.mode) p.count ≡ false → moved cpu false 0 p ≡ p
-unfolding moved growth clocked
-moved_none cpu p m o =
+unfolding moved
+moved_none cpu p m h =
     let mode = mode_there p.mode m in
-    let none : p.count + 0 ≡ p.count = omega arith in
-    rw (mode.0, mode.1, none, o) refl
+    let takes = bit_time cpu p.mode in
+    ap (λ b. if b then (record p { left = p.left - 1 }) else clocked (growth cpu p.mode false 0) takes p) mode.0
+    ∙ ap (λ n. clocked n takes p) (growth_none cpu p.mode mode.1)
+    ∙ clocked_none takes p h
+
+abbrev ended_by : Cpu → Periph → Bool → Ticked
+ended_by cpu p ended =
+    if ended then record {
+      cpu = with_flag cpu scon ti true;
+      periph = p;
+      sent = Some (record { byte = p.byte; ninth = p.ninth });
+    } else record { cpu = cpu; periph = p; sent = None }
 
 line_by : (none : Bool) (cpu : Cpu) (p : Periph) → (p.left == 0) ≡ none
     → (if none then true else (p.mode == 1 || p.mode == 3) && not (nat_le (bit_time cpu p.mode) p.count)) ≡ true
@@ -226,7 +257,7 @@ line_by false cpu p e h =
     let w = waits_parts (p.mode == 1) (p.mode == 3) (nat_le (bit_time cpu p.mode) p.count) h in
     ap (λ b. if b then (record { cpu = cpu; periph = p; sent = None }) else sent_at_end cpu (moved cpu false 0 p)) e
     ∙ ap (sent_at_end cpu) (moved_none cpu p w.0 w.1)
-    ∙ ap (λ b. if b then (sent_at_end cpu p) else (record { cpu = cpu; periph = p; sent = None })) e
+    ∙ ap (ended_by cpu p) e
 
 line_stays : (cpu : Cpu) (p : Periph) → line_waits cpu p ≡ true
     → ◌≡◌ {A = Ticked} (sending_ticked false 0 cpu p) (record { cpu = cpu; periph = p; sent = None })

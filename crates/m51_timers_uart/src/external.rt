@@ -1,5 +1,5 @@
 //! External interrupts.
-ghost use Rattle.std.specs.Prelude.{◌≡◌, ◌<◌, true, IsTrue};
+ghost use Rattle.std.specs.Prelude.{◌≡◌, ◌<◌, ◌&&◌};
 ghost use Rattle.m51_flat.specs.Flags.{ie0, ie1, it0, it1};
 ghost use Rattle.m51_flat.specs.Sfr.{latch, tcon, with_bit};
 ghost use Rattle.m51_timers_uart.specs.declared.levels.Input.TheVariants.{Int0, Int1};
@@ -65,8 +65,8 @@ fn request_rests(levels: &Levels, byte: u8, pin: Input, it: u8, ask: u8) -> bool
 /// Both are as they are to be, so that `tick_externals` changes nothing.
 #[inline(always)]
 pub(crate) fn externals_rest(cpu: &Cpu, levels: &Levels) -> bool
-    ensures int0 { IsTrue result → request_rests levels.now Int0 it0 ie0 (latch cpu.now tcon) ≡ true }
-    ensures int1 { IsTrue result → request_rests levels.now Int1 it1 ie1 (latch cpu.now tcon) ≡ true }
+    ensures { result ≡ (request_rests levels.now Int0 it0 ie0 (latch cpu.now tcon)
+        && request_rests levels.now Int1 it1 ie1 (latch cpu.now tcon)) }
 {
     let byte = cpu.latch(TCON);
     let zero = request_rests(levels, byte, Input::Int0, IT0, IE0);

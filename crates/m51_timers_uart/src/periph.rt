@@ -7,7 +7,9 @@ ghost use Rattle.m51_timers_uart.specs.Tick.{clocks_rest, clocks_ticked, reset_p
 
 use crate::external::{externals_rest, tick_externals};
 use crate::levels::{Levels, read_levels};
-use crate::only_counting::{all_fit, count_on, is_timer0_plain, is_timer1_plain, is_timer2_plain, waits};
+use crate::only_counting::{
+    all_fit, count_on, is_timer0_plain, is_timer1_plain, is_timer2_plain, waits,
+};
 use crate::receiving::{Frame, receive_both};
 use crate::sending::{start, tick_sending};
 use crate::timer2::{tick_timer2, timer2_rests};

@@ -1,5 +1,6 @@
 //! The machine cycles of a step.
 ghost use Rattle.std.specs.Prelude.{◌≡◌, ◌≤◌, ◌+◌, ◌-◌, ◌^◌, [], ◌∷◌, ◌++◌, length, take, min, IsTrue};
+ghost use Rattle.std.specs.Prelude.{if◌then◌else◌};
 ghost use Rattle.m51_sim.specs.Cycles.{AreFew, Rests, cycle_passed, cycles_passed, first_sent, frames_in, inputs_of};
 ghost use Rattle.m51_sim.specs.Cycles.{next_cycle, sent_in, with_extra};
 ghost use Rattle.m51_timers_uart.specs.Tick.{ticked};
@@ -182,6 +183,12 @@ fn skip_cycles(count: u8, passing: &mut Passing)
     passing.cycle = passing.cycle.saturating_add(u64::from(count));
 }
 
+// A processor has 128 registers, which proofs need.
+#[inline(always)]
+fn cite_registers(cpu: &Cpu)
+    ensures { length cpu.now.regs ≡ 128 }
+{}
+
 // This number of machine cycles at once, if the devices only count in them, the script has no lines and no further frame
 // comes. It answers whether it did; if not, nothing changes.
 #[inline(always)]
@@ -192,9 +199,13 @@ fn count_cycles(script: &Script, extra: &[Timed], count: u8, passing: &mut Passi
     if !extra.is_empty() || !script.is_silent() {
         return false;
     }
+    cite_registers(&passing.cpu);
+    if !passing.periph.counts(&passing.cpu, &ALL_HIGH) {
+        return false;
+    }
     if !passing
         .periph
-        .count_only(&mut passing.cpu, &ALL_HIGH, count)
+        .count_on(&mut passing.cpu, &ALL_HIGH, count)
     {
         return false;
     }

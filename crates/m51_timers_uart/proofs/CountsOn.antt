@@ -15,14 +15,15 @@ use Rattle.m51_timers_uart.specs.declared.counting.Counted.{Counted}
 use Rattle.m51_timers_uart.specs.declared.counting.TimerBytes.{TimerBytes}
 use Rattle.m51_timers_uart.specs.declared.counting.TimerMode.{TimerMode}
 use Rattle.m51_timers_uart.specs.declared.counting.TimerMode.TheVariants.{ThirteenBits, SixteenBits, Reloaded, Split}
+use Rattle.m51_timers_uart.specs.declared.levels.Input.{Input}
 use Rattle.m51_timers_uart.specs.declared.levels.Input.TheVariants.{Int0, Int1, T0}
 use Rattle.m51_timers_uart.specs.declared.levels.Levels.{Levels}
 use Rattle.m51_timers_uart.specs.declared.periph.Periph.{Periph}
 use Rattle.m51_timers_uart.specs.Counting.{counted_in, counter_value, placed, sixteen_counted}
 use Rattle.m51_timers_uart.specs.External.{requested}
 use Rattle.m51_timers_uart.specs.KeptLaws.{KeepsBut}
-use Rattle.m51_timers_uart.specs.Levels.{falls, is_high}
-use Rattle.m51_timers_uart.specs.OnlyCounting.{CountsOn, DevicesCountOn, OnlyCount, counted_on, counts_each}
+use Rattle.m51_timers_uart.specs.Levels.{falls, is_high, levels_of}
+use Rattle.m51_timers_uart.specs.OnlyCounting.{AreCounting, CountsOn, DevicesCountOn, OnlyCount, counted_on, counts_each}
 use Rattle.m51_timers_uart.specs.OnlyCounting.{counts_whole, line_waits, low0_after, low1_after, low2_after, low_after}
 use Rattle.m51_timers_uart.specs.OnlyCounting.{timer0_is_plain, timer1_is_plain, timer2_is_plain}
 use Rattle.m51_timers_uart.specs.Resting.{looked_at, request_rests}
@@ -299,6 +300,25 @@ module _ (one other : Cpu) (h : looked_at one ≡ looked_at other) where
       let timer2 : latch one t2con ≡ latch other t2con = at one other h 6 in
       rw (timer2, power) refl
 
+-- with the same registers, and the same levels at the last tick, they count as before
+pub still_counting : (one other : Cpu) → looked_at one ≡ looked_at other → (ext : Pins) (p q : Periph)
+    → AreCounting one ext p → q.levels ≡ p.levels → AreCounting other ext q
+still_counting one other h ext p q c same = record {
+  timer0 = sym (plain0_same one other h) ∙ c.timer0;
+  timer1 = sym (plain1_same one other h) ∙ c.timer1;
+  timer2 = sym (plain2_same one other h) ∙ c.timer2;
+  levels = sym (levels_same one other h ext) ∙ c.levels ∙ sym same;
+  int0 = asked Int0 it0 ie0 (asks_same one other h Int0 it0 ie0 ext p c.int0);
+  int1 = asked Int1 it1 ie1 (asks_same one other h Int1 it1 ie1 ext p c.int1);
+}
+  where
+    asked : (pin : Input) (it ask : ℕ) → request_rests (levels_met p other ext) pin it ask (latch other tcon) ≡ true
+        → request_rests (levels_met q other ext) pin it ask (latch other tcon) ≡ true
+    asked pin it ask r =
+        ap (λ (before : List ℕ). request_rests (record { before = before; present = levels_of other ext }) pin it ask
+        (latch other tcon)) same
+        ∙ r
+
 low_same : (n : ℕ) (one other : Cpu) (control bit low : ℕ) → latch one control ≡ latch other control
     → latch one low ≡ latch other low
     → low_after n (flag one control bit) (latch one low) ≡ low_after n (flag other control bit) (latch other low)
@@ -357,12 +377,12 @@ clocks_count levels cpu ext p h =
     let low2 : low2_after 1 two ≡ c =
     low_same 1 two cpu t2con tr2 tl2 (at two cpu looks2 6)
     ((keeps_two cpu a b c (tl0 ∷ tl1 ∷ []) refl refl).latches tl2 (lit≤ tt) refl) in
-    let plain0 = plain0_same one cpu looks1 ∙ h.timer0 in
-    let timer1 = timer1_counts levels one plain0 (plain1_same one cpu looks1 ∙ h.timer1)
+    let plain0 = plain0_same one cpu looks1 ∙ h.counting.timer0 in
+    let timer1 = timer1_counts levels one plain0 (plain1_same one cpu looks1 ∙ h.counting.timer1)
     (ap (λ n. nat_le n 255) low1 ∙ h.low1) ∙ ap (λ n. one_timed (with_latch one tl1 n)) low1 in
-    let timer2 = timer2_counts levels two (plain2_same two cpu looks2 ∙ h.timer2)
+    let timer2 = timer2_counts levels two (plain2_same two cpu looks2 ∙ h.counting.timer2)
     (ap (λ n. nat_le n 255) low2 ∙ h.low2) ∙ ap (λ n. none_over (with_latch two tl2 n)) low2 in
-    ap (λ (x : Cpu). sent_after levels p (timer1_ticked levels (th0_ticked x))) (timer0_counts levels cpu h.timer0 h.low0)
+    ap (λ (x : Cpu). sent_after levels p (timer1_ticked levels (th0_ticked x))) (timer0_counts levels cpu h.counting.timer0 h.low0)
     ∙ ap (λ (x : Cpu). sent_after levels p (timer1_ticked levels x)) (th0_stays one (not_split one plain0))
     ∙ ap (sent_after levels p) timer1
     ∙ ap (λ (o : Overflowed). sending_ticked false o.overflows o.cpu p) timer2
@@ -385,13 +405,13 @@ tick_counts cpu ext p h =
     let levels = levels_met p cpu ext in
     let next = counted_on 1 cpu in
     let tcon_stays : latch next tcon ≡ latch cpu tcon = (counted_keeps 1 cpu).latches tcon (lit≤ tt) refl in
-    let int0 = ap (λ byte. request_rests levels Int0 it0 ie0 byte) tcon_stays ∙ h.int0 in
-    let int1 = ap (λ byte. request_rests levels Int1 it1 ie1 byte) tcon_stays ∙ h.int1 in
+    let int0 = ap (λ byte. request_rests levels Int0 it0 ie0 byte) tcon_stays ∙ h.counting.int0 in
+    let int1 = ap (λ byte. request_rests levels Int1 it1 ie1 byte) tcon_stays ∙ h.counting.int1 in
     ap (inputs_ticked levels []) (clocks_count levels cpu ext p h)
     ∙ ap (λ (c : Cpu). with_levels (requested levels Int1 it1 ie1 c) levels.present)
     (request_stays levels Int0 it0 ie0 next int0)
     ∙ ap (λ (c : Cpu). with_levels c levels.present) (request_stays levels Int1 it1 ie1 next int1)
-    ∙ ap (λ (l : List ℕ). with_levels next l) h.levels
+    ∙ ap (λ (l : List ℕ). with_levels next l) h.counting.levels
   where
     with_levels : Cpu → List ℕ → Ticked
     with_levels c l = record { cpu = c; periph = record p { levels = l }; sent = None }
@@ -504,16 +524,11 @@ module _ (k : ℕ) (cpu : Cpu) (size : length cpu.regs ≡ 128) where
 
   still_count : (n : ℕ) (ext : Pins) (p : Periph) → k < n → OnlyCount n cpu ext p → OnlyCount 1 now ext p
   still_count n ext p less h = record {
-    timer0 = plain0_same now cpu looks_now ∙ h.timer0;
-    timer1 = plain1_same now cpu looks_now ∙ h.timer1;
-    timer2 = plain2_same now cpu looks_now ∙ h.timer2;
+    counting = still_counting cpu now (sym looks_now) ext p p h.counting refl;
     low0 = ap (λ m. nat_le m 255) low0_now ∙ low_less k n (flag cpu tcon tr0) (latch cpu tl0) less h.low0;
     low1 = ap (λ m. nat_le m 255) low1_now ∙ low_less k n (flag cpu tcon tr1) (latch cpu tl1) less h.low1;
     low2 = ap (λ m. nat_le m 255) low2_now ∙ low_less k n (flag cpu t2con tr2) (latch cpu tl2) less h.low2;
     line = waits_same now cpu looks_now p ((counted_keeps k cpu).latches pcon (lit≤ tt) refl) ∙ h.line;
-    levels = levels_same now cpu looks_now ext ∙ h.levels;
-    int0 = asks_same cpu now (sym looks_now) Int0 it0 ie0 ext p h.int0;
-    int1 = asks_same cpu now (sym looks_now) Int1 it1 ie1 ext p h.int1;
   }
 
 pub devices_count_on : DevicesCountOn

@@ -59,20 +59,23 @@ low1_after n cpu = low_after n (flag cpu tcon tr1) (latch cpu tl1)
 abbrev pub low2_after : ℕ → Cpu → ℕ
 low2_after n cpu = low_after n (flag cpu t2con tr2) (latch cpu tl2)
 
--- with these levels outside each timer that runs counts each cycle, and in this number of them none reaches the end of
--- its low byte; no byte moves on its way, no level is another than at the last tick, and the external requests are as
--- they are to be
-pub record OnlyCount (n : ℕ) (cpu : Cpu) (ext : Pins) (p : Periph) : Type 0 where
+-- with these levels outside each timer that runs counts each cycle, no level is another than at the last tick, and the
+-- external requests are as they are to be
+pub record AreCounting (cpu : Cpu) (ext : Pins) (p : Periph) : Type 0 where
   pub timer0 : timer0_is_plain cpu ≡ true
   pub timer1 : timer1_is_plain cpu ≡ true
   pub timer2 : timer2_is_plain cpu ≡ true
+  pub levels : (levels_met p cpu ext).present ≡ p.levels
+  pub int0 : request_rests (levels_met p cpu ext) Int0 it0 ie0 (latch cpu tcon) ≡ true
+  pub int1 : request_rests (levels_met p cpu ext) Int1 it1 ie1 (latch cpu tcon) ≡ true
+
+-- and in this number of cycles no timer reaches the end of its low byte, and no byte moves on its way
+pub record OnlyCount (n : ℕ) (cpu : Cpu) (ext : Pins) (p : Periph) : Type 0 where
+  pub counting : AreCounting cpu ext p
   pub low0 : nat_le (low0_after n cpu) 255 ≡ true
   pub low1 : nat_le (low1_after n cpu) 255 ≡ true
   pub low2 : nat_le (low2_after n cpu) 255 ≡ true
   pub line : line_waits cpu p ≡ true
-  pub levels : (levels_met p cpu ext).present ≡ p.levels
-  pub int0 : request_rests (levels_met p cpu ext) Int0 it0 ie0 (latch cpu tcon) ≡ true
-  pub int1 : request_rests (levels_met p cpu ext) Int1 it1 ie1 (latch cpu tcon) ≡ true
 
 -- the processor after this number of such cycles
 unfoldable pub counted_on : ℕ → Cpu → Cpu

@@ -1,6 +1,7 @@
 //! The devices, and one machine cycle of them.
-ghost use Rattle.std.specs.Prelude.{◌≡◌, ◌++◌, ◌↔◌, IsTrue, if◌then◌else◌};
-ghost use Rattle.m51_timers_uart.specs.OnlyCounting.{OnlyCount, counted_on};
+ghost use Rattle.std.specs.Prelude.{◌≡◌, ◌++◌, ◌↔◌, ◌&&◌, IsTrue, nat_le, if◌then◌else◌};
+ghost use Rattle.m51_timers_uart.specs.OnlyCounting.{AreCounting, OnlyCount, counted_on, line_waits, low0_after};
+ghost use Rattle.m51_timers_uart.specs.OnlyCounting.{low1_after, low2_after};
 ghost use Rattle.m51_timers_uart.specs.Resting.{AreResting};
 ghost use Rattle.m51_timers_uart.specs.Sending.{begun};
 ghost use Rattle.m51_timers_uart.specs.Tick.{clocks_rest, clocks_ticked, reset_periph, ticked};
@@ -79,22 +80,14 @@ fn levels_stay(levels: &Levels) -> bool
     levels.present == levels.before
 }
 
-/// Nothing happens in this number of machine cycles but that the timers that run count them.
+/// In this number of cycles no timer that runs reaches the end of its low byte, and no byte moves on its way.
 #[inline(always)]
-fn only_counts(periph: &Periph, cpu: &Cpu, ext: &Pins, count: u8) -> bool
-    ensures { IsTrue result ↔ OnlyCount count cpu.now ext.now periph.now }
+fn last_for(periph: &Periph, cpu: &Cpu, count: u8) -> bool
+    ensures { result ≡ (nat_le (low0_after count cpu.now) 255 && nat_le (low1_after count cpu.now) 255
+        && nat_le (low2_after count cpu.now) 255 && line_waits cpu.now periph.now) }
 {
-    let levels = Levels {
-        before: periph.levels,
-        present: read_levels(cpu, ext),
-    };
-    is_timer0_plain(cpu)
-        && is_timer1_plain(cpu)
-        && is_timer2_plain(cpu)
-        && all_fit(count, cpu)
-        && waits(periph, cpu)
-        && levels_stay(&levels)
-        && externals_rest(cpu, &levels)
+    let fit = all_fit(count, cpu);
+    fit && waits(periph, cpu)
 }
 
 impl Periph {
@@ -140,18 +133,39 @@ impl Periph {
         clocks_rest(self, cpu) && levels_stay(&levels) && externals_rest(cpu, &levels)
     }
 
-    /// Passes this number of machine cycles at once, if with these levels outside and without a frame they only count:
-    /// each timer that runs counts each cycle, and none reaches the end of its low byte; no byte on its way moves, no
-    /// level is another than at the last tick, and the external requests are as they are to be. It answers whether it
-    /// did; if not, nothing changes.
+    /// The devices only count if these are the levels outside: each timer that runs counts each cycle, no level is
+    /// another than at the last tick, and the external requests are as they are to be. Then a machine cycle in which no
+    /// frame arrives, no timer reaches the end of its low byte and no byte moves on its way adds one to these low bytes,
+    /// and changes nothing else.
     ///
     /// Source: own choice ("Cycles in which nothing happens").
     #[inline(always)]
-    pub fn count_only(&self, cpu: &mut Cpu, ext: &Pins, count: u8) -> bool
+    pub fn counts(&self, cpu: &Cpu, ext: &Pins) -> bool
+        ensures { IsTrue result ↔ AreCounting cpu.now ext.now self.now }
+    {
+        let levels = Levels {
+            before: self.levels,
+            present: read_levels(cpu, ext),
+        };
+        is_timer0_plain(cpu)
+            && is_timer1_plain(cpu)
+            && is_timer2_plain(cpu)
+            && levels_stay(&levels)
+            && externals_rest(cpu, &levels)
+    }
+
+    /// Passes this number of machine cycles in which no frame arrives at once, where the devices only count, if in them
+    /// no timer reaches the end of its low byte and no byte moves on its way. It answers whether it did; if not, nothing
+    /// changes.
+    ///
+    /// Source: own choice ("Cycles in which nothing happens").
+    #[inline(always)]
+    pub fn count_on(&self, cpu: &mut Cpu, ext: &Pins, count: u8) -> bool
+        requires { AreCounting cpu.old ext.now self.now }
         ensures answer { IsTrue result ↔ OnlyCount count cpu.old ext.now self.now }
         ensures counted { cpu.new ≡ (if result then counted_on count cpu.old else cpu.old) }
     {
-        if !only_counts(self, cpu, ext, count) {
+        if !last_for(self, cpu, count) {
             return false;
         }
         count_on(count, cpu);

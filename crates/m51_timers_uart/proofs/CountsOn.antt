@@ -7,24 +7,24 @@ use Rattle.std.specs.Int.{bit_at}
 use Rattle.std.specs.Prelude.{not, nat_le, ◌&&◌, ◌||◌, ◌==◌, if◌then◌else◌}
 use Rattle.m51_flat.specs.declared.state.Cpu.{Cpu}
 use Rattle.m51_flat.specs.declared.state.Pins.{Pins}
-use Rattle.m51_flat.specs.Flags.{ct2, exen2, ie0, ie1, it0, it1, tclk, tf0, ti, tr0, tr1, tr2}
+use Rattle.m51_flat.specs.Flags.{ct2, exen2, ie0, ie1, it0, it1, tclk, ti, tr0, tr1, tr2}
 use Rattle.m51_flat.specs.Sfr.{flag, has_register, is_one_of, latch, p0, p1, p2, p3, pcon, scon, t2con, tcon, th0, th1, th2, tl0, tl1}
-use Rattle.m51_flat.specs.Sfr.{tl2, tmod, with_flag, with_latch}
+use Rattle.m51_flat.specs.Sfr.{tl2, tmod, with_bit, with_flag, with_latch}
 use Rattle.m51_flat.proofs.RegisterLaws.{registers_are_written}
 use Rattle.m51_timers_uart.specs.declared.counting.Counted.{Counted}
 use Rattle.m51_timers_uart.specs.declared.counting.TimerBytes.{TimerBytes}
 use Rattle.m51_timers_uart.specs.declared.counting.TimerMode.{TimerMode}
 use Rattle.m51_timers_uart.specs.declared.counting.TimerMode.TheVariants.{ThirteenBits, SixteenBits, Reloaded, Split}
 use Rattle.m51_timers_uart.specs.declared.levels.Input.{Input}
-use Rattle.m51_timers_uart.specs.declared.levels.Input.TheVariants.{Int0, Int1, T0}
+use Rattle.m51_timers_uart.specs.declared.levels.Input.TheVariants.{Int0, Int1}
 use Rattle.m51_timers_uart.specs.declared.levels.Levels.{Levels}
 use Rattle.m51_timers_uart.specs.declared.periph.Periph.{Periph}
 use Rattle.m51_timers_uart.specs.Counting.{counted_in, counter_value, placed, sixteen_counted}
 use Rattle.m51_timers_uart.specs.External.{requested}
 use Rattle.m51_timers_uart.specs.KeptLaws.{KeepsBut}
-use Rattle.m51_timers_uart.specs.Levels.{falls, is_high, levels_of}
-use Rattle.m51_timers_uart.specs.OnlyCounting.{AreCounting, CountsOn, DevicesCountOn, OnlyCount, counted_on, counts_each}
-use Rattle.m51_timers_uart.specs.OnlyCounting.{counts_whole, line_waits, low0_after, low1_after, low2_after, low_after}
+use Rattle.m51_timers_uart.specs.Levels.{is_high, is_one, levels_of, port_and_bit}
+use Rattle.m51_timers_uart.specs.OnlyCounting.{AreCounting, DevicesCountOn, OnlyCount, counted_on, counts_each}
+use Rattle.m51_timers_uart.specs.OnlyCounting.{counts_whole, line_waits, none_asks, low0_after, low1_after, low2_after, low_after}
 use Rattle.m51_timers_uart.specs.OnlyCounting.{timer0_is_plain, timer1_is_plain, timer2_is_plain}
 use Rattle.m51_timers_uart.specs.Resting.{looked_at, request_rests}
 use Rattle.m51_timers_uart.specs.Sending.{Ticked, bit_time, clocked, growth, moved, sending_ticked, sent_at_end}
@@ -308,16 +308,9 @@ still_counting one other h ext p q c same = record {
   timer1 = sym (plain1_same one other h) ∙ c.timer1;
   timer2 = sym (plain2_same one other h) ∙ c.timer2;
   levels = sym (levels_same one other h ext) ∙ c.levels ∙ sym same;
-  int0 = asked Int0 it0 ie0 (asks_same one other h Int0 it0 ie0 ext p c.int0);
-  int1 = asked Int1 it1 ie1 (asks_same one other h Int1 it1 ie1 ext p c.int1);
+  requests = ap (λ l. none_asks l (latch other tcon)) (sym (levels_same one other h ext))
+      ∙ ap (none_asks (levels_of one ext)) (sym (at one other h 4)) ∙ c.requests;
 }
-  where
-    asked : (pin : Input) (it ask : ℕ) → request_rests (levels_met p other ext) pin it ask (latch other tcon) ≡ true
-        → request_rests (levels_met q other ext) pin it ask (latch other tcon) ≡ true
-    asked pin it ask r =
-        ap (λ (before : List ℕ). request_rests (record { before = before; present = levels_of other ext }) pin it ask
-        (latch other tcon)) same
-        ∙ r
 
 low_same : (n : ℕ) (one other : Cpu) (control bit low : ℕ) → latch one control ≡ latch other control
     → latch one low ≡ latch other low
@@ -397,16 +390,38 @@ counted_keeps : (n : ℕ) (cpu : Cpu) → KeepsBut lows cpu (counted_on n cpu)
 unfolding counted_on
 counted_keeps n cpu = keeps_all cpu (low0_after n cpu) (low1_after n cpu) (low2_after n cpu)
 
+-- a pin that is 1, where no request is kept
+asked_none : (edge was high : Bool) (ask byte : ℕ) → high ≡ true → (with_bit byte ask false == byte) ≡ true
+    → (if edge then not (was && not high) else with_bit byte ask (not high) == byte) ≡ true
+asked_none true true true ask byte h k = refl
+asked_none true false true ask byte h k = refl
+asked_none false was true ask byte h k = k
+asked_none edge was false ask byte h k = cc h
+
+high_rests : (levels : Levels) (pin : Input) (it ask byte : ℕ) → is_high levels pin ≡ true
+    → (with_bit byte ask false == byte) ≡ true → request_rests levels pin it ask byte ≡ true
+unfolding request_rests
+high_rests levels pin it ask byte h k =
+    asked_none (bit_at byte it == 1) (is_one levels.before (port_and_bit pin)) (is_high levels pin) ask byte h k
+
+four_parts : (a b c d : Bool) → (a && b && c && d) ≡ true → (a ≡ true) × (b ≡ true) × (c ≡ true) × (d ≡ true)
+four_parts true true true true h = (refl, refl, refl, refl)
+four_parts true true true false h = cc h
+four_parts true true false d h = cc h
+four_parts true false c d h = cc h
+four_parts false b c d h = cc h
+
 -- one tick
 tick_counts : (cpu : Cpu) (ext : Pins) (p : Periph) → OnlyCount 1 cpu ext p
     → ticked cpu ext [] p ≡ only (counted_on 1 cpu) p
-unfolding ticked
+unfolding ticked none_asks
 tick_counts cpu ext p h =
     let levels = levels_met p cpu ext in
     let next = counted_on 1 cpu in
     let tcon_stays : latch next tcon ≡ latch cpu tcon = (counted_keeps 1 cpu).latches tcon (lit≤ tt) refl in
-    let int0 = ap (λ byte. request_rests levels Int0 it0 ie0 byte) tcon_stays ∙ h.counting.int0 in
-    let int1 = ap (λ byte. request_rests levels Int1 it1 ie1 byte) tcon_stays ∙ h.counting.int1 in
+    let none = four_parts _ _ _ _ (ap (none_asks levels.present) tcon_stays ∙ h.counting.requests) in
+    let int0 = high_rests levels Int0 it0 ie0 (latch next tcon) none.0 none.2 in
+    let int1 = high_rests levels Int1 it1 ie1 (latch next tcon) none.1 none.3 in
     ap (inputs_ticked levels []) (clocks_count levels cpu ext p h)
     ∙ ap (λ (c : Cpu). with_levels (requested levels Int1 it1 ie1 c) levels.present)
     (request_stays levels Int0 it0 ie0 next int0)

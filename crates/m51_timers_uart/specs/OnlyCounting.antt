@@ -1,18 +1,18 @@
 -- Devices that only count: machine cycles in which no frame arrives add their number to the low byte of each timer that
 -- runs, and change nothing else.
 use Rattle.std.specs.Prelude.{◌≡◌, ℕ, ◌+◌, ◌<◌, Bool, true, false, not, ◌&&◌, ◌||◌, ◌==◌, nat_le, if◌then◌else◌, [], None}
-use Rattle.std.specs.Prelude.{length}
+use Rattle.std.specs.Prelude.{length, List}
 use Rattle.m51_flat.specs.declared.state.Cpu.{Cpu}
 use Rattle.m51_flat.specs.declared.state.Pins.{Pins}
-use Rattle.m51_flat.specs.Flags.{ct2, exen2, ie0, ie1, it0, it1, tr0, tr1, tr2}
-use Rattle.m51_flat.specs.Sfr.{flag, latch, t2con, tcon, tl0, tl1, tl2, tmod, with_latch}
+use Rattle.m51_flat.specs.Flags.{ct2, exen2, ie0, ie1, tr0, tr1, tr2}
+use Rattle.m51_flat.specs.Sfr.{flag, latch, t2con, tcon, tl0, tl1, tl2, tmod, with_bit, with_latch}
 use Rattle.m51_timers_uart.specs.declared.counting.TimerMode.{TimerMode}
 use Rattle.m51_timers_uart.specs.declared.counting.TimerMode.TheVariants.{Reloaded, SixteenBits}
 use Rattle.m51_timers_uart.specs.declared.levels.Input.TheVariants.{Int0, Int1}
 use Rattle.m51_timers_uart.specs.declared.periph.Periph.{Periph}
-use Rattle.m51_timers_uart.specs.Resting.{request_rests}
+use Rattle.m51_timers_uart.specs.Levels.{is_one, levels_of, port_and_bit}
 use Rattle.m51_timers_uart.specs.Sending.{bit_time}
-use Rattle.m51_timers_uart.specs.Tick.{levels_met, ticked}
+use Rattle.m51_timers_uart.specs.Tick.{ticked}
 use Rattle.m51_timers_uart.specs.Timer2.{gives_rate}
 use Rattle.m51_timers_uart.specs.Timers.{is_split, mode0, mode1}
 
@@ -59,15 +59,20 @@ low1_after n cpu = low_after n (flag cpu tcon tr1) (latch cpu tl1)
 abbrev pub low2_after : ℕ → Cpu → ℕ
 low2_after n cpu = low_after n (flag cpu t2con tr2) (latch cpu tl2)
 
--- with these levels outside each timer that runs counts each cycle, no level is another than at the last tick, and the
--- external requests are as they are to be
+-- both pins of the external interrupts are 1, and where TCON is this byte no request of them is kept
+unfoldable pub none_asks : List ℕ → ℕ → Bool
+none_asks levels byte =
+    is_one levels (port_and_bit Int0) && is_one levels (port_and_bit Int1)
+    && with_bit byte ie0 false == byte && with_bit byte ie1 false == byte
+
+-- with these levels outside each timer that runs counts each cycle, no level is another than at the last tick, and no
+-- external interrupt asks
 pub record AreCounting (cpu : Cpu) (ext : Pins) (p : Periph) : Type 0 where
   pub timer0 : timer0_is_plain cpu ≡ true
   pub timer1 : timer1_is_plain cpu ≡ true
   pub timer2 : timer2_is_plain cpu ≡ true
-  pub levels : (levels_met p cpu ext).present ≡ p.levels
-  pub int0 : request_rests (levels_met p cpu ext) Int0 it0 ie0 (latch cpu tcon) ≡ true
-  pub int1 : request_rests (levels_met p cpu ext) Int1 it1 ie1 (latch cpu tcon) ≡ true
+  pub levels : levels_of cpu ext ≡ p.levels
+  pub requests : none_asks (levels_of cpu ext) (latch cpu tcon) ≡ true
 
 -- and in this number of cycles no timer reaches the end of its low byte, and no byte moves on its way
 pub record OnlyCount (n : ℕ) (cpu : Cpu) (ext : Pins) (p : Periph) : Type 0 where

@@ -1,30 +1,25 @@
 //! Machine cycles in which the devices only count.
 ghost use Rattle.std.specs.Prelude.{◌≡◌, ◌≤◌, ◌&&◌, true, nat_le};
 ghost use Rattle.m51_flat.specs.Sfr.{latch};
+ghost use Rattle.m51_timers_uart.specs.Counting.{mode_of};
 ghost use Rattle.m51_timers_uart.specs.OnlyCounting.{counted_on, counts_each, line_waits, low0_after, low1_after};
 ghost use Rattle.m51_timers_uart.specs.OnlyCounting.{low2_after, low_after, timer0_is_plain, timer1_is_plain};
 ghost use Rattle.m51_timers_uart.specs.OnlyCounting.{timer2_is_plain};
 
-use crate::counting::TimerMode;
 use crate::periph::Periph;
 use crate::sending::last;
 use crate::timer2::rates;
-use crate::timers::{splits, timer0_mode, timer1_mode};
+use crate::timers::{splits, timer0_mode};
 use m51_flat::Cpu;
 use m51_sfr::addresses::{T2CON, TCON, TL0, TL1, TL2, TMOD};
 use m51_sfr::bits::{CT2, EXEN2, TR0, TR1, TR2};
 
 /// In modes 1 and 2, with GATE and C/T 0, a timer counts each cycle while it runs.
 #[inline(always)]
-fn counts_each(gate: bool, ct: bool, mode: TimerMode) -> bool
-    ensures { result ≡ counts_each gate ct mode }
+fn counts_each(gate: bool, ct: bool, m1: bool, m0: bool) -> bool
+    ensures { result ≡ counts_each gate ct (mode_of m1 m0) }
 {
-    let whole = match mode {
-        TimerMode::SixteenBits => true,
-        TimerMode::Reloaded => true,
-        TimerMode::ThirteenBits => false,
-        TimerMode::Split => false,
-    };
+    let whole = if m1 { !m0 } else { m0 };
     !gate && !ct && whole
 }
 
@@ -34,11 +29,15 @@ fn counts_each(gate: bool, ct: bool, mode: TimerMode) -> bool
 pub(crate) fn is_timer0_plain(cpu: &Cpu) -> bool
     ensures { result ≡ timer0_is_plain cpu.now }
 {
-    let mode = timer0_mode(cpu);
     if cpu.flag(TCON, TR0) {
-        counts_each(cpu.flag(TMOD, 3), cpu.flag(TMOD, 2), mode)
+        counts_each(
+            cpu.flag(TMOD, 3),
+            cpu.flag(TMOD, 2),
+            cpu.flag(TMOD, 1),
+            cpu.flag(TMOD, 0),
+        )
     } else {
-        !splits(mode)
+        !splits(timer0_mode(cpu))
     }
 }
 
@@ -49,7 +48,12 @@ pub(crate) fn is_timer1_plain(cpu: &Cpu) -> bool
     ensures { result ≡ timer1_is_plain cpu.now }
 {
     if cpu.flag(TCON, TR1) {
-        counts_each(cpu.flag(TMOD, 7), cpu.flag(TMOD, 6), timer1_mode(cpu))
+        counts_each(
+            cpu.flag(TMOD, 7),
+            cpu.flag(TMOD, 6),
+            cpu.flag(TMOD, 5),
+            cpu.flag(TMOD, 4),
+        )
     } else {
         true
     }
@@ -86,12 +90,20 @@ pub(crate) fn waits(periph: &Periph, cpu: &Cpu) -> bool
     (periph.mode == 1 || periph.mode == 3) && !(takes <= periph.count)
 }
 
+/// What is added to a low byte in this number of cycles.
+#[inline(always)]
+fn added(count: u8, runs: bool) -> u8
+    ensures { result ≡ low_after count runs 0 }
+{
+    if runs { count } else { 0 }
+}
+
 /// A low byte does not reach its end in this number of cycles.
 #[inline(always)]
 fn fits(count: u8, runs: bool, low: u8) -> bool
     ensures { result ≡ nat_le (low_after count runs low) 255 }
 {
-    if runs { count <= 0xFF - low } else { true }
+    added(count, runs) <= 0xFF - low
 }
 
 /// A low byte after this number of cycles.
@@ -100,7 +112,7 @@ fn add_where(count: u8, runs: bool, low: u8) -> u8
     requires { nat_le (low_after count runs low) 255 ≡ true }
     ensures { result ≡ low_after count runs low }
 {
-    if runs { low + count } else { low }
+    low + added(count, runs)
 }
 
 /// No timer that runs reaches the end of its low byte in this number of cycles.

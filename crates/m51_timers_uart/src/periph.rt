@@ -6,7 +6,7 @@ ghost use Rattle.m51_timers_uart.specs.Resting.{AreResting};
 ghost use Rattle.m51_timers_uart.specs.Sending.{begun};
 ghost use Rattle.m51_timers_uart.specs.Tick.{clocks_rest, clocks_ticked, reset_periph, ticked};
 
-use crate::external::{externals_rest, tick_externals};
+use crate::external::{externals_rest, none_asks, tick_externals};
 use crate::levels::{Levels, read_levels};
 use crate::only_counting::{
     all_fit, count_on, is_timer0_plain, is_timer1_plain, is_timer2_plain, waits,
@@ -134,9 +134,9 @@ impl Periph {
     }
 
     /// The devices only count if these are the levels outside: each timer that runs counts each cycle, no level is
-    /// another than at the last tick, and the external requests are as they are to be. Then a machine cycle in which no
-    /// frame arrives, no timer reaches the end of its low byte and no byte moves on its way adds one to these low bytes,
-    /// and changes nothing else.
+    /// another than at the last tick, the pins of the external interrupts are 1 and no request of them is kept. Then a
+    /// machine cycle in which no frame arrives, no timer reaches the end of its low byte and no byte moves on its way
+    /// adds one to these low bytes, and changes nothing else.
     ///
     /// Source: own choice ("Cycles in which nothing happens").
     #[inline(always)]
@@ -151,7 +151,7 @@ impl Periph {
             && is_timer1_plain(cpu)
             && is_timer2_plain(cpu)
             && levels_stay(&levels)
-            && externals_rest(cpu, &levels)
+            && none_asks(cpu, &levels)
     }
 
     /// Passes this number of machine cycles in which no frame arrives at once, where the devices only count, if in them

@@ -33,7 +33,7 @@ pub(crate) fn timer0_mode(cpu: &Cpu) -> TimerMode
 }
 
 /// The mode of timer 1, in bits 5 and 4 of TMOD.
-pub(crate) fn timer1_mode(cpu: &Cpu) -> TimerMode
+fn timer1_mode(cpu: &Cpu) -> TimerMode
     ensures { result ≡ mode1 cpu.now }
 {
     mode_by(cpu.flag(TMOD, 5), cpu.flag(TMOD, 4))

@@ -189,12 +189,12 @@ fn cite_registers(cpu: &Cpu)
     ensures { length cpu.now.regs ≡ 128 }
 {}
 
-// This number of machine cycles at once, if the devices only count in them, the script has no lines and no further frame
-// comes. It answers whether it did; if not, nothing changes.
+// This number of machine cycles at once, if the devices only count in them, the script has no lines and no further
+// frame comes. It answers whether it did; if not, nothing changes.
 #[inline(always)]
 fn count_cycles(script: &Script, extra: &[Timed], count: u8, passing: &mut Passing) -> bool
-    ensures { passing.new ≡ (if result then cycles_passed (with_extra extra.now (inputs_of script.now)) count passing.old
-        else passing.old) }
+    ensures { passing.new ≡ (if result
+        then cycles_passed (with_extra extra.now (inputs_of script.now)) count passing.old else passing.old) }
 {
     if !extra.is_empty() || !script.is_silent() {
         return false;
@@ -203,10 +203,7 @@ fn count_cycles(script: &Script, extra: &[Timed], count: u8, passing: &mut Passi
     if !passing.periph.counts(&passing.cpu, &ALL_HIGH) {
         return false;
     }
-    if !passing
-        .periph
-        .count_on(&mut passing.cpu, &ALL_HIGH, count)
-    {
+    if !passing.periph.count_on(&mut passing.cpu, &ALL_HIGH, count) {
         return false;
     }
     skip_cycles(count, passing);

@@ -1,6 +1,6 @@
 -- Machine cycles in which the devices only count: each tick adds one to the low byte of each timer that runs.
-use Rattle.std.proofs.Common.{◌≡◌, ℕ, zero, suc, ◌+◌, ◌-◌, ◌*◌, ◌/◌, ◌%◌, ◌<◌, ◌≤◌, Bool, true, false, List, [], ◌∷◌, None, Some, refl, sym, ap, ◌∙◌, arith}
-use Rattle.std.proofs.Common.{◌≢◌, length, lit<, lit≤, slice_set}
+use Rattle.std.proofs.Common.{◌≡◌, ◌≢◌, ℕ, zero, suc, ◌+◌, ◌-◌, ◌*◌, ◌/◌, ◌%◌, ◌<◌, ◌≤◌, Bool, true, false, List, []}
+use Rattle.std.proofs.Common.{◌∷◌, None, Some, refl, sym, ap, ◌∙◌, arith, length, lit<, lit≤, slice_set}
 use Rattle.std.proofs.lemmas.Bool.{le-leb, leb-true, ne_eqb, not-true}
 use Rattle.std.proofs.lemmas.List.{set-set, set_comm}
 use Rattle.std.specs.Int.{bit_at}
@@ -8,8 +8,8 @@ use Rattle.std.specs.Prelude.{not, nat_le, ◌&&◌, ◌||◌, ◌==◌, if◌th
 use Rattle.m51_flat.specs.declared.state.Cpu.{Cpu}
 use Rattle.m51_flat.specs.declared.state.Pins.{Pins}
 use Rattle.m51_flat.specs.Flags.{ct2, exen2, ie0, ie1, it0, it1, tclk, ti, tr0, tr1, tr2}
-use Rattle.m51_flat.specs.Sfr.{flag, has_register, is_one_of, latch, p0, p1, p2, p3, pcon, scon, t2con, tcon, th0, th1, th2, tl0, tl1}
-use Rattle.m51_flat.specs.Sfr.{tl2, tmod, with_bit, with_flag, with_latch}
+use Rattle.m51_flat.specs.Sfr.{flag, has_register, is_one_of, latch, p0, p1, p2, p3, pcon, scon, t2con, tcon, th0}
+use Rattle.m51_flat.specs.Sfr.{th1, th2, tl0, tl1, tl2, tmod, with_bit, with_flag, with_latch}
 use Rattle.m51_flat.proofs.RegisterLaws.{registers_are_written}
 use Rattle.m51_timers_uart.specs.declared.counting.Counted.{Counted}
 use Rattle.m51_timers_uart.specs.declared.counting.TimerBytes.{TimerBytes}
@@ -24,8 +24,8 @@ use Rattle.m51_timers_uart.specs.External.{requested}
 use Rattle.m51_timers_uart.specs.KeptLaws.{KeepsBut}
 use Rattle.m51_timers_uart.specs.Levels.{is_high, is_one, levels_of, port_and_bit}
 use Rattle.m51_timers_uart.specs.OnlyCounting.{AreCounting, DevicesCountOn, OnlyCount, counted_on, counts_each}
-use Rattle.m51_timers_uart.specs.OnlyCounting.{counts_whole, line_waits, none_asks, low0_after, low1_after, low2_after, low_after}
-use Rattle.m51_timers_uart.specs.OnlyCounting.{timer0_is_plain, timer1_is_plain, timer2_is_plain}
+use Rattle.m51_timers_uart.specs.OnlyCounting.{counts_whole, line_waits, low0_after, low1_after, low2_after, low_after}
+use Rattle.m51_timers_uart.specs.OnlyCounting.{none_asks, timer0_is_plain, timer1_is_plain, timer2_is_plain}
 use Rattle.m51_timers_uart.specs.Resting.{looked_at, request_rests}
 use Rattle.m51_timers_uart.specs.Sending.{Ticked, bit_time, clocked, growth, moved, sending_ticked, sent_at_end}
 use Rattle.m51_timers_uart.specs.Tick.{clocks_ticked, inputs_ticked, levels_met, ticked}
@@ -35,9 +35,9 @@ use Rattle.m51_timers_uart.specs.Timers.{Timed, bytes_at, counted0, counted1, co
 use Rattle.m51_timers_uart.specs.Timers.{th0_ticked, timer0_ticked, timer1_ticked, with_bytes}
 use Rattle.m51_timers_uart.proofs.Counts.{counts_plain}
 use Rattle.m51_timers_uart.proofs.Kept.{keeps_chain, keeps_latch}
-use Rattle.m51_timers_uart.proofs.Resting.{all_both, all_same, asks_same, at, counts0_not, counts1_not, latch_stays, levels_same}
-use Rattle.m51_timers_uart.proofs.Resting.{request_stays, sending_stays, t2ex_stays, timer0_stays, timer1_stays}
-use Rattle.m51_timers_uart.proofs.Resting.{times_none}
+use Rattle.m51_timers_uart.proofs.Resting.{all_both, all_same, at, counts0_not, counts1_not, latch_stays}
+use Rattle.m51_timers_uart.proofs.Resting.{levels_same, request_stays, sending_stays, t2ex_stays}
+use Rattle.m51_timers_uart.proofs.Resting.{timer0_stays, timer1_stays, times_none}
 use Rattle.m51_timers_uart.proofs.Running.{timer1_free}
 use Rattle.m51_timers_uart.proofs.Told.{th0_stays}
 
@@ -211,35 +211,16 @@ mode_there (suc (suc zero)) h = cc h
 mode_there (suc (suc (suc n))) h =
     (ne_eqb (suc (suc (suc n))) 0 (λ e. omega (arith, e)), ne_eqb (suc (suc (suc n))) 2 (λ e. omega (arith, e)))
 
-either_way : (b : Bool) (n : ℕ) → (if b then n else n) ≡ n
-either_way true n = refl
-either_way false n = refl
-
-growth_none : (cpu : Cpu) (mode : ℕ) → (mode == 2) ≡ false → growth cpu mode false 0 ≡ 0
-unfolding growth
-growth_none cpu mode h =
-    ap (λ b. if b then 12 else (if flag cpu t2con tclk then 0 else 0)) h ∙ either_way (flag cpu t2con tclk) 0
-
-abbrev clocked_to : ℕ → Periph → ℕ → Periph
-clocked_to takes p n =
-    if nat_le takes n then record p { left = p.left - 1; count = n - takes } else record p { count = n }
-
-clocked_none : (takes : ℕ) (p : Periph) → nat_le takes p.count ≡ false → clocked 0 takes p ≡ p
-unfolding clocked
-clocked_none takes p h =
-    let none : p.count + 0 ≡ p.count = omega arith in
-    ap (clocked_to takes p) none
-    ∙ ap (λ b. if b then (record p { left = p.left - 1; count = p.count - takes }) else p) h
+moved_by : (by2 : Bool) (cpu : Cpu) (p : Periph) → flag cpu t2con tclk ≡ by2 → (p.mode == 0) ≡ false
+    → (p.mode == 2) ≡ false → nat_le (bit_time cpu p.mode) p.count ≡ false → moved cpu false 0 p ≡ p
+unfolding moved growth clocked
+moved_by true cpu p t a b h = let none : p.count + 0 ≡ p.count = omega arith in rw (a, b, t, none, h) refl
+moved_by false cpu p t a b h = let none : p.count + 0 ≡ p.count = omega arith in rw (a, b, t, none, h) refl
 
 moved_none : (cpu : Cpu) (p : Periph) → (p.mode == 1 || p.mode == 3) ≡ true
     → nat_le (bit_time cpu p.mode) p.count ≡ false → moved cpu false 0 p ≡ p
-unfolding moved
 moved_none cpu p m h =
-    let mode = mode_there p.mode m in
-    let takes = bit_time cpu p.mode in
-    ap (λ b. if b then (record p { left = p.left - 1 }) else clocked (growth cpu p.mode false 0) takes p) mode.0
-    ∙ ap (λ n. clocked n takes p) (growth_none cpu p.mode mode.1)
-    ∙ clocked_none takes p h
+    let mode = mode_there p.mode m in moved_by (flag cpu t2con tclk) cpu p refl mode.0 mode.1 h
 
 abbrev ended_by : Cpu → Periph → Bool → Ticked
 ended_by cpu p ended =
@@ -375,7 +356,8 @@ clocks_count levels cpu ext p h =
     (ap (λ n. nat_le n 255) low1 ∙ h.low1) ∙ ap (λ n. one_timed (with_latch one tl1 n)) low1 in
     let timer2 = timer2_counts levels two (plain2_same two cpu looks2 ∙ h.counting.timer2)
     (ap (λ n. nat_le n 255) low2 ∙ h.low2) ∙ ap (λ n. none_over (with_latch two tl2 n)) low2 in
-    ap (λ (x : Cpu). sent_after levels p (timer1_ticked levels (th0_ticked x))) (timer0_counts levels cpu h.counting.timer0 h.low0)
+    ap (λ (x : Cpu). sent_after levels p (timer1_ticked levels (th0_ticked x)))
+    (timer0_counts levels cpu h.counting.timer0 h.low0)
     ∙ ap (λ (x : Cpu). sent_after levels p (timer1_ticked levels x)) (th0_stays one (not_split one plain0))
     ∙ ap (sent_after levels p) timer1
     ∙ ap (λ (o : Overflowed). sending_ticked false o.overflows o.cpu p) timer2
@@ -450,6 +432,20 @@ written : (low v : ℕ) (cpu : Cpu) → length cpu.regs ≡ 128 → has_register
 written low v cpu n there least most same =
     registers_are_written cpu low low v n there least most least ∙ ap (λ b. if b then v else latch cpu low) same
 
+lows_written : (cpu : Cpu) (a b c : ℕ) → length cpu.regs ≡ 128
+    → (latch (third cpu a b c) tl0 ≡ a) × (latch (third cpu a b c) tl1 ≡ b) × (latch (third cpu a b c) tl2 ≡ c)
+unfolding has_register
+lows_written cpu a b c size =
+    let one = keeps_first cpu a b c lows refl in
+    let two = keeps_two cpu a b c lows refl refl in (
+      (keeps_third cpu a b c (tl2 ∷ []) refl).latches tl0 (lit≤ tt) refl
+          ∙ (keeps_second cpu a b c (tl1 ∷ []) refl).latches tl0 (lit≤ tt) refl
+          ∙ written tl0 a cpu size refl (lit≤ tt) (lit< tt) refl,
+      (keeps_third cpu a b c (tl2 ∷ []) refl).latches tl1 (lit≤ tt) refl
+          ∙ written tl1 b (first cpu a b c) (one.size ∙ size) refl (lit≤ tt) (lit< tt) refl,
+      written tl2 c (second cpu a b c) (two.size ∙ size) refl (lit≤ tt) (lit< tt) refl,
+    )
+
 counted_none : (cpu : Cpu) → counted_on 0 cpu ≡ cpu
 unfolding counted_on
 counted_none cpu =
@@ -489,44 +485,31 @@ module _ (k : ℕ) (cpu : Cpu) (size : length cpu.regs ≡ 128) where
   looks_now : looked_at now ≡ looked_at cpu
   looks_now = looked_kept cpu now (counted_keeps k cpu)
 
+  low_now : (control bit low : ℕ) → latch now control ≡ latch cpu control
+      → latch now low ≡ low_after k (flag cpu control bit) (latch cpu low)
+      → low_after 1 (flag now control bit) (latch now low) ≡ low_after (k + 1) (flag cpu control bit) (latch cpu low)
+  low_now control bit low same l =
+      ap (λ runs. low_after 1 runs (latch now low)) (flag_same control bit now cpu same)
+      ∙ ap (low_after 1 (flag cpu control bit)) l
+      ∙ low_more k (flag cpu control bit) (latch cpu low)
+
   low0_now : low0_after 1 now ≡ low0_after (k + 1) cpu
-  unfolding counted_on has_register
+  unfolding counted_on
   low0_now =
-      let a = low0_after k cpu in
-      let b = low1_after k cpu in
-      let c = low2_after k cpu in
-      let ws : List ℕ = tl1 ∷ tl2 ∷ [] in
-      let one = first cpu a b c in
-      let kept : KeepsBut ws one now =
-      (keeps_chain ws).on one (second cpu a b c) now (keeps_second cpu a b c ws refl) (keeps_third cpu a b c ws refl) in
-      let low : latch now tl0 ≡ a =
-      kept.latches tl0 (lit≤ tt) refl ∙ written tl0 a cpu size refl (lit≤ tt) (lit< tt) refl in
-      let runs : flag now tcon tr0 ≡ flag cpu tcon tr0 = flag_same tcon tr0 now cpu (at now cpu looks_now 4) in
-      rw (low, runs) (low_more k (flag cpu tcon tr0) (latch cpu tl0))
+      let w = lows_written cpu (low0_after k cpu) (low1_after k cpu) (low2_after k cpu) size in
+      low_now tcon tr0 tl0 (at now cpu looks_now 4) w.0
 
   low1_now : low1_after 1 now ≡ low1_after (k + 1) cpu
-  unfolding counted_on has_register
+  unfolding counted_on
   low1_now =
-      let a = low0_after k cpu in
-      let b = low1_after k cpu in
-      let c = low2_after k cpu in
-      let one = first cpu a b c in
-      let low : latch now tl1 ≡ b =
-      (keeps_third cpu a b c (tl2 ∷ []) refl).latches tl1 (lit≤ tt) refl
-      ∙ written tl1 b one ((keeps_first cpu a b c lows refl).size ∙ size) refl (lit≤ tt) (lit< tt) refl in
-      let runs : flag now tcon tr1 ≡ flag cpu tcon tr1 = flag_same tcon tr1 now cpu (at now cpu looks_now 4) in
-      rw (low, runs) (low_more k (flag cpu tcon tr1) (latch cpu tl1))
+      let w = lows_written cpu (low0_after k cpu) (low1_after k cpu) (low2_after k cpu) size in
+      low_now tcon tr1 tl1 (at now cpu looks_now 4) w.1
 
   low2_now : low2_after 1 now ≡ low2_after (k + 1) cpu
-  unfolding counted_on has_register
+  unfolding counted_on
   low2_now =
-      let a = low0_after k cpu in
-      let b = low1_after k cpu in
-      let c = low2_after k cpu in
-      let low : latch now tl2 ≡ c =
-      written tl2 c (second cpu a b c) ((keeps_two cpu a b c lows refl refl).size ∙ size) refl (lit≤ tt) (lit< tt) refl in
-      let runs : flag now t2con tr2 ≡ flag cpu t2con tr2 = flag_same t2con tr2 now cpu (at now cpu looks_now 6) in
-      rw (low, runs) (low_more k (flag cpu t2con tr2) (latch cpu tl2))
+      let w = lows_written cpu (low0_after k cpu) (low1_after k cpu) (low2_after k cpu) size in
+      low_now t2con tr2 tl2 (at now cpu looks_now 6) w.2
 
   counted_more : counted_on 1 now ≡ counted_on (k + 1) cpu
   unfolding counted_on

@@ -1,7 +1,7 @@
 -- Devices that only count: machine cycles in which no frame arrives add their number to the low byte of each timer that
 -- runs, and change nothing else.
-use Rattle.std.specs.Prelude.{◌≡◌, ℕ, ◌+◌, ◌<◌, Bool, true, false, not, ◌&&◌, ◌||◌, ◌==◌, nat_le, if◌then◌else◌, [], None}
-use Rattle.std.specs.Prelude.{length, List}
+use Rattle.std.specs.Prelude.{◌≡◌, ℕ, ◌+◌, ◌<◌, Bool, true, false, not, ◌&&◌, ◌||◌, ◌==◌, nat_le, if◌then◌else◌}
+use Rattle.std.specs.Prelude.{length, List, [], None}
 use Rattle.m51_flat.specs.declared.state.Cpu.{Cpu}
 use Rattle.m51_flat.specs.declared.state.Pins.{Pins}
 use Rattle.m51_flat.specs.Flags.{ct2, exen2, ie0, ie1, tr0, tr1, tr2}
@@ -29,7 +29,8 @@ counts_each gate ct mode = not gate && not ct && counts_whole mode
 -- timer 0 counts each cycle, or it does not run and is not in mode 3
 unfoldable pub timer0_is_plain : Cpu → Bool
 timer0_is_plain cpu =
-    if flag cpu tcon tr0 then counts_each (flag cpu tmod 3) (flag cpu tmod 2) (mode0 cpu) else not (is_split (mode0 cpu))
+    if flag cpu tcon tr0 then counts_each (flag cpu tmod 3) (flag cpu tmod 2) (mode0 cpu)
+    else not (is_split (mode0 cpu))
 
 -- timer 1 counts each cycle, or it does not run
 unfoldable pub timer1_is_plain : Cpu → Bool
@@ -39,7 +40,8 @@ timer1_is_plain cpu =
 -- timer 2 counts each cycle once, or it does not run; no fall of T2EX matters
 unfoldable pub timer2_is_plain : Cpu → Bool
 timer2_is_plain cpu =
-    not (flag cpu t2con exen2) && (if flag cpu t2con tr2 then not (flag cpu t2con ct2) && not (gives_rate cpu) else true)
+    not (flag cpu t2con exen2)
+    && (if flag cpu t2con tr2 then not (flag cpu t2con ct2) && not (gives_rate cpu) else true)
 
 -- no byte is on its way, or its bit time is not over and waits for the overflow of a timer, as in modes 1 and 3
 unfoldable pub line_waits : Cpu → Periph → Bool

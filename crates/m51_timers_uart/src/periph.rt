@@ -154,9 +154,9 @@ impl Periph {
             && none_asks(cpu, &levels)
     }
 
-    /// Passes this number of machine cycles in which no frame arrives at once, where the devices only count, if in them
-    /// no timer reaches the end of its low byte and no byte moves on its way. It answers whether it did; if not, nothing
-    /// changes.
+    /// Passes this number of machine cycles at once, where no frame arrives and the devices only count with these
+    /// levels outside, if no timer reaches the end of its low byte in them and no byte moves on its way. It answers
+    /// whether it did; if not, nothing changes.
     ///
     /// Source: own choice ("Cycles in which nothing happens").
     #[inline(always)]

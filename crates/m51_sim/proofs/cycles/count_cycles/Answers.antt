@@ -13,5 +13,5 @@ returns c =
     let silent = c.if-not-is_silent.ensures.0 refl in
     c.skip_cycles.ensures.passed
     ∙ ap (λ (cpu : Cpu). record p { cpu = cpu; cycle = min (p.cycle + c.args.count) (2 ^ 64 - 1) }) counted
-    ∙ counts_pass c.args.script.now c.args.extra.now c.args.count p c.skip_cycles.ensures.before c.cite_registers.ensures further silent.0
-    silent.1 (c.if-not-count_on.ensures.answer.0 refl)
+    ∙ counts_pass c.args.script.now c.args.extra.now c.args.count p c.skip_cycles.ensures.before
+    c.cite_registers.ensures further silent.0 silent.1 (c.if-not-count_on.ensures.answer.0 refl)

@@ -1,5 +1,5 @@
 -- Machine cycles in which the devices only count: each tick adds one to the low byte of each timer that runs.
-use Rattle.std.proofs.Common.{◌≡◌, ◌≢◌, ℕ, zero, suc, ◌+◌, ◌-◌, ◌*◌, ◌/◌, ◌%◌, ◌<◌, ◌≤◌, Bool, true, false, List, []}
+use Rattle.std.proofs.Common.{◌≡◌, ◌≢◌, ℕ, zero, suc, ◌+◌, ◌*◌, ◌/◌, ◌%◌, ◌<◌, ◌≤◌, Bool, true, false, List, []}
 use Rattle.std.proofs.Common.{◌∷◌, None, Some, refl, sym, ap, ◌∙◌, arith, length, lit<, lit≤, slice_set}
 use Rattle.std.proofs.lemmas.Bool.{le-leb, leb-true, ne_eqb, not-true}
 use Rattle.std.proofs.lemmas.List.{set-set, set_comm}

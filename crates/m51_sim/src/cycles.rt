@@ -187,7 +187,9 @@ fn skip_cycles(count: u8, passing: &mut Passing)
 #[inline(always)]
 fn cite_registers(cpu: &Cpu)
     ensures { length cpu.now.regs ≡ 128 }
-{}
+{
+    let _first = cpu.regs[0];
+}
 
 // This number of machine cycles at once, if the devices only count in them, the script has no lines and no further
 // frame comes. It answers whether it did; if not, nothing changes.

@@ -1,7 +1,7 @@
 -- Machine cycles in which the devices only count: each tick adds one to the low byte of each timer that runs.
 use Rattle.std.proofs.Common.{◌≡◌, ◌≢◌, ℕ, zero, suc, ◌+◌, ◌*◌, ◌/◌, ◌%◌, ◌<◌, ◌≤◌, Bool, true, false, List, []}
 use Rattle.std.proofs.Common.{◌∷◌, None, Some, refl, sym, ap, ◌∙◌, arith, length, lit<, lit≤, slice_set}
-use Rattle.std.proofs.lemmas.Bool.{le-leb, leb-true, ne_eqb, not-true}
+use Rattle.std.proofs.lemmas.Bool.{and_parts, le-leb, leb-true, ne_eqb, not-true}
 use Rattle.std.proofs.lemmas.List.{set-set, set_comm}
 use Rattle.std.specs.Int.{bit_at}
 use Rattle.std.specs.Prelude.{not, nat_le, ◌&&◌, ◌||◌, ◌==◌, if◌then◌else◌}
@@ -44,10 +44,9 @@ use Rattle.m51_timers_uart.proofs.Told.{th0_stays}
 -- the test of a timer that counts each cycle, in parts
 each_parts : (gate ct whole : Bool) → (not gate && not ct && whole) ≡ true
     → (gate ≡ false) × (ct ≡ false) × (whole ≡ true)
-each_parts false false true h = (refl, refl, refl)
-each_parts false false false h = cc h
-each_parts false true whole h = cc h
-each_parts true ct whole h = cc h
+each_parts gate ct whole h =
+    let both = and_parts (not gate && not ct) whole h in
+    let off = and_parts (not gate) (not ct) both.0 in (not-true gate off.0, not-true ct off.1, both.1)
 
 whole_not_split : (mode : TimerMode) → counts_whole mode ≡ true → is_split mode ≡ false
 whole_not_split ThirteenBits h = refl
@@ -168,11 +167,6 @@ exen2_stays v cpu h =
     let kept = keeps_latch (tl2 ∷ []) tl2 v cpu (lit≤ tt) refl in
     ap (λ byte. bit_at byte exen2 == 1) (kept.latches t2con (lit≤ tt) refl) ∙ h
 
-timer2_parts : (exen : Bool) (plain : Bool) → (not exen && plain) ≡ true → (exen ≡ false) × (plain ≡ true)
-timer2_parts false true h = (refl, refl)
-timer2_parts false false h = cc h
-timer2_parts true plain h = cc h
-
 timer2_by : (tr : Bool) (levels : Levels) (cpu : Cpu) → flag cpu t2con tr2 ≡ tr → flag cpu t2con exen2 ≡ false
     → (if tr then not (flag cpu t2con ct2) && not (gives_rate cpu) else true) ≡ true
     → nat_le (low_after 1 tr (latch cpu tl2)) 255 ≡ true
@@ -194,16 +188,10 @@ timer2_counts : (levels : Levels) (cpu : Cpu) → timer2_is_plain cpu ≡ true �
     → timer2_ticked levels cpu ≡ none_over (with_latch cpu tl2 (low2_after 1 cpu))
 unfolding timer2_is_plain
 timer2_counts levels cpu h l =
-    let p = timer2_parts (flag cpu t2con exen2) _ h in timer2_by (flag cpu t2con tr2) levels cpu refl p.0 p.1 l
+    let p = and_parts (not (flag cpu t2con exen2)) _ h in
+    timer2_by (flag cpu t2con tr2) levels cpu refl (not-true (flag cpu t2con exen2) p.0) p.1 l
 
 -- a byte on its way stays where it is without an overflow
-waits_parts : (one three over : Bool) → ((one || three) && not over) ≡ true → (one || three) ≡ true × (over ≡ false)
-waits_parts true three false h = (refl, refl)
-waits_parts true three true h = cc h
-waits_parts false true false h = (refl, refl)
-waits_parts false true true h = cc h
-waits_parts false false over h = cc h
-
 mode_there : (mode : ℕ) → (mode == 1 || mode == 3) ≡ true → ((mode == 0) ≡ false) × ((mode == 2) ≡ false)
 mode_there zero h = cc h
 mode_there (suc zero) h = (refl, refl)
@@ -216,11 +204,6 @@ moved_by : (by2 : Bool) (cpu : Cpu) (p : Periph) → flag cpu t2con tclk ≡ by2
 unfolding moved growth clocked
 moved_by true cpu p t a b h = let none : p.count + 0 ≡ p.count = omega arith in rw (a, b, t, none, h) refl
 moved_by false cpu p t a b h = let none : p.count + 0 ≡ p.count = omega arith in rw (a, b, t, none, h) refl
-
-moved_none : (cpu : Cpu) (p : Periph) → (p.mode == 1 || p.mode == 3) ≡ true
-    → nat_le (bit_time cpu p.mode) p.count ≡ false → moved cpu false 0 p ≡ p
-moved_none cpu p m h =
-    let mode = mode_there p.mode m in moved_by (flag cpu t2con tclk) cpu p refl mode.0 mode.1 h
 
 abbrev ended_by : Cpu → Periph → Bool → Ticked
 ended_by cpu p ended =
@@ -236,9 +219,11 @@ line_by : (none : Bool) (cpu : Cpu) (p : Periph) → (p.left == 0) ≡ none
 unfolding sending_ticked
 line_by true cpu p e h = sending_stays false 0 cpu p e
 line_by false cpu p e h =
-    let w = waits_parts (p.mode == 1) (p.mode == 3) (nat_le (bit_time cpu p.mode) p.count) h in
+    let w = and_parts (p.mode == 1 || p.mode == 3) (not (nat_le (bit_time cpu p.mode) p.count)) h in
+    let mode = mode_there p.mode w.0 in
     ap (λ b. if b then (record { cpu = cpu; periph = p; sent = None }) else sent_at_end cpu (moved cpu false 0 p)) e
-    ∙ ap (sent_at_end cpu) (moved_none cpu p w.0 w.1)
+    ∙ ap (sent_at_end cpu)
+    (moved_by (flag cpu t2con tclk) cpu p refl mode.0 mode.1 (not-true (nat_le (bit_time cpu p.mode) p.count) w.1))
     ∙ ap (ended_by cpu p) e
 
 line_stays : (cpu : Cpu) (p : Periph) → line_waits cpu p ≡ true
@@ -281,14 +266,14 @@ module _ (one other : Cpu) (h : looked_at one ≡ looked_at other) where
       let timer2 : latch one t2con ≡ latch other t2con = at one other h 6 in
       rw (timer2, power) refl
 
--- with the same registers, and the same levels at the last tick, they count as before
-pub still_counting : (one other : Cpu) → looked_at one ≡ looked_at other → (ext : Pins) (p q : Periph)
-    → AreCounting one ext p → q.levels ≡ p.levels → AreCounting other ext q
-still_counting one other h ext p q c same = record {
+-- with the same registers they count as before
+still_counting : (one other : Cpu) → looked_at one ≡ looked_at other → (ext : Pins) (p : Periph)
+    → AreCounting one ext p → AreCounting other ext p
+still_counting one other h ext p c = record {
   timer0 = sym (plain0_same one other h) ∙ c.timer0;
   timer1 = sym (plain1_same one other h) ∙ c.timer1;
   timer2 = sym (plain2_same one other h) ∙ c.timer2;
-  levels = sym (levels_same one other h ext) ∙ c.levels ∙ sym same;
+  levels = sym (levels_same one other h ext) ∙ c.levels;
   requests = ap (λ l. none_asks l (latch other tcon)) (sym (levels_same one other h ext))
       ∙ ap (none_asks (levels_of one ext)) (sym (at one other h 4)) ∙ c.requests;
 }
@@ -386,13 +371,6 @@ unfolding request_rests
 high_rests levels pin it ask byte h k =
     asked_none (bit_at byte it == 1) (is_one levels.before (port_and_bit pin)) (is_high levels pin) ask byte h k
 
-four_parts : (a b c d : Bool) → (a && b && c && d) ≡ true → (a ≡ true) × (b ≡ true) × (c ≡ true) × (d ≡ true)
-four_parts true true true true h = (refl, refl, refl, refl)
-four_parts true true true false h = cc h
-four_parts true true false d h = cc h
-four_parts true false c d h = cc h
-four_parts false b c d h = cc h
-
 -- one tick
 tick_counts : (cpu : Cpu) (ext : Pins) (p : Periph) → OnlyCount 1 cpu ext p
     → ticked cpu ext [] p ≡ only (counted_on 1 cpu) p
@@ -401,9 +379,13 @@ tick_counts cpu ext p h =
     let levels = levels_met p cpu ext in
     let next = counted_on 1 cpu in
     let tcon_stays : latch next tcon ≡ latch cpu tcon = (counted_keeps 1 cpu).latches tcon (lit≤ tt) refl in
-    let none = four_parts _ _ _ _ (ap (none_asks levels.present) tcon_stays ∙ h.counting.requests) in
-    let int0 = high_rests levels Int0 it0 ie0 (latch next tcon) none.0 none.2 in
-    let int1 = high_rests levels Int1 it1 ie1 (latch next tcon) none.1 none.3 in
+    let byte = latch next tcon in
+    let none = ap (none_asks levels.present) tcon_stays ∙ h.counting.requests in
+    let clear1 = and_parts _ (with_bit byte ie1 false == byte) none in
+    let clear0 = and_parts _ (with_bit byte ie0 false == byte) clear1.0 in
+    let highs = and_parts (is_high levels Int0) (is_high levels Int1) clear0.0 in
+    let int0 = high_rests levels Int0 it0 ie0 byte highs.0 clear0.1 in
+    let int1 = high_rests levels Int1 it1 ie1 byte highs.1 clear1.1 in
     ap (inputs_ticked levels []) (clocks_count levels cpu ext p h)
     ∙ ap (λ (c : Cpu). with_levels (requested levels Int1 it1 ie1 c) levels.present)
     (request_stays levels Int0 it0 ie0 next int0)
@@ -522,7 +504,7 @@ module _ (k : ℕ) (cpu : Cpu) (size : length cpu.regs ≡ 128) where
 
   still_count : (n : ℕ) (ext : Pins) (p : Periph) → k < n → OnlyCount n cpu ext p → OnlyCount 1 now ext p
   still_count n ext p less h = record {
-    counting = still_counting cpu now (sym looks_now) ext p p h.counting refl;
+    counting = still_counting cpu now (sym looks_now) ext p h.counting;
     low0 = ap (λ m. nat_le m 255) low0_now ∙ low_less k n (flag cpu tcon tr0) (latch cpu tl0) less h.low0;
     low1 = ap (λ m. nat_le m 255) low1_now ∙ low_less k n (flag cpu tcon tr1) (latch cpu tl1) less h.low1;
     low2 = ap (λ m. nat_le m 255) low2_now ∙ low_less k n (flag cpu t2con tr2) (latch cpu tl2) less h.low2;

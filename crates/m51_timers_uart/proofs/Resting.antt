@@ -204,7 +204,7 @@ module _ (one other : Cpu) (h : looked_at one ≡ looked_at other) where
       let d : latch one p3 ≡ latch other p3 = at 3 in
       rw (a, b, c, d) refl
 
-  pub asks_same : (pin : Input) (it ask : ℕ) (ext : Pins) (p : Periph)
+  asks_same : (pin : Input) (it ask : ℕ) (ext : Pins) (p : Periph)
       → request_rests (levels_met p one ext) pin it ask (latch one tcon) ≡ true
       → request_rests (levels_met p other ext) pin it ask (latch other tcon) ≡ true
   asks_same pin it ask ext p r =

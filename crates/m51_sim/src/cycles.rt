@@ -202,9 +202,6 @@ fn count_cycles(script: &Script, extra: &[Timed], count: u8, passing: &mut Passi
         return false;
     }
     cite_registers(&passing.cpu);
-    if !passing.periph.counts(&passing.cpu, &ALL_HIGH) {
-        return false;
-    }
     if !passing.periph.count_on(&mut passing.cpu, &ALL_HIGH, count) {
         return false;
     }

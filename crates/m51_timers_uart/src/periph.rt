@@ -90,6 +90,22 @@ fn last_for(periph: &Periph, cpu: &Cpu, count: u8) -> bool
     fit && waits(periph, cpu)
 }
 
+/// Each timer that runs counts each cycle, no level is another than at the last tick, and no external interrupt asks.
+#[inline(always)]
+fn counts(periph: &Periph, cpu: &Cpu, ext: &Pins) -> bool
+    ensures { IsTrue result ↔ AreCounting cpu.now ext.now periph.now }
+{
+    let levels = Levels {
+        before: periph.levels,
+        present: read_levels(cpu, ext),
+    };
+    is_timer0_plain(cpu)
+        && is_timer1_plain(cpu)
+        && is_timer2_plain(cpu)
+        && levels_stay(&levels)
+        && none_asks(cpu, &levels)
+}
+
 impl Periph {
     /// The devices after a reset, when all latches are 1: the levels are those outside, and nothing is sent.
     ///
@@ -133,39 +149,19 @@ impl Periph {
         clocks_rest(self, cpu) && levels_stay(&levels) && externals_rest(cpu, &levels)
     }
 
-    /// The devices only count if these are the levels outside: each timer that runs counts each cycle, no level is
-    /// another than at the last tick, the pins of the external interrupts are 1 and no request of them is kept. Then a
-    /// machine cycle in which no frame arrives, no timer reaches the end of its low byte and no byte moves on its way
-    /// adds one to these low bytes, and changes nothing else.
-    ///
-    /// Source: own choice ("Cycles in which nothing happens").
-    #[inline(always)]
-    pub fn counts(&self, cpu: &Cpu, ext: &Pins) -> bool
-        ensures { IsTrue result ↔ AreCounting cpu.now ext.now self.now }
-    {
-        let levels = Levels {
-            before: self.levels,
-            present: read_levels(cpu, ext),
-        };
-        is_timer0_plain(cpu)
-            && is_timer1_plain(cpu)
-            && is_timer2_plain(cpu)
-            && levels_stay(&levels)
-            && none_asks(cpu, &levels)
-    }
-
-    /// Passes this number of machine cycles at once, where no frame arrives and the devices only count with these
-    /// levels outside, if no timer reaches the end of its low byte in them and no byte moves on its way. It answers
-    /// whether it did; if not, nothing changes.
+    /// Passes this number of machine cycles in which no frame arrives at once, if these are the levels outside and the
+    /// devices only count: each timer that runs counts each cycle, and none reaches the end of its low byte; no byte
+    /// moves on its way, no level is another than at the last tick, the pins of the external interrupts are 1, and no
+    /// request of them is kept. It answers whether it did; if not, nothing changes.
     ///
     /// Source: own choice ("Cycles in which nothing happens").
     #[inline(always)]
     pub fn count_on(&self, cpu: &mut Cpu, ext: &Pins, count: u8) -> bool
-        requires { AreCounting cpu.old ext.now self.now }
         ensures answer { IsTrue result ↔ OnlyCount count cpu.old ext.now self.now }
         ensures counted { cpu.new ≡ (if result then counted_on count cpu.old else cpu.old) }
     {
-        if !last_for(self, cpu, count) {
+        // What fails most often is asked first.
+        if !last_for(self, cpu, count) || !counts(self, cpu, ext) {
             return false;
         }
         count_on(count, cpu);

@@ -1,5 +1,5 @@
 //! The RX lines of a script.
-ghost use Rattle.std.specs.Prelude.{◌≡◌, ◌≤◌, [], ◌==◌, IsTrue, IfOk};
+ghost use Rattle.std.specs.Prelude.{◌≡◌, ◌≤◌, [], ◌==◌, ◌↔◌, IsTrue, IfOk};
 ghost use Rattle.m51_script.specs.Timing.{Ascends, latest_cycle, those, with_timed_line};
 
 use crate::timing::{count_before, count_until};
@@ -30,7 +30,7 @@ impl FrameLines {
     // There are none.
     #[inline(always)]
     pub(crate) fn is_empty(&self) -> bool
-        ensures { IsTrue result → self.now.cycles ≡ [] }
+        ensures { IsTrue result ↔ self.now.cycles ≡ [] }
     {
         self.cycles.is_empty()
     }

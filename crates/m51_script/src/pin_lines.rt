@@ -1,5 +1,5 @@
 //! The PIN lines of a script.
-ghost use Rattle.std.specs.Prelude.{◌≡◌, ◌≤◌, ◌<◌, [], ◌∷◌, IsTrue, IfOk, nat_le};
+ghost use Rattle.std.specs.Prelude.{◌≡◌, ◌≤◌, ◌<◌, [], ◌∷◌, ◌↔◌, IsTrue, IfOk, nat_le};
 ghost use Rattle.m51_script.specs.Timing.{Ascends, latest_cycle, those, with_timed_line};
 ghost use Rattle.m51_script.specs.Levels.{all_high, with_levels, levels_after};
 
@@ -57,7 +57,7 @@ impl PinLines {
     // There are none.
     #[inline(always)]
     pub(crate) fn is_empty(&self) -> bool
-        ensures { IsTrue result → self.now.cycles ≡ [] }
+        ensures { IsTrue result ↔ self.now.cycles ≡ [] }
     {
         self.cycles.is_empty()
     }

@@ -1,5 +1,5 @@
 //! A board script.
-ghost use Rattle.std.specs.Prelude.{◌≡◌, ◌==◌, ◌<◌, [], ℕ, IsTrue, IfOk, nat_le, slice_index};
+ghost use Rattle.std.specs.Prelude.{◌≡◌, ◌==◌, ◌<◌, [], ℕ, ◌↔◌, IsTrue, IfOk, nat_le, slice_index};
 ghost use Rattle.m51_script.specs.Timing.{those};
 ghost use Rattle.m51_script.specs.Levels.{all_high, levels_after};
 ghost use Rattle.m51_script.specs.Laws.{last_level};
@@ -81,8 +81,7 @@ impl Script {
     /// Source: own choice ("Cycles in which nothing happens").
     #[inline(always)]
     pub fn is_silent(&self) -> bool
-        ensures pins { IsTrue result → self.now.pins.cycles ≡ [] }
-        ensures frames { IsTrue result → self.now.frames.cycles ≡ [] }
+        ensures { IsTrue result ↔ (self.now.pins.cycles ≡ []) × (self.now.frames.cycles ≡ []) }
     {
         self.pins.is_empty() && self.frames.is_empty()
     }

@@ -1,5 +1,6 @@
 //! The machine cycles of a step.
 ghost use Rattle.std.specs.Prelude.{◌≡◌, ◌≤◌, ◌+◌, ◌-◌, ◌^◌, [], ◌∷◌, ◌++◌, length, take, min, IsTrue};
+ghost use Rattle.std.specs.Prelude.{if◌then◌else◌};
 ghost use Rattle.m51_sim.specs.Cycles.{AreFew, Rests, cycle_passed, cycles_passed, first_sent, frames_in, inputs_of};
 ghost use Rattle.m51_sim.specs.Cycles.{next_cycle, sent_in, with_extra};
 ghost use Rattle.m51_timers_uart.specs.Tick.{ticked};
@@ -182,6 +183,32 @@ fn skip_cycles(count: u8, passing: &mut Passing)
     passing.cycle = passing.cycle.saturating_add(u64::from(count));
 }
 
+// A processor has 128 registers, which proofs need.
+#[inline(always)]
+fn cite_registers(cpu: &Cpu)
+    ensures { length cpu.now.regs ≡ 128 }
+{
+    let _first = cpu.regs[0];
+}
+
+// This number of machine cycles at once, if the devices only count in them, the script has no lines and no further
+// frame comes. It answers whether it did; if not, nothing changes.
+#[inline(always)]
+fn count_cycles(script: &Script, extra: &[Timed], count: u8, passing: &mut Passing) -> bool
+    ensures { passing.new ≡ (if result
+        then cycles_passed (with_extra extra.now (inputs_of script.now)) count passing.old else passing.old) }
+{
+    if !extra.is_empty() || !script.is_silent() {
+        return false;
+    }
+    cite_registers(&passing.cpu);
+    if !passing.periph.count_on(&mut passing.cpu, &ALL_HIGH, count) {
+        return false;
+    }
+    skip_cycles(count, passing);
+    true
+}
+
 // This number of machine cycles, one by one.
 #[tactic(auto, unfolding(crate::specs::Cycles::cycles_passed))]
 #[inline(always)]
@@ -213,6 +240,9 @@ pub(crate) fn pass_cycles(
     if are_idle(script, extra, passing, rests) {
         skip_cycles(count, passing);
         return true;
+    }
+    if count_cycles(script, extra, count, passing) {
+        return false;
     }
     pass_each(script, extra, count, passing);
     false

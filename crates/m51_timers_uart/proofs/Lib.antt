@@ -11,3 +11,4 @@ pub mod Running
 pub mod InTime
 pub mod Cycles
 pub mod Resting
+pub mod CountsOn

@@ -34,7 +34,7 @@ all_three false false true h = cc h
 all_three false true c h = cc h
 all_three true b c h = cc h
 
-all_both : (a b : Bool) → (not a && not b) ≡ true → (a ≡ false) × (b ≡ false)
+pub all_both : (a b : Bool) → (not a && not b) ≡ true → (a ≡ false) × (b ≡ false)
 all_both false false h = (refl, refl)
 all_both false true h = cc h
 all_both true b h = cc h
@@ -43,12 +43,12 @@ never : (a b : Bool) → (a && false && b) ≡ false
 never true b = refl
 never false b = refl
 
-counts0_not : (levels : Levels) (cpu : Cpu) → flag cpu tcon tr0 ≡ false → counts0 levels cpu ≡ false
+pub counts0_not : (levels : Levels) (cpu : Cpu) → flag cpu tcon tr0 ≡ false → counts0 levels cpu ≡ false
 unfolding counts0
 counts0_not levels cpu h =
     ap (λ b. is_open b (flag cpu tmod 3) (is_high levels Int0) && counts_in_cycle (flag cpu tmod 2) (falls levels T0)) h
 
-counts1_not : (levels : Levels) (cpu : Cpu) → flag cpu tcon tr1 ≡ false → is_split (mode0 cpu) ≡ false
+pub counts1_not : (levels : Levels) (cpu : Cpu) → flag cpu tcon tr1 ≡ false → is_split (mode0 cpu) ≡ false
     → counts1 levels cpu ≡ false
 unfolding counts1
 counts1_not levels cpu h k =
@@ -58,7 +58,7 @@ counts1_not levels cpu h k =
     && counts_in_cycle (flag cpu tmod 6) (falls levels T1)) h
     ∙ never (not (is_split (mode1 cpu))) (counts_in_cycle (flag cpu tmod 6) (falls levels T1))
 
-timer0_stays : (levels : Levels) (cpu : Cpu) → counts0 levels cpu ≡ false → timer0_ticked levels cpu ≡ cpu
+pub timer0_stays : (levels : Levels) (cpu : Cpu) → counts0 levels cpu ≡ false → timer0_ticked levels cpu ≡ cpu
 unfolding timer0_ticked
 timer0_stays levels cpu h = ap (λ b. if b then counted0 (counted_in (mode0 cpu) (bytes_at th0 tl0 cpu)) cpu else cpu) h
 
@@ -68,7 +68,7 @@ th0_stays cpu h =
     ap (λ b. if b && flag cpu tcon tr1 then (
     let c = count_on 256 0 (latch cpu th0) in flagged c.overflow tf1 (with_latch cpu th0 c.number)) else cpu) h
 
-timer1_stays : (levels : Levels) (cpu : Cpu) → counts1 levels cpu ≡ false
+pub timer1_stays : (levels : Levels) (cpu : Cpu) → counts1 levels cpu ≡ false
     → ◌≡◌ {A = Timed} (timer1_ticked levels cpu) (record { cpu = cpu; overflow = false })
 unfolding timer1_ticked
 timer1_stays levels cpu h =
@@ -84,11 +84,11 @@ timers_stay levels cpu h =
     ∙ ap (timer1_ticked levels) (th0_stays cpu off.2)
     ∙ timer1_stays levels cpu (counts1_not levels cpu off.1 off.2)
 
-times_none : (levels : Levels) (cpu : Cpu) → flag cpu t2con tr2 ≡ false → times2 levels cpu ≡ 0
+pub times_none : (levels : Levels) (cpu : Cpu) → flag cpu t2con tr2 ≡ false → times2 levels cpu ≡ 0
 unfolding times2
 times_none levels cpu h = rw h refl
 
-t2ex_stays : (levels : Levels) (cpu : Cpu) → flag cpu t2con exen2 ≡ false → t2ex_heeded levels cpu ≡ cpu
+pub t2ex_stays : (levels : Levels) (cpu : Cpu) → flag cpu t2con exen2 ≡ false → t2ex_heeded levels cpu ≡ cpu
 unfolding t2ex_heeded
 t2ex_stays levels cpu h =
     ap (λ b. if b && falls levels T2ex then exchanged2 (with_flag cpu t2con exf2 true) else cpu) h
@@ -102,7 +102,7 @@ timer2_stays levels cpu h =
     (times_none levels cpu off.0)
     ∙ ap (λ (c : Cpu). record { cpu = c; overflows = 0 }) (t2ex_stays levels cpu off.1)
 
-sending_stays : (one : Bool) (two : ℕ) (cpu : Cpu) (p : Periph) → (p.left == 0) ≡ true
+pub sending_stays : (one : Bool) (two : ℕ) (cpu : Cpu) (p : Periph) → (p.left == 0) ≡ true
     → ◌≡◌ {A = Ticked} (sending_ticked one two cpu p) (record { cpu = cpu; periph = p; sent = None })
 unfolding sending_ticked
 sending_stays one two cpu p h =
@@ -135,7 +135,7 @@ same_if : (t : Bool) (cpu : Cpu) (i : ℕ)
 same_if true cpu i = ap (λ (rs : List ℕ). record cpu { regs = rs }) (set-get_or cpu.regs i 0)
 same_if false cpu i = refl
 
-latch_stays : (cpu : Cpu) (a : ℕ) → with_latch cpu a (latch cpu a) ≡ cpu
+pub latch_stays : (cpu : Cpu) (a : ℕ) → with_latch cpu a (latch cpu a) ≡ cpu
 unfolding with_latch latch
 latch_stays cpu a = same_if (has_register a) cpu (a - 128)
 
@@ -151,7 +151,7 @@ request_by true false keeps cpu set kept h k = refl
 request_by false f keeps cpu set kept h k = k h
 
 -- the request of a pin is as it is to be
-request_stays : (levels : Levels) (pin : Input) (it ask : ℕ) (cpu : Cpu)
+pub request_stays : (levels : Levels) (pin : Input) (it ask : ℕ) (cpu : Cpu)
     → request_rests levels pin it ask (latch cpu tcon) ≡ true → requested levels pin it ask cpu ≡ cpu
 unfolding request_rests requested flag
 request_stays levels pin it ask cpu h =
@@ -184,7 +184,7 @@ all_same one other a b c d e f g = cc
 
 -- with these, the devices rest as they did
 module _ (one other : Cpu) (h : looked_at one ≡ looked_at other) where
-  at : (k : ℕ) → slice_index (looked_at one) k ≡ slice_index (looked_at other) k
+  pub at : (k : ℕ) → slice_index (looked_at one) k ≡ slice_index (looked_at other) k
   at k = ap (λ (l : List ℕ). slice_index l k) h
 
   clocks_same : (p : Periph) → clocks_rest one p ≡ clocks_rest other p
@@ -195,7 +195,7 @@ module _ (one other : Cpu) (h : looked_at one ≡ looked_at other) where
       let timer2 : latch one t2con ≡ latch other t2con = at 6 in
       rw (timers, modes, timer2) refl
 
-  levels_same : (ext : Pins) → levels_of one ext ≡ levels_of other ext
+  pub levels_same : (ext : Pins) → levels_of one ext ≡ levels_of other ext
   unfolding levels_of found
   levels_same ext =
       let a : latch one p0 ≡ latch other p0 = at 0 in

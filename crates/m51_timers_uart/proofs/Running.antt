@@ -131,7 +131,7 @@ counts_free mode levels cpu h f =
     (flag cpu tmod 6)
     (falls levels T1) (ap is_split f.mode_is ∙ h) f.runs f.gate f.counter
 
-timer1_free : (mode : TimerMode) (levels : Levels) (cpu : Cpu) → is_split mode ≡ false → RunsFree mode cpu
+pub timer1_free : (mode : TimerMode) (levels : Levels) (cpu : Cpu) → is_split mode ≡ false → RunsFree mode cpu
     → timer1_ticked levels cpu ≡ counted1 (counted_in mode (bytes_at th1 tl1 cpu)) cpu
 unfolding timer1_ticked
 timer1_free mode levels cpu h f =

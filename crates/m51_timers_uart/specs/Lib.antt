@@ -12,3 +12,4 @@ pub mod KeptLaws
 pub mod RateLaws
 pub mod RowLaws
 pub mod Resting
+pub mod OnlyCounting

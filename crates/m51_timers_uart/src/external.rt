@@ -1,9 +1,10 @@
 //! External interrupts.
-ghost use Rattle.std.specs.Prelude.{◌≡◌, ◌<◌, true, IsTrue};
+ghost use Rattle.std.specs.Prelude.{◌≡◌, ◌<◌, ◌&&◌};
 ghost use Rattle.m51_flat.specs.Flags.{ie0, ie1, it0, it1};
 ghost use Rattle.m51_flat.specs.Sfr.{latch, tcon, with_bit};
 ghost use Rattle.m51_timers_uart.specs.declared.levels.Input.TheVariants.{Int0, Int1};
 ghost use Rattle.m51_timers_uart.specs.External.{externals_ticked, requested};
+ghost use Rattle.m51_timers_uart.specs.OnlyCounting.{none_asks};
 ghost use Rattle.m51_timers_uart.specs.Resting.{request_rests};
 
 use crate::levels::{Input, Levels};
@@ -65,11 +66,25 @@ fn request_rests(levels: &Levels, byte: u8, pin: Input, it: u8, ask: u8) -> bool
 /// Both are as they are to be, so that `tick_externals` changes nothing.
 #[inline(always)]
 pub(crate) fn externals_rest(cpu: &Cpu, levels: &Levels) -> bool
-    ensures int0 { IsTrue result → request_rests levels.now Int0 it0 ie0 (latch cpu.now tcon) ≡ true }
-    ensures int1 { IsTrue result → request_rests levels.now Int1 it1 ie1 (latch cpu.now tcon) ≡ true }
+    ensures { result ≡ (request_rests levels.now Int0 it0 ie0 (latch cpu.now tcon)
+        && request_rests levels.now Int1 it1 ie1 (latch cpu.now tcon)) }
 {
     let byte = cpu.latch(TCON);
     let zero = request_rests(levels, byte, Input::Int0, IT0, IE0);
     let one = request_rests(levels, byte, Input::Int1, IT1, IE1);
     zero && one
+}
+
+/// Both pins are 1, and no request is kept, so that `tick_externals` changes nothing while the levels stay.
+#[tactic(auto, unfolding(crate::specs::OnlyCounting::none_asks))]
+#[inline(always)]
+pub(crate) fn none_asks(cpu: &Cpu, levels: &Levels) -> bool
+    ensures { result ≡ none_asks levels.now.present (latch cpu.now tcon) }
+{
+    let byte = cpu.latch(TCON);
+    let high0 = levels.is_high(Input::Int0);
+    let high1 = levels.is_high(Input::Int1);
+    let clear0 = replace_bit(byte, IE0, false) == byte;
+    let clear1 = replace_bit(byte, IE1, false) == byte;
+    high0 && high1 && clear0 && clear1
 }

@@ -2,6 +2,7 @@
 ghost use Rattle.m51_timers_uart.specs.CountLaws.{TimersCountUp};
 ghost use Rattle.m51_timers_uart.specs.KeptLaws.{TheRestIsKept, TimerZeroIsTold};
 ghost use Rattle.m51_timers_uart.specs.LineLaws.{LineIsBounded, NinthBitsAreApart, OneBitPasses, OneByteIsSent};
+ghost use Rattle.m51_timers_uart.specs.OnlyCounting.{DevicesCountOn};
 ghost use Rattle.m51_timers_uart.specs.RateLaws.{ModeOneIsSentInTime};
 ghost use Rattle.m51_timers_uart.specs.RowLaws.{ModeOneIsSentAtItsCycle, TimerOneCountsCycles};
 
@@ -85,4 +86,12 @@ pub fn the_rest_is_kept()
 /// Source: family manual.
 pub fn timer_0_is_told()
     ensures { TimerZeroIsTold }
+{}
+
+/// Machine cycles in which the devices only count: the tick of each adds one to the low byte of each timer that runs,
+/// changes nothing else and sends nothing.
+///
+/// Source: family manual; own choice ("Cycles in which nothing happens").
+pub fn devices_count_on()
+    ensures { DevicesCountOn }
 {}

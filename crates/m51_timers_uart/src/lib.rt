@@ -6,6 +6,7 @@ mod external;
 mod laws;
 mod levels;
 mod looking;
+mod only_counting;
 mod periph;
 mod receiving;
 mod sending;
@@ -13,9 +14,9 @@ mod timer2;
 mod timers;
 
 pub use laws::{
-    line_is_bounded, mode_1_is_sent_at_its_cycle, mode_1_is_sent_in_time, ninth_bits_are_apart,
-    one_bit_passes, one_byte_is_sent, the_rest_is_kept, timer_0_is_told, timer_1_counts_cycles,
-    timers_count_up,
+    devices_count_on, line_is_bounded, mode_1_is_sent_at_its_cycle, mode_1_is_sent_in_time,
+    ninth_bits_are_apart, one_bit_passes, one_byte_is_sent, the_rest_is_kept, timer_0_is_told,
+    timer_1_counts_cycles, timers_count_up,
 };
 pub use looking::look_alike;
 pub use periph::{Periph, Sent};

@@ -1,11 +1,16 @@
 //! The devices, and one machine cycle of them.
-ghost use Rattle.std.specs.Prelude.{◌≡◌, ◌++◌, IsTrue};
+ghost use Rattle.std.specs.Prelude.{◌≡◌, ◌++◌, ◌↔◌, ◌&&◌, IsTrue, nat_le, if◌then◌else◌};
+ghost use Rattle.m51_timers_uart.specs.OnlyCounting.{AreCounting, OnlyCount, counted_on, line_waits, low0_after};
+ghost use Rattle.m51_timers_uart.specs.OnlyCounting.{low1_after, low2_after};
 ghost use Rattle.m51_timers_uart.specs.Resting.{AreResting};
 ghost use Rattle.m51_timers_uart.specs.Sending.{begun};
 ghost use Rattle.m51_timers_uart.specs.Tick.{clocks_rest, clocks_ticked, reset_periph, ticked};
 
-use crate::external::{externals_rest, tick_externals};
+use crate::external::{externals_rest, none_asks, tick_externals};
 use crate::levels::{Levels, read_levels};
+use crate::only_counting::{
+    all_fit, count_on, is_timer0_plain, is_timer1_plain, is_timer2_plain, waits,
+};
 use crate::receiving::{Frame, receive_both};
 use crate::sending::{start, tick_sending};
 use crate::timer2::{tick_timer2, timer2_rests};
@@ -70,9 +75,35 @@ fn tick_clocks(periph: &mut Periph, cpu: &mut Cpu, levels: &Levels) -> Option<Se
 /// All levels are those of the last tick.
 #[inline(always)]
 fn levels_stay(levels: &Levels) -> bool
-    ensures { IsTrue result → levels.now.present ≡ levels.now.before }
+    ensures { IsTrue result ↔ levels.now.present ≡ levels.now.before }
 {
     levels.present == levels.before
+}
+
+/// In this number of cycles no timer that runs reaches the end of its low byte, and no byte moves on its way.
+#[inline(always)]
+fn last_for(periph: &Periph, cpu: &Cpu, count: u8) -> bool
+    ensures { result ≡ (nat_le (low0_after count cpu.now) 255 && nat_le (low1_after count cpu.now) 255
+        && nat_le (low2_after count cpu.now) 255 && line_waits cpu.now periph.now) }
+{
+    let fit = all_fit(count, cpu);
+    fit && waits(periph, cpu)
+}
+
+/// Each timer that runs counts each cycle, no level is another than at the last tick, and no external interrupt asks.
+#[inline(always)]
+fn counts(periph: &Periph, cpu: &Cpu, ext: &Pins) -> bool
+    ensures { IsTrue result ↔ AreCounting cpu.now ext.now periph.now }
+{
+    let levels = Levels {
+        before: periph.levels,
+        present: read_levels(cpu, ext),
+    };
+    is_timer0_plain(cpu)
+        && is_timer1_plain(cpu)
+        && is_timer2_plain(cpu)
+        && levels_stay(&levels)
+        && none_asks(cpu, &levels)
 }
 
 impl Periph {
@@ -109,13 +140,32 @@ impl Periph {
     /// Source: own choice ("Cycles in which nothing happens").
     #[inline(always)]
     pub fn rests(&self, cpu: &Cpu, ext: &Pins) -> bool
-        ensures { IsTrue result → AreResting cpu.now ext.now self.now }
+        ensures { IsTrue result ↔ AreResting cpu.now ext.now self.now }
     {
         let levels = Levels {
             before: self.levels,
             present: read_levels(cpu, ext),
         };
         clocks_rest(self, cpu) && levels_stay(&levels) && externals_rest(cpu, &levels)
+    }
+
+    /// Passes this number of machine cycles in which no frame arrives at once, if these are the levels outside and the
+    /// devices only count: each timer that runs counts each cycle, and none reaches the end of its low byte; no byte
+    /// moves on its way, no level is another than at the last tick, the pins of the external interrupts are 1, and no
+    /// request of them is kept. It answers whether it did; if not, nothing changes.
+    ///
+    /// Source: own choice ("Cycles in which nothing happens").
+    #[inline(always)]
+    pub fn count_on(&self, cpu: &mut Cpu, ext: &Pins, count: u8) -> bool
+        ensures answer { IsTrue result ↔ OnlyCount count cpu.old ext.now self.now }
+        ensures counted { cpu.new ≡ (if result then counted_on count cpu.old else cpu.old) }
+    {
+        // What fails most often is asked first.
+        if !last_for(self, cpu, count) || !counts(self, cpu, ext) {
+            return false;
+        }
+        count_on(count, cpu);
+        true
     }
 
     /// One machine cycle: timers 0 and 1, timer 2, sending, receiving, the external interrupts. `ext` are the levels

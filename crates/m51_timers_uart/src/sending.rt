@@ -73,7 +73,7 @@ fn grow(cpu: &Cpu, mode: u8, timer1: bool, timer2: u8) -> u8
 
 /// What a bit time takes in modes 1 to 3.
 #[tactic(auto, unfolding(crate::specs::Sending::bit_time))]
-fn last(cpu: &Cpu, mode: u8) -> u8
+pub(crate) fn last(cpu: &Cpu, mode: u8) -> u8
     ensures value { result ≡ bit_time cpu.now mode }
     ensures least { 16 ≤ result }
     ensures most { result ≤ 64 }

@@ -15,7 +15,7 @@ use m51_sfr::bits::{CPRL2, CT2, EXEN2, EXF2, RCLK, TCLK, TF2, TR2};
 
 /// Timer 2 gives the rate of the serial line.
 #[tactic(auto, unfolding(crate::specs::Timer2::gives_rate))]
-fn rates(cpu: &Cpu) -> bool
+pub(crate) fn rates(cpu: &Cpu) -> bool
     ensures { result ≡ gives_rate cpu.now }
 {
     let receives = cpu.flag(T2CON, RCLK);

@@ -26,7 +26,7 @@ fn mode_by(m1: bool, m0: bool) -> TimerMode
 }
 
 /// The mode of timer 0, in bits 1 and 0 of TMOD.
-fn timer0_mode(cpu: &Cpu) -> TimerMode
+pub(crate) fn timer0_mode(cpu: &Cpu) -> TimerMode
     ensures { result ≡ mode0 cpu.now }
 {
     mode_by(cpu.flag(TMOD, 1), cpu.flag(TMOD, 0))
@@ -40,7 +40,7 @@ fn timer1_mode(cpu: &Cpu) -> TimerMode
 }
 
 /// Mode 3.
-fn splits(mode: TimerMode) -> bool
+pub(crate) fn splits(mode: TimerMode) -> bool
     ensures { result ≡ is_split mode }
 {
     mode == TimerMode::Split

@@ -32,7 +32,7 @@ use Rattle.m51_stackbound.specs.Depths.{Calls, CallsAt, CallsThrough, Direct, Ow
 use Rattle.m51_stackbound.specs.Points.{IsPoint}
 use Rattle.m51_stackbound.specs.Rules.{rank}
 use Rattle.m51_stackbound.specs.Search.{ArePoints}
-use Rattle.m51_build_proof.proofs.PointsFound.{Sought, seek, taken_by}
+use Rattle.m51_build_proof.proofs.PointsFound.{seek, taken_by}
 
 -- a call from a start to another
 abbrev StartCall : Type 0

@@ -10,7 +10,7 @@ use Rattle.m51_chain.specs.Linking.{sole_program}
 use Rattle.m51_linker.proofs.Reset.{reset}
 use Rattle.m51_module.specs.Sound.{IsSound}
 use Rattle.m51_place.proofs.Ranks.{graph_is}
-use Rattle.m51_place.proofs.SoundLayout.{sound}
+use Rattle.m51_place.proofs.SoundLayout.{sound as layout_sound}
 use Rattle.m51_place.proofs.Whole.{placed_whole}
 use Rattle.m51_script.specs.Reading.{plain_script}
 use Rattle.m51_build_proof.proofs.ChosenModules.{chosen_resolved}
@@ -47,7 +47,7 @@ startable inputs p is valid libraries kept =
     let whole = placed_whole modules controls g of.located rules.drawn all resolved kept of.is in
     record {
       sound = subst (λ (x : Placing). IsSound x.layout) of.placing
-          (sound (segments_of modules) controls g (graph_is modules controls g rules.drawn) graph of.located whole);
+          (layout_sound (segments_of modules) controls g (graph_is modules controls g rules.drawn) graph of.located whole);
       root = reset modules controls g p.placing rules.drawn rules.placed all resolved kept graph;
     }
 

@@ -1,6 +1,6 @@
 -- The tables and lists of a bound, for settled depths none of which is above 255.
 use Rattle.std.proofs.Common.{◌≡◌, ◌<◌, ◌≤◌, ◌+◌, ℕ, zero, suc, Bool, true, false, List, [], ◌∷◌, ◌++◌, length}
-use Rattle.std.proofs.Common.{Option, Some, None, refl, sym, ap, subst, ◌∙◌, arith, replicate, take, take_all, get_or}
+use Rattle.std.proofs.Common.{Option, Some, None, refl, subst, arith, replicate, take, take_all, get_or}
 use Rattle.std.proofs.Common.{set}
 use Rattle.std.proofs.lemmas.List.Elements.{Contains-get_or}
 use Rattle.std.specs.List.{Contains}

@@ -85,8 +85,8 @@ module _ (l : LayoutParts) (image : List ℕ) where
 
 -- ---- depths that are settled
 
-module _ (l : LayoutParts) (image : List ℕ) (sound : IsSound l) (points : List Point) (are : ArePoints l image points)
-    where
+module _ (l : LayoutParts) (image : List ℕ) (sound : IsSound l) (points : List Point)
+    (are : ArePoints l image points) where
   by_start : (p : Point) (start : Start) → IsPoint l image p → p.start ≡ start → rank start < 65537
   by_start p Reset is e = omega arith
   by_start p (At a) is e =
@@ -116,8 +116,8 @@ module _ (l : LayoutParts) (image : List ℕ) (sound : IsSound l) (points : List
   settle zero depths taken enough = let most = sum_few l image depths taken in absurd (omega (arith, enough, most))
   settle (suc fuel) depths taken enough =
       elim (seek (λ (p : Point). depth_in depths p.start < cap p.height)
-          (λ (p : Point). cap p.height ≤ depth_in depths p.start)
-          (λ p. cases_lt (depth_in depths p.start) (cap p.height)) points) [
+      (λ (p : Point). cap p.height ≤ depth_in depths p.start)
+      (λ p. cases_lt (depth_in depths p.start) (cap p.height)) points) [
         | inl s ↦
             let p = s.element in
             let is = are.only p s.listed in
@@ -129,18 +129,18 @@ module _ (l : LayoutParts) (image : List ℕ) (sound : IsSound l) (points : List
         | inr own ↦ elim (seek (λ (c : StartCall). depth_in depths c.from < depth_by depths c)
             (λ (c : StartCall). depth_by depths c ≤ depth_in depths c.from)
             (λ c. cases_lt (depth_in depths c.from) (depth_by depths c)) calls) [
-          | inl s ↦
-              let c = s.element in
-              let call = called_at c s.listed in
-              let below : rank c.from < length depths =
-              let few = call_start c.from c.height c.to call in omega (arith, few, taken.len) in
-              let new = set depths (rank c.from) (depth_by depths c) in
-              let r = raised_next l image (c ∷ []) 0 c depths depths new false true (omega arith) below call
-              (raised_none l image depths taken) (s.holds, refl) in
-              let more = r.more refl in
-              settle fuel new r.are (omega (arith, enough, more))
-          | inr high ↦ record { depths = depths; settled = record { are = taken; own = own; calls = high } }
-        ]
+              | inl s ↦
+                  let c = s.element in
+                  let call = called_at c s.listed in
+                  let below : rank c.from < length depths =
+                  let few = call_start c.from c.height c.to call in omega (arith, few, taken.len) in
+                  let new = set depths (rank c.from) (depth_by depths c) in
+                  let r = raised_next l image (c ∷ []) 0 c depths depths new false true (omega arith) below call
+                  (raised_none l image depths taken) (s.holds, refl) in
+                  let more = r.more refl in
+                  settle fuel new r.are (omega (arith, enough, more))
+              | inr high ↦ record { depths = depths; settled = record { are = taken; own = own; calls = high } }
+            ]
       ]
 
   settled_by : (count fuel : ℕ) → count ≡ 65537 → 16777472 < fuel → HasSettled

@@ -47,7 +47,8 @@ startable inputs p is valid libraries kept =
     let whole = placed_whole modules controls g of.located rules.drawn all resolved kept of.is in
     record {
       sound = subst (λ (x : Placing). IsSound x.layout) of.placing
-          (layout_sound (segments_of modules) controls g (graph_is modules controls g rules.drawn) graph of.located whole);
+          (layout_sound (segments_of modules) controls g (graph_is modules controls g rules.drawn) graph of.located
+          whole);
       root = reset modules controls g p.placing rules.drawn rules.placed all resolved kept graph;
     }
 

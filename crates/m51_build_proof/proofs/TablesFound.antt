@@ -55,8 +55,8 @@ module _ {X : Type 0} (xs : List X) (Is : List X → Type 0) (start : Is [])
   whole : Is xs
   whole = subst Is (take_all (length xs) xs (omega arith)) (front (length xs) (omega arith))
 
-module _ (l : LayoutParts) (image : List ℕ) (sound : IsSound l) (points : List Point) (are : ArePoints l image points)
-    where
+module _ (l : LayoutParts) (image : List ℕ) (sound : IsSound l) (points : List Point)
+    (are : ArePoints l image points) where
   at_point : (i : ℕ) → i < length points → rank (get_or points i (point_at Reset 0 0)).start < 65537
   at_point i below =
       few_starts l image sound points are (get_or points i (point_at Reset 0 0))
@@ -238,6 +238,7 @@ greatest_found l depths =
 
 pub total_found : (l : LayoutParts) (depths : List ℕ) → (total : ℕ) × IsSum depths (handlers l) total
 total_found l depths =
-    let g = greatest_found l depths in
-    (depth_in depths Reset + g.greatest.first + g.greatest.second,
-    record { greatest = g.greatest; are = g.are; total_is = refl })
+    let g = greatest_found l depths in (
+      depth_in depths Reset + g.greatest.first + g.greatest.second,
+      record { greatest = g.greatest; are = g.are; total_is = refl },
+    )

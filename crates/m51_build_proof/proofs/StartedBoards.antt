@@ -1,5 +1,5 @@
 -- Each sound layout with a root at 0000H has a board after a reset.
-use Rattle.m51_build_proof.proofs.Common.{◌≡◌, ◌+◌, ◌<◌, ◌⊎◌, ◌%◌, ◌&&◌, ◌||◌, ◌∷◌, ◌∙◌, inl, inr, ℕ, zero, suc, Bool}
+use Rattle.m51_build_proof.proofs.Common.{◌≡◌, ◌<◌, ◌%◌, ◌&&◌, ◌||◌, ◌∷◌, ◌∙◌, inl, inr, ℕ, zero, suc, Bool}
 use Rattle.m51_build_proof.proofs.Common.{true, false, List, [], Option, Some, None, refl, sym, ap, subst, arith}
 use Rattle.m51_build_proof.proofs.Common.{and_parts, false≢true, list_any, range_with_len, slice_get, map, LayoutParts}
 use Rattle.m51_build_proof.proofs.Common.{Script}

@@ -19,6 +19,7 @@ use Rattle.m51_module.specs.declared.start.Start.TheVariants.{At, Reset}
 use Rattle.m51_module.specs.Plan.{IsUnitAt}
 use Rattle.m51_module.specs.Sound.{IsSound}
 use Rattle.m51_module.specs.Walks.{Edges, HasEdge, IsWalk, Reaches, last_of}
+use Rattle.m51_sim.proofs.TakenTypes.{taken_by}
 use Rattle.m51_stackbound.proofs.CallRows.{calls_all, calls_only}
 use Rattle.m51_stackbound.proofs.Covering.{start_covered}
 use Rattle.m51_stackbound.proofs.Deciding.{first_is, none_is}
@@ -32,7 +33,7 @@ use Rattle.m51_stackbound.specs.Depths.{Calls, CallsAt, CallsThrough, Direct, Ow
 use Rattle.m51_stackbound.specs.Points.{IsPoint}
 use Rattle.m51_stackbound.specs.Rules.{rank}
 use Rattle.m51_stackbound.specs.Search.{ArePoints}
-use Rattle.m51_build_proof.proofs.PointsFound.{seek, taken_by}
+use Rattle.m51_build_proof.proofs.PointsFound.{seek}
 
 -- a call from a start to another
 abbrev StartCall : Type 0

@@ -8,6 +8,7 @@ use Rattle.m51_cells.specs.declared.limits.TheConstants.{MOST_POINTS}
 use Rattle.m51_module.proofs.Units.{same_or_not}
 use Rattle.m51_module.specs.declared.parts.LayoutParts.{LayoutParts}
 use Rattle.m51_module.specs.declared.start.Start.TheVariants.{Reset}
+use Rattle.m51_sim.proofs.TakenTypes.{taken_by}
 use Rattle.m51_stackbound.proofs.Leasts.{least_more, least_same}
 use Rattle.m51_stackbound.proofs.Noting.{notes_key}
 use Rattle.m51_stackbound.proofs.Raised.{rank_same}
@@ -16,15 +17,8 @@ use Rattle.m51_stackbound.proofs.Reaching.{search_step, search_stops}
 use Rattle.m51_stackbound.specs.Bounds.{Breaks, HasTwoHeights}
 use Rattle.m51_stackbound.specs.declared.point.Point.{Point}
 use Rattle.m51_stackbound.specs.Points.{first_points, instruction, point_at, successors}
-use Rattle.m51_stackbound.specs.Rules.{IsLeast, breaks_by, lesser, rank, reached_address}
+use Rattle.m51_stackbound.specs.Rules.{IsLeast, breaks_by, lesser, no_later, rank, reached_address}
 use Rattle.m51_stackbound.specs.Search.{ArePoints, Finds, Notes, NotesAll}
-
--- the type of what a function gives, or of what it takes, where its crate keeps the name
-abbrev pub given_by : {A B : Type 0} → (A → B) → Type 0
-given_by {A} {B} f = B
-
-abbrev pub taken_by : {A B : Type 0} → (A → B) → Type 0
-taken_by {A} {B} f = A
 
 -- an element of a list that is so
 pub record Sought {X : Type 0} (P : X → Type 0) (xs : List X) : Type 0 where
@@ -110,7 +104,7 @@ module _ (l : LayoutParts) (image : List ℕ) where
 
 -- a start and an address
 abbrev pub Place : Type 0
-Place = given_by reached_address
+Place = taken_by no_later
 
 -- one of these points meets the test, and has the place
 record Met (P : Point → Type 0) (ps : List Point) (at : Place) : Type 0 where

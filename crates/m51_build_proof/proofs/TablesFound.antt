@@ -12,6 +12,7 @@ use Rattle.m51_module.specs.declared.start.Start.{Start}
 use Rattle.m51_module.specs.declared.start.Start.TheVariants.{At, Reset}
 use Rattle.m51_module.specs.Plan.{IsRootAt}
 use Rattle.m51_module.specs.Sound.{IsSound}
+use Rattle.m51_sim.proofs.TakenTypes.{taken_by}
 use Rattle.m51_stackbound.proofs.Adding.{greatest_more, greatest_none}
 use Rattle.m51_stackbound.proofs.Covering.{handler_root, handlers_rise}
 use Rattle.m51_stackbound.proofs.Deciding.{covered_noted}
@@ -31,7 +32,6 @@ use Rattle.m51_stackbound.specs.Search.{ArePoints}
 use Rattle.m51_stackbound.specs.Totals.{AreGreatest, IsSum, added, with_bytes}
 use Rattle.m51_stackbound.specs.Units.{handlers}
 use Rattle.m51_build_proof.proofs.DepthsFound.{few_starts}
-use Rattle.m51_build_proof.proofs.PointsFound.{taken_by}
 
 -- how a path continues, and the two greatest numbers
 abbrev Way : Type 0

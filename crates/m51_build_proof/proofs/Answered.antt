@@ -1,4 +1,4 @@
--- Arguments that ask for one of these verbs have one answer, and the top call completes it.
+-- Arguments and files of bytes have one answer, and the top call completes it.
 use Rattle.std.proofs.Common.{◌≡◌, ℕ, ◌≤◌, Bool, true, false, cond, nat_le, List, [], ◌∷◌, length, Option, Some, None}
 use Rattle.std.proofs.Common.{refl, suc, subst, ap, inl, inr, arith}
 use Rattle.std.proofs.lemmas.Bool.Decides.{leb_tells}
@@ -18,7 +18,7 @@ use Rattle.m51_shelf.specs.Shelf.{Files}
 use Rattle.m51_verbs.specs.declared.status.Status.{Status}
 use Rattle.m51_verbs.specs.Outcome.{Answer, long_answer, many_answer, named_answer, unread_answer, usage_answer}
 use Rattle.m51_verbs.specs.Reading.{Absent, Reading, TooLong, Whole, read_of, read_one, with_file}
-use Rattle.m51_build_proof.specs.Answers.{AskShown, IsOnlyAnswer}
+use Rattle.m51_build_proof.specs.Answers.{IsOnlyAnswer}
 use Rattle.m51_build_proof.proofs.Existing.{one_of_job}
 use Rattle.m51_build_proof.proofs.Keeping.{outcome_keeps}
 
@@ -51,11 +51,11 @@ record Answered (words : List (List ℕ)) (files : Files) : Type 0 where
   answer : Answer
   is : IsAnswer words files answer
 
-module _ (words : List (List ℕ)) (files : Files) (shown : AskShown words) (bytes : HoldBytes files) where
+module _ (words : List (List ℕ)) (files : Files) (bytes : HoldBytes files) where
   worked : (job : Job) (contents : List (List ℕ)) → job_of words ≡ Some job → file_count job ≤ MOST_FILES
       → read_of files (names_read job) ≡ Whole contents → Answered words files
   worked job contents asked few read =
-      let o = one_of_job job contents (shown job asked) (record {
+      let o = one_of_job job contents (record {
         fit = asked_fit words job asked;
         count = subst (Counted (length (names_read job))) read (all_counted files (names_read job));
         bytes = of_bytes files bytes (names_read job) contents read;
@@ -86,9 +86,9 @@ module _ (words : List (List ℕ)) (files : Files) (shown : AskShown words) (byt
       let a = answered in
       (a.answer, record { is = a.is; only = λ other h. one_answer words files other a.answer h a.is })
 
-pub chain_complete : (words : List (List ℕ)) (files : Files) (c : Change) (told : Status) → AskShown words
-    → HoldBytes files → IsTold words files c told
+pub chain_complete : (words : List (List ℕ)) (files : Files) (c : Change) (told : Status) → HoldBytes files
+    → IsTold words files c told
     → (answer : Answer) × IsOnlyAnswer words files answer × IsComplete answer c told
-chain_complete words files c told shown bytes it =
-    let one = one_of_words words files shown bytes in
+chain_complete words files c told bytes it =
+    let one = one_of_words words files bytes in
     (one.0, one.1, completed words files c one.0 told it one.1.is)

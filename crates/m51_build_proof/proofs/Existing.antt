@@ -1,4 +1,4 @@
--- Each job of build, asm, lib, flat, gen and dis has an outcome.
+-- Each job has an outcome.
 use Rattle.std.proofs.Common.{◌≡◌, ℕ, suc, ◌+◌, Bool, true, false, cond, List, [], ◌∷◌, length, Option, Result, Ok}
 use Rattle.std.proofs.Common.{Err, refl, ap, subst, sym, ◌∙◌, arith}
 use Rattle.std.specs.Prelude.{count_by}
@@ -6,15 +6,22 @@ use Rattle.std.proofs.lemmas.List.Sums.{sum_by-cons}
 use Rattle.m51_asm.proofs.AnsweredLines.{one_answer as one_text}
 use Rattle.m51_asm.specs.Answer.{AnswerTree}
 use Rattle.m51_asm.specs.Answer as answers
+use Rattle.m51_build_proof.proofs.BoundFound.{has_bound}
 use Rattle.m51_build_proof.proofs.Existence.{has_linked, one_of_each}
+use Rattle.m51_build_proof.proofs.Parties.{party_work}
+use Rattle.m51_build_proof.proofs.SoundPrograms.{IsStartable, files_startable, valid_modules}
+use Rattle.m51_build_proof.specs.Builds.{AreOfBytes}
 use Rattle.m51_build_proof.specs.Headline.{IsOnly}
 use Rattle.m51_chain.proofs.OneOutcome.{one_outcome}
 use Rattle.m51_chain.specs.Analyses.{link_files}
 use Rattle.m51_chain.specs.Assembles.{IsOneOutcome, assembled_outcome}
 use Rattle.m51_chain.specs.Generates.{IsCounted, IsGenOutcome, IsGenerated}
 use Rattle.m51_chain.specs.InputRefusals.{input_outcome}
-use Rattle.m51_chain.specs.Linking.{Follows, IsInputsOutcome, IsProgramOutcome, Unlinked, program_in, sole_program}
-use Rattle.m51_chain.specs.ProgramFiles.{Given, IsFilesOutcome, IsGivenOutcome, ProgramFiles, Refused, control_content}
+use Rattle.m51_chain.specs.Linking.{Follows, IsInputsOutcome, IsLinkedOutcome, IsProgramOutcome, Unlinked, program_in}
+use Rattle.m51_chain.specs.Linking.{sole_program}
+use Rattle.m51_chain.specs.Parties.{IsPartyWork, party_files}
+use Rattle.m51_chain.specs.ProgramFiles.{AreAnswered, Given, IsFilesOutcome, IsGivenOutcome, ProgramFiles, Refused}
+use Rattle.m51_chain.specs.ProgramFiles.{control_content}
 use Rattle.m51_chain.specs.ProgramFiles.{script_content, word_contents}
 use Rattle.m51_chain.specs.Verbs.{IsOutcome}
 use Rattle.m51_disasm.specs.Answer.{disassembled}
@@ -31,16 +38,18 @@ use Rattle.m51_jobs.specs.declared.job.GenJob.{GenJob}
 use Rattle.m51_jobs.specs.declared.job.Job.{Job}
 use Rattle.m51_jobs.specs.declared.job.Job.TheVariants as jobs
 use Rattle.m51_jobs.specs.declared.job.LinkJob.{LinkJob}
+use Rattle.m51_jobs.specs.declared.job.PartyJob.{PartyJob}
 use Rattle.m51_jobs.specs.Endings.{is_source}
 use Rattle.m51_linker.specs.declared.linked.Linked.{Linked}
-use Rattle.m51_linker.specs.Link.{Program}
+use Rattle.m51_linker.specs.Link.{IsLinked, Program}
 use Rattle.m51_module.specs.declared.image.TheConstants.{IMAGE_LEN}
 use Rattle.m51_module.specs.declared.linked.Refusal.{Refusal}
+use Rattle.m51_module.specs.declared.parts.LayoutParts.{LayoutParts}
 use Rattle.m51_module.specs.declared.source.SourceFile.{SourceFile}
 use Rattle.m51_script.specs.declared.error.ScriptError.{ScriptError}
 use Rattle.m51_script.specs.declared.script.Script.{Script}
 use Rattle.m51_text.specs.Answer.{text_of}
-use Rattle.m51_verbs.specs.Analyses.{IsDisassembled, text_outcome}
+use Rattle.m51_verbs.specs.Analyses.{IsBounded, IsDisassembled, bound_outcome, text_outcome}
 use Rattle.m51_verbs.specs.Counts.{summary_outcome}
 use Rattle.m51_verbs.specs.declared.work.Reason.TheVariants as reason
 use Rattle.m51_verbs.specs.FaultLines.{fault_lines}
@@ -51,7 +60,7 @@ use Rattle.m51_verbs.specs.Optional.{content_if}
 use Rattle.m51_verbs.specs.Outcome.{Outcome, refused}
 use Rattle.m51_verbs.specs.Refusals.{hex_outcome}
 use Rattle.m51_verbs.specs.ScriptRefusals.{script_outcome}
-use Rattle.m51_build_proof.specs.Answers.{IsReady, IsShown}
+use Rattle.m51_build_proof.specs.Answers.{IsReady}
 use Rattle.m51_hex.proofs.LowRecords.{image_length, image_of, image_read}
 
 -- there is an outcome of this kind
@@ -62,37 +71,65 @@ record Found (Is : Outcome → Type 0) : Type 0 where
 -- ---- what is linked
 
 module _ (program : Result Program Refusal) (Is : Linked → Outcome → Type 0)
-    (each : (linked : Linked) → Found (Is linked)) where
+    (each : (p : Program) → program ≡ Ok p → (linked : Linked) → IsLinked p linked → Found (Is linked)) where
   found_by : (r : Result Program Refusal) → program ≡ r → Found (IsProgramOutcome program Is)
   found_by (Err why) is = record { outcome = link_outcome why; is = Unlinked why is refl }
   found_by (Ok p) is =
       let l = has_linked p IMAGE_LEN refl in
-      let o = each l.linked in
+      let o = each p is l.linked l.is in
       record { outcome = o.outcome; is = Follows p l.linked is l.is o.is }
 
   program_found : Found (IsProgramOutcome program Is)
   program_found = found_by program refl
 
 module _ (files : ProgramFiles) (contents : List (List ℕ)) (Is : InputsTree → Outcome → Type 0)
-    (each : (inputs : InputsTree) → Found (Is inputs)) where
-  given_found : (given : Result InputsTree InputError) → Found (IsGivenOutcome files Is given)
-  given_found (Err error) = record { outcome = input_outcome files.words error; is = Refused error refl refl }
-  given_found (Ok inputs) =
-      let o = each inputs in record { outcome = o.outcome; is = Given inputs refl o.is }
+    (each : (inputs : InputsTree) → AreAnswered files contents (Ok inputs) → Found (Is inputs)) where
+  given_found : (given : Result InputsTree InputError) → AreAnswered files contents given
+      → Found (IsGivenOutcome files Is given)
+  given_found (Err error) read = record { outcome = input_outcome files.words error; is = Refused error refl refl }
+  given_found (Ok inputs) read =
+      let o = each inputs read in record { outcome = o.outcome; is = Given inputs refl o.is }
 
   files_found : Found (IsFilesOutcome files contents Is)
   files_found =
       let one = one_for_files one_text files.words (word_contents files contents) (control_content files contents)
       (script_content files contents) in
-      let o = given_found one.answer in
+      let o = given_found one.answer one.is in
       record { outcome = o.outcome; is = record { given = one.answer; answer = one.is; is = o.is } }
 
-dis_found : (job : LinkJob) (contents : List (List ℕ)) → Found (IsOutcome (jobs.Dis job) contents)
+-- what becomes of a layout and an image, where the layout is sound and has a root at 0000H
+module _ (job : LinkJob) (contents : List (List ℕ)) (Is : LayoutParts → List ℕ → Outcome → Type 0)
+    (each : (layout : LayoutParts) (image : List ℕ) → IsStartable layout → Found (Is layout image)) where
+  looked_at : AreOfBytes contents
+      → Found (IsLinkedOutcome (link_files job) contents (λ script linked. Is linked.layout linked.image))
+  looked_at bytes =
+      files_found (link_files job) contents (IsInputsOutcome (λ script linked. Is linked.layout linked.image))
+      (λ inputs read. program_found (program_in inputs) (λ linked. Is linked.layout linked.image)
+      (λ p is linked l. each linked.layout linked.image
+      (subst IsStartable (sym l.layout) (files_startable (link_files job) contents inputs p bytes read is))))
+
+dis_found : (job : LinkJob) (contents : List (List ℕ)) → AreOfBytes contents
+    → Found (IsOutcome (jobs.Dis job) contents)
 dis_found job contents =
-    files_found (link_files job) contents
-    (IsInputsOutcome (λ script linked. IsDisassembled linked.layout linked.image))
-    (λ inputs. program_found (program_in inputs) (λ linked. IsDisassembled linked.layout linked.image)
-    (λ linked. record { outcome = text_outcome (disassembled linked.layout linked.image); is = refl }))
+    looked_at job contents IsDisassembled
+    (λ layout image ok. record { outcome = text_outcome (disassembled layout image); is = refl })
+
+stack_found : (job : LinkJob) (contents : List (List ℕ)) → AreOfBytes contents
+    → Found (IsOutcome (jobs.Stack job) contents)
+stack_found job contents =
+    looked_at job contents IsBounded
+    (λ layout image ok. let b = has_bound layout image ok.sound ok.root in
+    record {
+      outcome = bound_outcome layout b.answer;
+      is = record { sound = ok.sound; answer = b.answer; tied = b.tied; answers = b.answers; is = refl };
+    })
+
+party_found : (job : PartyJob) (contents : List (List ℕ)) → AreOfBytes contents
+    → Found (IsOutcome (jobs.Party job) contents)
+party_found job contents bytes =
+    files_found (party_files job) contents (IsPartyWork job.steps) (λ inputs read.
+    let w = party_work job.steps inputs (valid_modules (party_files job) contents inputs bytes read) in
+    record { outcome = w.0; is = w.1 })
 
 -- ---- what is generated
 
@@ -101,7 +138,7 @@ generated_found source steps (answers.Faults faults) =
     record { outcome = refused reason.Source (fault_lines source.name [] faults); is = refl }
 generated_found source steps (answers.Gives parts rows) =
     program_found (sole_program parts) (IsCounted steps)
-    (λ linked. record { outcome = summary_outcome linked.layout linked.image steps; is = refl })
+    (λ p is linked l. record { outcome = summary_outcome linked.layout linked.image steps; is = refl })
 
 gen_found : (job : GenJob) → Found (IsGenOutcome job)
 gen_found job =
@@ -191,18 +228,18 @@ only_one : (job : Job) (contents : List (List ℕ)) → Found (IsOutcome job con
 only_one job contents found =
     (found.outcome, record { is = found.is; only = λ other h. one_outcome job contents other found.outcome h found.is })
 
-pub one_of_job : (job : Job) (contents : List (List ℕ)) → IsShown job → IsReady job contents
+pub one_of_job : (job : Job) (contents : List (List ℕ)) → IsReady job contents
     → (outcome : Outcome) × IsOnly job contents outcome
-one_of_job (jobs.Build job) contents shown ready = one_of_each job contents ready.bytes
-one_of_job (jobs.Asm job) contents shown ready =
+one_of_job (jobs.Build job) contents ready = one_of_each job contents ready.bytes
+one_of_job (jobs.Asm job) contents ready =
     only_one (jobs.Asm job) contents
     (assembled_found job.files (sources_of job.files contents) (includes_of job.files contents)
     (one_source job.files contents ready.fit ready.count))
-one_of_job (jobs.Library job) contents shown ready =
+one_of_job (jobs.Library job) contents ready =
     only_one (jobs.Library job) contents (record { outcome = _; is = refl })
-one_of_job (jobs.Flat job) contents shown ready =
+one_of_job (jobs.Flat job) contents ready =
     only_one (jobs.Flat job) contents (flat_found job contents _ ready.count)
-one_of_job (jobs.Gen job) contents shown ready = only_one (jobs.Gen job) contents (gen_found job)
-one_of_job (jobs.Dis job) contents shown ready = only_one (jobs.Dis job) contents (dis_found job contents)
-one_of_job (jobs.Stack job) contents shown ready = absurd shown
-one_of_job (jobs.Party job) contents shown ready = absurd shown
+one_of_job (jobs.Gen job) contents ready = only_one (jobs.Gen job) contents (gen_found job)
+one_of_job (jobs.Dis job) contents ready = only_one (jobs.Dis job) contents (dis_found job contents ready.bytes)
+one_of_job (jobs.Stack job) contents ready = only_one (jobs.Stack job) contents (stack_found job contents ready.bytes)
+one_of_job (jobs.Party job) contents ready = only_one (jobs.Party job) contents (party_found job contents ready.bytes)

@@ -31,5 +31,12 @@ pub mod Known
 pub mod Refusing
 pub mod LibraryWork
 pub mod Keeping
+pub mod PointsFound
+pub mod DepthsFound
+pub mod TablesFound
+pub mod BoundFound
+pub mod SoundPrograms
+pub mod StartedBoards
+pub mod Parties
 pub mod Existing
 pub mod Answered

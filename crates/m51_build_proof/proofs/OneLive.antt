@@ -137,7 +137,7 @@ module _ (l : LayoutParts) (sound : IsSound l) (image : List ℕ) where
   reset_is unit (Some v) at found = one_unit l sound 0 unit v at found
   reset_is unit None at found = absurd (found unit at)
 
-  start_walks : (fill unit : ℕ) → IsRootAt l 0 unit → AreWalks l (separate_start l fill).records
+  pub start_walks : (fill unit : ℕ) → IsRootAt l 0 unit → AreWalks l (separate_start l fill).records
   start_walks fill unit root =
       record {
         over = subst (λ u. IsRootAt l 0 u)

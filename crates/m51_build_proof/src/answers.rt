@@ -16,23 +16,22 @@ pub fn no_words_have_two_answers()
     ensures { NoWordsHaveTwo }
 {}
 
-/// Each job of `build`, `asm`, `lib`, `flat`, `gen` and `dis` that arguments can ask for has exactly one outcome,
-/// whatever bytes its files hold.
+/// Each job that arguments can ask for has exactly one outcome, whatever its verb and whatever bytes its files hold.
 ///
 /// Source: own choice ("The top call").
 pub fn each_job_has_one_outcome()
     ensures { EachJobHasOne }
 {}
 
-/// Arguments that are faulty or ask for one of these verbs have exactly one answer, whatever bytes the files hold.
+/// All arguments have exactly one answer, whatever bytes the files hold.
 ///
 /// Source: own choice ("The top call").
 pub fn each_has_one_answer()
     ensures { EachHasOneAnswer }
 {}
 
-/// The clause `told` of the top call says of such arguments that their one answer is kept and written whole, with its
-/// status, unless a call failed or memory ran out.
+/// The clause `told` of the top call says that the one answer is kept and written whole, with its status, unless a call
+/// failed or memory ran out.
 ///
 /// Source: own choice ("The top call").
 pub fn chain_is_complete()

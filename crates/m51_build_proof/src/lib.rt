@@ -1,5 +1,5 @@
 //! Laws on each outcome of a build: what it links, prints and keeps; and that the overlay it prints is the least one.
-//! Laws on the answers of all verbs: that there is no second one, and of which verbs there is one.
+//! Laws on the answers of all verbs: that there is one, and no second one.
 #![tactic(auto)]
 
 mod answers;

@@ -10,7 +10,7 @@ use Rattle.m51_cells.specs.declared.event.Entry.{Entry}
 use Rattle.m51_cells.specs.declared.event.Event.{Event}
 use Rattle.m51_cells.specs.declared.event.Event.TheVariants.{Outside, PowerDown, Reserved, Transfer, Unwritten}
 use Rattle.m51_flat.specs.Reads.{CellMap}
-use Rattle.m51_inputs.specs.Inputs.{controls_in, inputs_of as all_inputs, script_in}
+use Rattle.m51_inputs.specs.Inputs.{controls_in, inputs_of as all_inputs, or_script, script_in}
 use Rattle.m51_inputs.specs.Files.{source_words}
 use Rattle.m51_inputs.specs.Objects.{linked_from}
 use Rattle.m51_inputs.specs.Sources.{faults_in, modules_in, unless_faults}
@@ -24,17 +24,28 @@ use Rattle.m51_sim.specs.Runs.{Machine, Performed, Record, State, no_step, recor
 use Rattle.m51_sim.specs.SeparateMachine.{Separate}
 use Rattle.m51_sim.proofs.Agreeing.{filled_has}
 use Rattle.m51_sim.proofs.Sums.{appended, record_sum}
+use Rattle.m51_script.specs.declared.error.ScriptError.{ScriptError}
+use Rattle.m51_script.specs.Reading.{plain_script, script_of}
 use Rattle.m51_jobs.specs.declared.job.FlatJob.{FlatJob}
 use Rattle.m51_jobs.specs.declared.job.Job.TheVariants.{Flat}
 use Rattle.m51_verbs.specs.FlatRuns as flats
 use Rattle.m51_verbs.specs.FlatRuns.{HexRead, Ran, flat_report}
 use Rattle.m51_verbs.specs.Optional.{content_if}
 use Rattle.m51_chain.specs.Verbs.{IsOutcome}
-use Rattle.m51_chain.proofs.Accepted.{on_value, script_is}
+use Rattle.m51_chain.proofs.Accepted.{ok_same, on_value}
 use Rattle.m51_chain.proofs.OneOutcome.{one_outcome}
 use Rattle.m51_build_proof.specs.Builds.{flat_run}
 use Rattle.m51_build_proof.specs.Headline.{FlatGives, FlatRepeats, IfShared, RunsAlike}
 use Rattle.m51_build_proof.proofs.Alike.{runs_alike}
+
+accepted_script : (r : Result Script ScriptError) (s : Script) → or_script r ≡ Ok s → r ≡ Ok s
+accepted_script (Ok x) s h = ap (λ v. Ok v) (ok_same _ x s refl h)
+accepted_script (Err e) s h = absurd (cc h)
+
+-- the script of the files of a program is that of the verb flat
+script_is : (file : Option (List ℕ)) (s : Script) → script_in file ≡ Ok s → flats.script_in file ≡ Ok s
+script_is None s h = ap (λ v. Ok v) (ok_same _ plain_script s refl h)
+script_is (Some bytes) s h = accepted_script (script_of bytes) s h
 
 given_script : (files contents : List (List ℕ)) (control script : Option (List ℕ)) (answers : List AnswerTree)
     (inputs : InputsTree)

@@ -1,5 +1,5 @@
 //! An image, a script, the processor, the devices, and the number of the machine cycle.
-ghost use Rattle.std.specs.Prelude.{◌≡◌, None, length, IfOk, IsTrue};
+ghost use Rattle.std.specs.Prelude.{◌≡◌, ◌≤◌, ◌+◌, ◌-◌, ◌^◌, None, length, min, IfOk, IsTrue};
 ghost use Rattle.m51_flat.specs.Reset.{reset_cpu};
 ghost use Rattle.m51_timers_uart.specs.LineLaws.{written_to};
 ghost use Rattle.m51_timers_uart.specs.Resting.{looked_at};
@@ -166,11 +166,15 @@ impl Chip {
             (changed_by self.old.cycle self.old.periph effect.now) }
     {
         let port = port_entry(self.passing.cycle, effect);
-        let rests = rests_on(self.resting, &self.passing.cpu, effect);
+        let rests = rests_on(self.resting, &self.passing.cpu, effect, extra);
         copy_cpu(&mut self.passing.cpu, &effect.cpu);
+        if rests {
+            self.passing.cycle = later(self.passing.cycle, effect.cycles);
+            return Entries { port, sent: None };
+        }
         begin_sending(&mut self.passing.periph, effect);
         self.passing.sent = None;
-        self.resting = pass_cycles(&self.script, extra, effect.cycles, &mut self.passing, rests);
+        self.resting = pass_cycles(&self.script, extra, effect.cycles, &mut self.passing, false);
         Entries {
             port,
             sent: self.passing.sent,
@@ -178,15 +182,28 @@ impl Chip {
     }
 }
 
-// Whether the devices rest after an effect as they did before it: no byte is to be sent, and the registers stay that
-// show it.
+// Whether the devices rest after an effect as they did before it: no byte is to be sent, the registers stay that show
+// it, and no further frame comes.
 #[inline(always)]
-fn rests_on(rests: bool, cpu: &Cpu, effect: &Effect) -> bool
+fn rests_on(rests: bool, cpu: &Cpu, effect: &Effect, extra: &[Timed]) -> bool
     ensures rests { IsTrue result → IsTrue rests }
     ensures line { IsTrue result → effect.now.sbuf ≡ None }
     ensures registers { IsTrue result → looked_at cpu.now ≡ looked_at effect.now.cpu }
+    ensures alone { IsTrue result → length extra.now ≡ 0 }
 {
+    if !extra.is_empty() {
+        return false;
+    }
     rests && effect.sbuf.is_none() && look_alike(cpu, &effect.cpu)
+}
+
+// The number of the cycle after this number of cycles.
+#[inline(always)]
+fn later(cycle: u64, count: u8) -> u64
+    ensures later { result ≡ min (cycle + count) (2 ^ 64 - 1) }
+    ensures before { cycle ≤ 2 ^ 64 - 1 }
+{
+    cycle.saturating_add(u64::from(count))
 }
 
 // Makes a processor the same as another, part by part: a copy of the whole is a call.

@@ -140,10 +140,31 @@ fn judge(chip: &Chip, memory: &FlatRam, effect: &mut Effect) -> Result<(), Event
 }
 
 // Writes the cells of a put.
-fn put(memory: &mut FlatRam, put: &Put)
+#[inline(always)]
+fn put_any(memory: &mut FlatRam, put: &Put)
     ensures { map_of memory.new ≡ map_after put.now (map_of memory.old) }
 {
     memory.put(put);
+}
+
+// The same in a place of its own, for the puts that few steps have.
+#[inline(never)]
+fn put_apart(memory: &mut FlatRam, put: &Put)
+    ensures { map_of memory.new ≡ map_after put.now (map_of memory.old) }
+{
+    put_any(memory, put);
+}
+
+// Writes the cells of a put, where a byte or none, as most are, has machine code of its own.
+#[inline(always)]
+fn put(memory: &mut FlatRam, put: &Put)
+    ensures { map_of memory.new ≡ map_after put.now (map_of memory.old) }
+{
+    match *put {
+        Put::Byte { .. } => put_any(memory, put),
+        Put::Nothing => put_any(memory, put),
+        _ => put_apart(memory, put),
+    }
 }
 
 // Writes the cells of both puts of an effect, those of the first one first.

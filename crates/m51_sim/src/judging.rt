@@ -9,12 +9,13 @@ ghost use Rattle.m51_irq.specs.Choice.{chosen};
 ghost use Rattle.m51_irq.specs.Vectoring.{vectored};
 ghost use Rattle.m51_module.specs.Sound.{IsSound};
 ghost use Rattle.m51_monitor.specs.Found.{unit_found};
+ghost use Rattle.m51_monitor.specs.Judgement.{judge_of};
 ghost use Rattle.m51_monitor.specs.Monitored.{AreActivations, HasAddress, HasLevel, MonitorStandsFor, WasJudged};
 ghost use Rattle.m51_monitor.specs.Monitored.{live_in};
 ghost use Rattle.m51_monitor.specs.Records.{current};
 ghost use Rattle.m51_monitor.specs.Resolved.{outside_of, segment_over};
 ghost use Rattle.m51_monitor.specs.Shared.{shared_barred};
-ghost use Rattle.m51_monitor.specs.Transfers.{is_at};
+ghost use Rattle.m51_monitor.specs.Transfers.{IsMoveOrEvent, is_at};
 ghost use Rattle.m51_print.specs.Lines.{HasText};
 ghost use Rattle.m51_sim.specs.Boards.{IsInOrder, held_memory, stores_read};
 ghost use Rattle.m51_sim.specs.Cycles.{inputs_of};
@@ -27,7 +28,7 @@ ghost use Rattle.m51_monitor.specs.declared.step.Move.TheVariants.{Stay};
 use crate::attempt::Attempt;
 use crate::chip::{Chip, idle};
 use m51_cells::{Cell, Event, Why, cite};
-use m51_flat::{Cpu, Effect, NoEffect, Source, exec_into};
+use m51_flat::{Cpu, Effect, NoEffect, Put, Source, Transfer, exec_into};
 use m51_irq::vector_into;
 use m51_isa::{Instr, length};
 use m51_module::Layout;
@@ -94,6 +95,28 @@ fn unwritten(monitor: &Monitor, cell: Cell, at: u16) -> Event
     }
 }
 
+// What the table of transfers says of an effect.
+#[inline(always)]
+fn judge_any(monitor: &Monitor, cpu: &Cpu, effect: &Effect) -> Result<Move, Event>
+    ensures value { result ≡ judge_of monitor.now.layout monitor.now.records cpu.now effect.now }
+    ensures answers { IsMoveOrEvent monitor.now.layout monitor.now.records cpu.now effect.now result }
+{
+    monitor.judge(cpu, effect)
+}
+
+// The same. To continue with the next instruction has machine code of its own; two arms with the same call would be
+// made one.
+#[inline(always)]
+fn judge_move(monitor: &Monitor, cpu: &Cpu, effect: &Effect) -> Result<Move, Event>
+    ensures value { result ≡ judge_of monitor.now.layout monitor.now.records cpu.now effect.now }
+    ensures answers { IsMoveOrEvent monitor.now.layout monitor.now.records cpu.now effect.now result }
+{
+    match effect.transfer {
+        Transfer::Next => monitor.judge(cpu, effect),
+        _ => judge_any(monitor, cpu, effect),
+    }
+}
+
 // The result of a step that has this effect and whose reads and puts had this answer.
 #[inline(always)]
 fn conclude(
@@ -109,7 +132,7 @@ fn conclude(
     ensures text { IfErr result (HasText (length monitor.now.layout.placed)) }
 {
     match answer {
-        Ok(()) => monitor.judge(cpu, effect),
+        Ok(()) => judge_move(monitor, cpu, effect),
         Err(NoEffect::Outside(cell)) => Err(Event::Outside { cell, at: cpu.pc }),
         Err(NoEffect::Unset(cell)) => Err(unwritten(monitor, cell, cpu.pc)),
         Err(NoEffect::PowerDown) => Err(Event::PowerDown { at: cpu.pc }),
@@ -244,9 +267,42 @@ pub(crate) fn judge(monitor: &Monitor, chip: &Chip, effect: &mut Effect) -> Resu
     }
 }
 
-// Makes the puts of an effect that is allowed, and changes the records.
+// Makes the puts of an effect that is allowed, and changes the records. What most steps do, a put of one byte or none
+// and nothing else, has machine code of its own, without the tests of all that there may be.
 #[inline(always)]
 pub(crate) fn commit(monitor: &mut Monitor, effect: &Effect, step: Move)
+    requires judged { WasJudged monitor.old effect.now step }
+    requires opened { AreOpen (shared_barred monitor.old.store) effect.now }
+    requires address { HasAddress effect.now step }
+    requires level { HasLevel monitor.old step }
+    ensures layout { monitor.new.layout ≡ monitor.old.layout }
+    ensures memory { held_memory monitor.new
+        ≡ memory_after monitor.old.layout (held_memory monitor.old) (record { effect = effect.now; step = step }) }
+{
+    match (effect.first, effect.second, step) {
+        (Put::Byte { .. }, Put::Nothing, Move::Stay) => commit_any(monitor, effect, step),
+        (Put::Nothing, Put::Nothing, Move::Stay) => commit_any(monitor, effect, step),
+        _ => commit_rare(monitor, effect, step),
+    }
+}
+
+// The same, by another name: two arms with the same call would be made one.
+#[inline(always)]
+fn commit_rare(monitor: &mut Monitor, effect: &Effect, step: Move)
+    requires judged { WasJudged monitor.old effect.now step }
+    requires opened { AreOpen (shared_barred monitor.old.store) effect.now }
+    requires address { HasAddress effect.now step }
+    requires level { HasLevel monitor.old step }
+    ensures layout { monitor.new.layout ≡ monitor.old.layout }
+    ensures memory { held_memory monitor.new
+        ≡ memory_after monitor.old.layout (held_memory monitor.old) (record { effect = effect.now; step = step }) }
+{
+    commit_any(monitor, effect, step);
+}
+
+// The same, whatever it is.
+#[inline(always)]
+fn commit_any(monitor: &mut Monitor, effect: &Effect, step: Move)
     requires judged { WasJudged monitor.old effect.now step }
     requires opened { AreOpen (shared_barred monitor.old.store) effect.now }
     requires address { HasAddress effect.now step }

@@ -1,5 +1,5 @@
 //! The result of a step over the memories of a monitor, and the change of these.
-ghost use Rattle.std.specs.Prelude.{◌≡◌, ◌+◌, ◌%◌, ℕ, Some, Err, IfErr, IfOk, length};
+ghost use Rattle.std.specs.Prelude.{◌≡◌, ◌+◌, ◌%◌, ℕ, Some, Err, IfErr, IfOk, length, true};
 ghost use Rattle.m51_isa.specs.Table.{length_of};
 ghost use Rattle.m51_cells.specs.declared.event.Event.TheVariants.{Reserved, Transfer as EventTransfer};
 ghost use Rattle.m51_cells.specs.declared.event.Why.TheVariants.{PastEnd};
@@ -7,6 +7,7 @@ ghost use Rattle.m51_cells.specs.Cells.{IsDataCell};
 ghost use Rattle.m51_flat.specs.Outcome.{outcome_by};
 ghost use Rattle.m51_irq.specs.Choice.{chosen};
 ghost use Rattle.m51_irq.specs.Vectoring.{vectored};
+ghost use Rattle.m51_module.specs.Plan.{IsUnitAt};
 ghost use Rattle.m51_module.specs.Sound.{IsSound};
 ghost use Rattle.m51_monitor.specs.Found.{unit_found};
 ghost use Rattle.m51_monitor.specs.Judgement.{judge_of};
@@ -17,7 +18,7 @@ ghost use Rattle.m51_monitor.specs.Resolved.{outside_of, segment_over};
 ghost use Rattle.m51_monitor.specs.Shared.{shared_barred};
 ghost use Rattle.m51_monitor.specs.Transfers.{IsMoveOrEvent, is_at};
 ghost use Rattle.m51_print.specs.Lines.{HasText};
-ghost use Rattle.m51_sim.specs.Boards.{IsInOrder, held_memory, stores_read};
+ghost use Rattle.m51_sim.specs.Boards.{IsDraftOf, IsInOrder, held_memory, stores_read};
 ghost use Rattle.m51_sim.specs.Cycles.{inputs_of};
 ghost use Rattle.m51_sim.specs.Effects.{attempt_of, idle_effect};
 ghost use Rattle.m51_sim.specs.Ready.{AreOpen, IsOutcomePrepared, MayCommit};
@@ -26,7 +27,7 @@ ghost use Rattle.m51_sim.specs.SeparateMachine.{separate_effect, unless_past_end
 ghost use Rattle.m51_monitor.specs.declared.step.Move.TheVariants.{Stay};
 
 use crate::attempt::Attempt;
-use crate::chip::{Chip, idle};
+use crate::chip::{Chip, Draft, idle};
 use m51_cells::{Cell, Event, Why, cite};
 use m51_flat::{Cpu, Effect, NoEffect, Put, Source, Transfer, exec_into};
 use m51_irq::vector_into;
@@ -56,14 +57,25 @@ fn is_inside(layout: &Layout, unit: u16, address: u16) -> bool
     }
 }
 
-// Whether `count` bytes from an address on lie in the current unit.
-#[tactic(auto, using(crate::proofs::Inside::one_outside))]
+// Cites that the first byte of an instruction lies in the current unit, which covers the program counter.
+#[inline(always)]
+fn cite_first(monitor: &Monitor, pc: u16)
+    requires { IsUnitAt monitor.now.layout pc (current monitor.now.records) }
+    ensures { lie_inside monitor.now.layout (current monitor.now.records) pc 1 ≡ true }
+{
+    cite(monitor.layout().unit_at(pc));
+}
+
+// Whether `count` bytes from the program counter on lie in the current unit. The first is known to.
+#[tactic(auto, using(crate::proofs::Inside::one_outside, crate::proofs::Inside::fewer_inside))]
 #[inline(always)]
 fn lie_inside(monitor: &Monitor, pc: u16, count: u8) -> bool
+    requires { IsUnitAt monitor.now.layout pc (current monitor.now.records) }
     ensures { result ≡ lie_inside monitor.now.layout (current monitor.now.records) pc count }
 {
+    cite_first(monitor, pc);
     let unit = monitor.current();
-    for index in 0..count {
+    for index in 1..count {
         if !is_inside(monitor.layout(), unit, pc.wrapping_add(u16::from(index))) {
             return false;
         }
@@ -145,12 +157,13 @@ fn instr_outcome(
     monitor: &Monitor,
     chip: &Chip,
     instr: &Instr,
-    effect: &mut Effect,
+    draft: &mut Draft,
 ) -> Result<(), NoEffect>
-    ensures value { outcome_by result effect.new
+    requires { IsDraftOf draft.old chip.now.cpu }
+    ensures value { outcome_by result draft.new.effect
         ≡ instr_outcome monitor.now.layout (held_memory monitor.now) chip.now.cpu instr.now
         chip.now.image ((inputs_of chip.now.script).pins chip.now.cycle) }
-    ensures ready { IsOutcomePrepared monitor.now chip.now.cpu (outcome_by result effect.new) }
+    ensures ready { IsOutcomePrepared monitor.now chip.now.cpu (outcome_by result draft.new.effect) }
 {
     cite_stores(monitor);
     exec_into(
@@ -159,32 +172,30 @@ fn instr_outcome(
         instr,
         chip.bytes(),
         &chip.pins(),
-        effect,
+        &mut draft.effect,
+        draft.same,
     )
 }
 
 // One instruction.
 #[inline(always)]
-fn execute(
-    monitor: &Monitor,
-    chip: &Chip,
-    instr: &Instr,
-    effect: &mut Effect,
-) -> Result<Move, Event>
-    ensures value { with_move effect.new result
+fn execute(monitor: &Monitor, chip: &Chip, instr: &Instr, draft: &mut Draft) -> Result<Move, Event>
+    requires order { IsInOrder monitor.now chip.now.cpu }
+    requires draft { IsDraftOf draft.old chip.now.cpu }
+    ensures value { with_move draft.new.effect result
         ≡ unless_past_end monitor.now.layout (held_memory monitor.now) chip.now.cpu.pc
         (length_of instr.now) (concludes monitor.now.layout (held_memory monitor.now) chip.now.cpu
         (instr_outcome monitor.now.layout (held_memory monitor.now) chip.now.cpu instr.now chip.now.image
         ((inputs_of chip.now.script).pins chip.now.cycle))) }
-    ensures may { IfOk (with_move effect.new result) (MayCommit monitor.now chip.now.cpu) }
+    ensures may { IfOk (with_move draft.new.effect result) (MayCommit monitor.now chip.now.cpu) }
     ensures text { IfErr result (HasText (length monitor.now.layout.placed)) }
 {
     let pc = chip.pc();
     if !lie_inside(monitor, pc, length(instr)) {
         return Err(past_end(pc, length(instr)));
     }
-    let answer = instr_outcome(monitor, chip, instr, effect);
-    conclude(monitor, chip.cpu(), effect, answer)
+    let answer = instr_outcome(monitor, chip, instr, draft);
+    conclude(monitor, chip.cpu(), &draft.effect, answer)
 }
 
 // The outcome of a vectoring over the memory.
@@ -226,6 +237,7 @@ fn vectoring(
 
 // The reserved opcode.
 fn refuse(monitor: &Monitor, pc: u16) -> Event
+    requires { IsUnitAt monitor.now.layout pc (current monitor.now.records) }
     ensures value { Err result ≡ unless_past_end monitor.now.layout (held_memory monitor.now) pc 1 (Err (Reserved pc)) }
     ensures text { HasText (length monitor.now.layout.placed) result }
 {
@@ -251,18 +263,19 @@ fn idle_step(monitor: &Monitor, cpu: &Cpu, effect: &mut Effect) -> Move
 // The effect of the next step and how it changes the records, or the event that stops it.
 #[tactic(auto, unfolding(crate::specs::SeparateMachine::separate_effect))]
 #[inline(always)]
-pub(crate) fn judge(monitor: &Monitor, chip: &Chip, effect: &mut Effect) -> Result<Move, Event>
-    requires { IsInOrder monitor.now chip.now.cpu }
-    ensures value { with_move effect.new result ≡ separate_effect monitor.now.layout chip.now.image chip.now.cpu
+pub(crate) fn judge(monitor: &Monitor, chip: &Chip, draft: &mut Draft) -> Result<Move, Event>
+    requires order { IsInOrder monitor.now chip.now.cpu }
+    requires draft { IsDraftOf draft.old chip.now.cpu }
+    ensures value { with_move draft.new.effect result ≡ separate_effect monitor.now.layout chip.now.image chip.now.cpu
         (held_memory monitor.now) ((inputs_of chip.now.script).pins chip.now.cycle)
         (attempt_of chip.now.image chip.now.cpu) }
-    ensures may { IfOk (with_move effect.new result) (MayCommit monitor.now chip.now.cpu) }
+    ensures may { IfOk (with_move draft.new.effect result) (MayCommit monitor.now chip.now.cpu) }
     ensures text { IfErr result (HasText (length monitor.now.layout.placed)) }
 {
     match chip.attempt() {
-        Attempt::Vectoring(source) => vectoring(monitor, chip.cpu(), source, effect),
-        Attempt::Idling => Ok(idle_step(monitor, chip.cpu(), effect)),
-        Attempt::Executing(instr) => execute(monitor, chip, &instr, effect),
+        Attempt::Vectoring(source) => vectoring(monitor, chip.cpu(), source, &mut draft.effect),
+        Attempt::Idling => Ok(idle_step(monitor, chip.cpu(), &mut draft.effect)),
+        Attempt::Executing(instr) => execute(monitor, chip, &instr, draft),
         Attempt::Refusing => Err(refuse(monitor, chip.pc())),
     }
 }

@@ -1,5 +1,5 @@
 //! A reset, and one instruction.
-ghost use Rattle.std.specs.Prelude.{◌≡◌, length, IfSome};
+ghost use Rattle.std.specs.Prelude.{◌≡◌, length, IfSome, IsTrue};
 ghost use Rattle.m51_isa.specs.Table.{flow_of};
 ghost use Rattle.m51_flat.specs.Outcome.{Done, outcome_by};
 ghost use Rattle.m51_flat.specs.Causes.{IsBarred, IsCause, IsWhole, unless_down};
@@ -50,19 +50,26 @@ pub fn reset() -> Cpu
     }
 }
 
-/// Makes an effect that of a step of `cycles` machine cycles that changes nothing, and after which interrupts are not
-/// held off.
+/// Makes a processor the same as another, part by part: a copy of the whole is a call.
 ///
 /// Source: own choice ("Effects").
 #[inline(always)]
-pub fn begin(effect: &mut Effect, cpu: &Cpu, cycles: u8)
-    ensures { effect.new ≡ still cpu.now cycles }
+pub fn copy_cpu(cpu: &mut Cpu, other: &Cpu)
+    ensures { cpu.new ≡ other.now }
 {
-    // Part by part: a copy of the whole would be a call.
-    effect.cpu.regs = cpu.regs;
-    effect.cpu.pc = cpu.pc;
-    effect.cpu.low = cpu.low;
-    effect.cpu.high = cpu.high;
+    cpu.regs = other.regs;
+    cpu.pc = other.pc;
+    cpu.low = other.low;
+    cpu.high = other.high;
+    cpu.held = other.held;
+}
+
+/// Makes an effect that of a step of `cycles` machine cycles that leaves its processor as it is, and after which
+/// interrupts are not held off.
+#[inline(always)]
+fn clear(effect: &mut Effect, cycles: u8)
+    ensures { effect.new ≡ still effect.old.cpu cycles }
+{
     effect.cpu.held = false;
     effect.first = Put::Nothing;
     effect.second = Put::Nothing;
@@ -72,12 +79,29 @@ pub fn begin(effect: &mut Effect, cpu: &Cpu, cycles: u8)
     effect.cycles = cycles;
 }
 
-/// Makes an effect that of an instruction that only continues with the next.
+/// Makes an effect that of a step of `cycles` machine cycles that changes nothing, and after which interrupts are not
+/// held off.
+///
+/// Source: own choice ("Effects").
 #[inline(always)]
-fn start(effect: &mut Effect, cpu: &Cpu, instr: &Instr)
+pub fn begin(effect: &mut Effect, cpu: &Cpu, cycles: u8)
+    ensures { effect.new ≡ still cpu.now cycles }
+{
+    copy_cpu(&mut effect.cpu, cpu);
+    clear(effect, cycles);
+}
+
+/// Makes an effect that of an instruction that only continues with the next, where `same` says that its processor is
+/// known to be this one.
+#[inline(always)]
+fn start(effect: &mut Effect, cpu: &Cpu, instr: &Instr, same: bool)
+    requires { IsTrue same → effect.old.cpu ≡ cpu.now }
     ensures { effect.new ≡ started cpu.now instr.now }
 {
-    begin(effect, cpu, cycles(instr));
+    if !same {
+        copy_cpu(&mut effect.cpu, cpu);
+    }
+    clear(effect, cycles(instr));
     effect.cpu.pc = cpu.pc.wrapping_add(u16::from(length(instr)));
 }
 
@@ -150,13 +174,15 @@ fn run<M: CellStore>(
     image: &[u8],
     ext: &Pins,
     effect: &mut Effect,
+    same: bool,
 ) -> Result<(), NoEffect>
-    requires { length image.now ≡ 65536 }
+    requires image { length image.now ≡ 65536 }
+    requires same { IsTrue same → effect.old.cpu ≡ cpu.now }
     ensures value { outcome_by result effect.new
         ≡ instruction_outcome cpu.now (M.cells store.now) (M.barred store.now) instr.now image.now ext.now }
     ensures cause { IsCause (M.cells store.now) (M.barred store.now) (outcome_by result effect.new) }
 {
-    start(effect, cpu, instr);
+    start(effect, cpu, instr, same);
     match perform(store, image, ext, effect, action_for(instr)) {
         Ok(()) => allow(store, effect),
         Err(Missing::Outside(cell)) => Err(NoEffect::Outside(cell)),
@@ -202,12 +228,13 @@ pub fn exec<M: CellStore>(cpu: &Cpu, store: &M, instr: &Instr, image: &[u8], ext
         LevelsFollow (flow_of instr.now) (writes_ie_or_ip cpu.now instr.now) cpu.now e) }
 {
     let mut effect = Effect::none(cpu);
-    let answer = exec_into(cpu, store, instr, image, ext, &mut effect);
+    let answer = exec_into(cpu, store, instr, image, ext, &mut effect, false);
     Outcome::of(answer, &effect)
 }
 
 /// The outcome of an instruction over a store, as `exec` answers it, with its effect in a variable of the caller. It
-/// changes only the effect, which has no meaning after an error.
+/// changes only the effect, which has no meaning after an error. Where `same` says that the processor of this variable
+/// is `cpu` already, it isn't copied.
 ///
 /// Source: own choice ("Effects").
 #[inline(always)]
@@ -218,8 +245,10 @@ pub fn exec_into<M: CellStore>(
     image: &[u8],
     ext: &Pins,
     effect: &mut Effect,
+    same: bool,
 ) -> Result<(), NoEffect>
-    requires { length image.now ≡ 65536 }
+    requires image { length image.now ≡ 65536 }
+    requires same { IsTrue same → effect.old.cpu ≡ cpu.now }
     ensures outcome { outcome_by result effect.new
         ≡ instruction_outcome cpu.now (M.cells store.now) (M.barred store.now) instr.now image.now ext.now }
 
@@ -248,5 +277,5 @@ pub fn exec_into<M: CellStore>(
     ensures levels { IfDone (outcome_by result effect.new) (λ e.
         LevelsFollow (flow_of instr.now) (writes_ie_or_ip cpu.now instr.now) cpu.now e) }
 {
-    run(cpu, store, instr, image, ext, effect)
+    run(cpu, store, instr, image, ext, effect, same)
 }

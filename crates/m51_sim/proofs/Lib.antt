@@ -22,3 +22,4 @@ pub mod StepCycles
 pub mod TakenTypes
 pub mod Alone
 pub mod Quiet
+pub mod Resting

@@ -1,5 +1,5 @@
 -- What contracts see of the boards, and which states of the two machines they represent.
-use Rattle.std.specs.Prelude.{◌≡◌, ℕ, List, Option, Some, None, if◌then◌else◌, ◌&&◌}
+use Rattle.std.specs.Prelude.{◌≡◌, ℕ, IsTrue, List, Option, Some, None, if◌then◌else◌, ◌&&◌}
 use Rattle.m51_module.specs.declared.parts.LayoutParts.{LayoutParts}
 use Rattle.m51_module.specs.Plan.{IsUnitAt}
 use Rattle.m51_flat.specs.declared.state.Cpu.{Cpu}
@@ -15,6 +15,7 @@ use Rattle.m51_monitor.specs.Records.{current}
 use Rattle.m51_monitor.specs.Rising.{HaveLevels, IsAbove, levels}
 use Rattle.m51_monitor.specs.Shared.{cell_state}
 use Rattle.m51_monitor.specs.Stores.{Stores, has_cell, is_common}
+use Rattle.m51_sim.specs.declared.chip.Draft.{Draft}
 use Rattle.m51_sim.specs.Cycles.{inputs_of}
 use Rattle.m51_sim.specs.Runs.{State}
 use Rattle.m51_sim.specs.FlatMachine.{filled_map, reset_with}
@@ -97,6 +98,14 @@ pub record IsInOrder (m : Monitored) (cpu : Cpu) : Type 0 where
   pub above : IsAbove m.records.returns 0 (latch cpu sp)
   pub taken : List Level
   pub have : HaveLevels m.records.returns taken (levels cpu)
+
+-- a draft says no more than what holds: that the processor of its effect is this one
+abbrev pub IsDraftOf : Draft → Cpu → Type 0
+IsDraftOf d cpu = IsTrue d.same → d.effect.cpu ≡ cpu
+
+pub record IsReady (m : Monitored) (cpu : Cpu) (d : Draft) : Type 0 where
+  pub order : IsInOrder m cpu
+  pub draft : IsDraftOf d cpu
 
 -- A board represents its separate state: the memory represents the stores, the units of the records form walks from
 -- roots of which none runs twice, and records and processor are in order.

@@ -9,7 +9,8 @@ ghost use Rattle.m51_monitor.specs.Monitored.{live_in};
 ghost use Rattle.m51_monitor.specs.Related.{OneLive};
 ghost use Rattle.m51_print.specs.Lines.{HasText, titles_of};
 ghost use Rattle.m51_script.specs.declared.script.Script.{Script as ScriptState};
-ghost use Rattle.m51_sim.specs.Boards.{IsInOrder, IsStarted, StandsForState, held_memory, separate_of, state_with};
+ghost use Rattle.m51_sim.specs.Boards.{IsDraftOf, IsInOrder, IsStarted, StandsForState, held_memory, separate_of};
+ghost use Rattle.m51_sim.specs.Boards.{state_with};
 ghost use Rattle.m51_sim.specs.Cycles.{AreFew, inputs_of, with_extra};
 ghost use Rattle.m51_sim.specs.Effects.{attempt_of};
 ghost use Rattle.m51_sim.specs.Report.{IsReport};
@@ -18,12 +19,12 @@ ghost use Rattle.m51_sim.specs.Runs.{record_of};
 ghost use Rattle.m51_sim.specs.SeparateMachine.{separate_machine};
 
 use crate::attempt::Attempt;
-use crate::chip::{Chip, blank_effect};
+use crate::chip::{Chip, Draft, blank_draft};
 use crate::cycles::Timed;
 use crate::judging::{cite_stores, commit, judge};
 use crate::runs::{Entries, RunEnd, Runnable, Step, Told, count_run, run};
 use m51_cells::{Event, NoMemory};
-use m51_flat::{Cpu, Effect};
+use m51_flat::Cpu;
 use m51_module::{Image, Layout, Placed, Tally};
 use m51_monitor::Monitor;
 use m51_script::Script;
@@ -39,18 +40,17 @@ use std::marker::Model;
 pub struct Board {
     chip: Chip,
     monitor: Monitor,
-    // The effect of a step, which is made before it is read.
-    effect: Effect,
+    draft: Draft,
 }
 
 impl Model for Board {
-    ghost use Rattle.m51_sim.specs.Boards.{BoardState, IsInOrder};
+    ghost use Rattle.m51_sim.specs.Boards.{BoardState, IsReady};
 
     ghost Value = { BoardState };
 
     ghost view = { λ b. record { chip = b.chip; monitor = b.monitor } };
 
-    ghost invariant = { λ b. IsInOrder b.monitor b.chip.cpu };
+    ghost invariant = { λ b. IsReady b.monitor b.chip.cpu b.draft };
 }
 
 impl Board {
@@ -73,7 +73,7 @@ impl Board {
         Ok(Board {
             chip,
             monitor,
-            effect: blank_effect(),
+            draft: blank_draft(),
         })
     }
 
@@ -88,7 +88,7 @@ impl Board {
         ensures image { self.new.chip.image ≡ self.old.chip.image }
         ensures script { self.new.chip.script ≡ self.old.chip.script }
     {
-        let answer = advance_alone(&mut self.monitor, &mut self.chip, &mut self.effect);
+        let answer = advance_alone(&mut self.monitor, &mut self.chip, &mut self.draft);
         step_told(answer)
     }
 
@@ -107,7 +107,7 @@ impl Board {
         ensures image { self.new.chip.image ≡ self.old.chip.image }
         ensures script { self.new.chip.script ≡ self.old.chip.script }
     {
-        let answer = advance(&mut self.monitor, &mut self.chip, &mut self.effect, extra);
+        let answer = advance(&mut self.monitor, &mut self.chip, &mut self.draft, extra);
         told_by(answer)
     }
 
@@ -253,12 +253,14 @@ fn told_by(answer: Result<Entries, Event>) -> Told
 fn advance(
     monitor: &mut Monitor,
     chip: &mut Chip,
-    effect: &mut Effect,
+    draft: &mut Draft,
     extra: &[Timed],
 ) -> Result<Entries, Event>
     requires order { IsInOrder monitor.old chip.old.cpu }
+    requires draft { IsDraftOf draft.old chip.old.cpu }
     requires few { AreFew extra.now }
     ensures order { IsInOrder monitor.new chip.new.cpu }
+    ensures draft { IsDraftOf draft.new chip.new.cpu }
     ensures layout { monitor.new.layout ≡ monitor.old.layout }
     ensures image { chip.new.image ≡ chip.old.image }
     ensures script { chip.new.script ≡ chip.old.script }
@@ -268,12 +270,15 @@ fn advance(
     ensures text { IfErr result (HasText (length monitor.old.layout.placed)) }
 {
     cite_stores(monitor);
-    match judge(monitor, chip, effect) {
+    match judge(monitor, chip, draft) {
         Ok(step) => {
-            commit(monitor, effect, step);
-            Ok(chip.pass(effect, extra))
+            commit(monitor, &draft.effect, step);
+            Ok(chip.pass(draft, extra))
         }
-        Err(event) => Err(event),
+        Err(event) => {
+            draft.same = false;
+            Err(event)
+        }
     }
 }
 
@@ -282,10 +287,12 @@ fn advance(
 fn advance_alone(
     monitor: &mut Monitor,
     chip: &mut Chip,
-    effect: &mut Effect,
+    draft: &mut Draft,
 ) -> Result<Entries, Event>
     requires order { IsInOrder monitor.old chip.old.cpu }
+    requires draft { IsDraftOf draft.old chip.old.cpu }
     ensures order { IsInOrder monitor.new chip.new.cpu }
+    ensures draft { IsDraftOf draft.new chip.new.cpu }
     ensures layout { monitor.new.layout ≡ monitor.old.layout }
     ensures image { chip.new.image ≡ chip.old.image }
     ensures script { chip.new.script ≡ chip.old.script }
@@ -294,7 +301,7 @@ fn advance_alone(
         (state_with chip.old (held_memory monitor.old)) (state_with chip.new (held_memory monitor.new)) }
     ensures text { IfErr result (HasText (length monitor.old.layout.placed)) }
 {
-    advance(monitor, chip, effect, &[])
+    advance(monitor, chip, draft, &[])
 }
 
 impl Runnable for Board {
@@ -317,7 +324,7 @@ impl Runnable for Board {
 
     #[inline(always)]
     fn advance(&mut self) -> Result<Entries, Event> {
-        advance_alone(&mut self.monitor, &mut self.chip, &mut self.effect)
+        advance_alone(&mut self.monitor, &mut self.chip, &mut self.draft)
     }
 
     fn cycle(&self) -> u64 {

@@ -1,9 +1,11 @@
 //! An image, a script, the processor, the devices, and the number of the machine cycle.
-ghost use Rattle.std.specs.Prelude.{◌≡◌, None, length, IfOk, IsTrue};
+ghost use Rattle.std.specs.Prelude.{◌≡◌, ◌≤◌, ◌+◌, ◌-◌, ◌^◌, None, length, min, IfOk, IsTrue};
 ghost use Rattle.m51_flat.specs.Reset.{reset_cpu};
+ghost use Rattle.m51_flat.specs.declared.state.Cpu.{Cpu};
 ghost use Rattle.m51_timers_uart.specs.LineLaws.{written_to};
 ghost use Rattle.m51_timers_uart.specs.Resting.{looked_at};
 ghost use Rattle.m51_timers_uart.specs.Tick.{reset_periph};
+ghost use Rattle.m51_sim.specs.Boards.{IsDraftOf};
 ghost use Rattle.m51_sim.specs.Cycles.{AreFew, cycles_passed, inputs_of, with_extra};
 ghost use Rattle.m51_sim.specs.Effects.{attempt_by, attempt_of, changed_by, executing, idle_effect};
 ghost use Rattle.m51_sim.specs.Effects.{instr_at, latch_address, port_entry};
@@ -13,7 +15,7 @@ use crate::cycles::{Passing, Timed, pass_cycles};
 use crate::program::Program;
 use crate::runs::Entries;
 use m51_cells::{Entry, NoMemory};
-use m51_flat::{Cpu, Effect, Pins, Put, Source, Transfer, begin, reset};
+use m51_flat::{Cpu, Effect, Pins, Put, Source, Transfer, begin, copy_cpu, reset};
 use m51_irq::choose;
 use m51_module::Image;
 use m51_script::Script;
@@ -22,6 +24,14 @@ use m51_sfr::bits::IDL;
 use m51_timers_uart::{Periph, look_alike};
 use std::alloc::Global;
 use std::marker::Model;
+
+// Room for the effect of a step, which is made before it is read; `same` says that its processor is known to be that of
+// the chip.
+#[derive(Drop)]
+pub(crate) struct Draft {
+    pub(crate) effect: Effect,
+    pub(crate) same: bool,
+}
 
 /// What both boards have besides their memories.
 #[derive(Drop)]
@@ -152,53 +162,69 @@ impl Chip {
 
     // Performs the step of an effect, but for its puts: its changes, and then its cycles.
     #[inline(always)]
-    pub(crate) fn pass(&mut self, effect: &Effect, extra: &[Timed]) -> Entries
+    pub(crate) fn pass(&mut self, draft: &mut Draft, extra: &[Timed]) -> Entries
         requires { AreFew extra.now }
         ensures image { self.new.image ≡ self.old.image }
         ensures script { self.new.script ≡ self.old.script }
-        ensures port { result.port ≡ port_entry self.old.cycle effect.now }
+        ensures draft { IsDraftOf draft.new self.new.cpu }
+        ensures port { result.port ≡ port_entry self.old.cycle draft.old.effect }
         ensures passed { record {
           cpu = self.new.cpu;
           periph = self.new.periph;
           cycle = self.new.cycle;
           sent = result.sent;
-        } ≡ cycles_passed (with_extra extra.now (inputs_of self.old.script)) effect.now.cycles
-            (changed_by self.old.cycle self.old.periph effect.now) }
+        } ≡ cycles_passed (with_extra extra.now (inputs_of self.old.script)) draft.old.effect.cycles
+            (changed_by self.old.cycle self.old.periph draft.old.effect) }
     {
-        let port = port_entry(self.passing.cycle, effect);
-        let rests = rests_on(self.resting, &self.passing.cpu, effect);
-        copy_cpu(&mut self.passing.cpu, &effect.cpu);
-        begin_sending(&mut self.passing.periph, effect);
+        let start = self.passing.cycle;
+        let rests = rests_on(self.resting, &self.passing.cpu, &draft.effect, extra);
+        copy_cpu(&mut self.passing.cpu, &draft.effect.cpu);
+        draft.same = rests;
+        if rests {
+            self.passing.cycle = later(start, draft.effect.cycles);
+            return Entries {
+                port: port_entry(start, &draft.effect),
+                sent: None,
+            };
+        }
+        begin_sending(&mut self.passing.periph, &draft.effect);
         self.passing.sent = None;
-        self.resting = pass_cycles(&self.script, extra, effect.cycles, &mut self.passing, rests);
+        self.resting = pass_cycles(
+            &self.script,
+            extra,
+            draft.effect.cycles,
+            &mut self.passing,
+            false,
+        );
         Entries {
-            port,
+            port: port_entry(start, &draft.effect),
             sent: self.passing.sent,
         }
     }
 }
 
-// Whether the devices rest after an effect as they did before it: no byte is to be sent, and the registers stay that
-// show it.
+// Whether the devices rest after an effect as they did before it: no byte is to be sent, the registers stay that show
+// it, and no further frame comes.
 #[inline(always)]
-fn rests_on(rests: bool, cpu: &Cpu, effect: &Effect) -> bool
+fn rests_on(rests: bool, cpu: &Cpu, effect: &Effect, extra: &[Timed]) -> bool
     ensures rests { IsTrue result → IsTrue rests }
     ensures line { IsTrue result → effect.now.sbuf ≡ None }
     ensures registers { IsTrue result → looked_at cpu.now ≡ looked_at effect.now.cpu }
+    ensures alone { IsTrue result → length extra.now ≡ 0 }
 {
+    if !extra.is_empty() {
+        return false;
+    }
     rests && effect.sbuf.is_none() && look_alike(cpu, &effect.cpu)
 }
 
-// Makes a processor the same as another, part by part: a copy of the whole is a call.
+// The number of the cycle after this number of cycles.
 #[inline(always)]
-fn copy_cpu(cpu: &mut Cpu, other: &Cpu)
-    ensures { cpu.new ≡ other.now }
+fn later(cycle: u64, count: u8) -> u64
+    ensures later { result ≡ min (cycle + count) (2 ^ 64 - 1) }
+    ensures before { cycle ≤ 2 ^ 64 - 1 }
 {
-    cpu.regs = other.regs;
-    cpu.pc = other.pc;
-    cpu.low = other.low;
-    cpu.high = other.high;
-    cpu.held = other.held;
+    cycle.saturating_add(u64::from(count))
 }
 
 // Makes an effect that of a machine cycle without an instruction.
@@ -209,15 +235,20 @@ pub(crate) fn idle(effect: &mut Effect, cpu: &Cpu)
 }
 
 // Room for the effects of steps, each of which is made before it is read.
-pub(crate) fn blank_effect() -> Effect {
-    Effect {
-        cpu: reset(),
-        first: Put::Nothing,
-        second: Put::Nothing,
-        transfer: Transfer::Next,
-        port: None,
-        sbuf: None,
-        cycles: 1,
+pub(crate) fn blank_draft() -> Draft
+    ensures { (cpu : Cpu) → IsDraftOf result cpu }
+{
+    Draft {
+        effect: Effect {
+            cpu: reset(),
+            first: Put::Nothing,
+            second: Put::Nothing,
+            transfer: Transfer::Next,
+            port: None,
+            sbuf: None,
+            cycles: 1,
+        },
+        same: false,
     }
 }
 

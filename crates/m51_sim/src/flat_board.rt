@@ -4,7 +4,7 @@ ghost use Rattle.m51_cells.specs.declared.limits.TheConstants.{MOST_STEPS};
 ghost use Rattle.m51_cells.specs.Outside.{Rose};
 ghost use Rattle.m51_print.specs.Lines.{HasText};
 ghost use Rattle.m51_script.specs.declared.script.Script.{Script as ScriptState};
-ghost use Rattle.m51_sim.specs.Boards.{IsFlatStarted, flat_of, map_of, state_with};
+ghost use Rattle.m51_sim.specs.Boards.{IsDraftOf, IsFlatStarted, flat_of, map_of, state_with};
 ghost use Rattle.m51_sim.specs.Cycles.{inputs_of};
 ghost use Rattle.m51_sim.specs.Effects.{attempt_of};
 ghost use Rattle.m51_sim.specs.FlatMachine.{flat_effect, flat_machine, instr_effect, left_in, map_after};
@@ -13,7 +13,7 @@ ghost use Rattle.m51_sim.specs.Run.{Ended, IsAdvance};
 ghost use Rattle.m51_irq.specs.Vectoring.{vectoring};
 
 use crate::attempt::Attempt;
-use crate::chip::{Chip, blank_effect, idle};
+use crate::chip::{Chip, Draft, blank_draft, idle};
 use crate::runs::{Entries, RunEnd, Runnable, run};
 use m51_cells::{Event, NoMemory};
 use m51_flat::{CellStore, Cpu, Effect, FlatRam, NoEffect, Put, Source, exec_into};
@@ -33,16 +33,17 @@ use std::marker::Model;
 pub struct FlatBoard {
     chip: Chip,
     memory: FlatRam,
-    // The effect of a step, which is made before it is read.
-    effect: Effect,
+    draft: Draft,
 }
 
 impl Model for FlatBoard {
-    ghost use Rattle.m51_sim.specs.Boards.{FlatState};
+    ghost use Rattle.m51_sim.specs.Boards.{FlatState, IsDraftOf};
 
     ghost Value = { FlatState };
 
     ghost view = { λ b. record { chip = b.chip; memory = b.memory } };
+
+    ghost invariant = { λ b. IsDraftOf b.draft b.chip.cpu };
 }
 
 impl FlatBoard {
@@ -58,7 +59,7 @@ impl FlatBoard {
         Ok(FlatBoard {
             chip,
             memory,
-            effect: blank_effect(),
+            draft: blank_draft(),
         })
     }
 
@@ -86,8 +87,9 @@ impl FlatBoard {
 
 // The outcome of an instruction: its effect, or power-down.
 #[inline(always)]
-fn execute(chip: &Chip, memory: &FlatRam, instr: &Instr, effect: &mut Effect) -> Result<(), Event>
-    ensures value { left_in result effect.new ≡ instr_effect chip.now.image chip.now.cpu (map_of memory.now)
+fn execute(chip: &Chip, memory: &FlatRam, instr: &Instr, draft: &mut Draft) -> Result<(), Event>
+    requires { IsDraftOf draft.old chip.now.cpu }
+    ensures value { left_in result draft.new.effect ≡ instr_effect chip.now.image chip.now.cpu (map_of memory.now)
         ((inputs_of chip.now.script).pins chip.now.cycle) instr.now }
     ensures text { IfErr result (HasText 0) }
 {
@@ -97,7 +99,8 @@ fn execute(chip: &Chip, memory: &FlatRam, instr: &Instr, effect: &mut Effect) ->
         instr,
         chip.bytes(),
         &chip.pins(),
-        effect,
+        &mut draft.effect,
+        draft.same,
     ) {
         Ok(()) => Ok(()),
         Err(NoEffect::PowerDown) => Err(Event::PowerDown { at: chip.pc() }),
@@ -120,30 +123,52 @@ fn take(effect: &mut Effect, cpu: &Cpu, memory: &FlatRam, source: Source)
 // The effect of the next step, or the event that stops it.
 #[tactic(auto, unfolding(crate::specs::FlatMachine::flat_effect))]
 #[inline(always)]
-fn judge(chip: &Chip, memory: &FlatRam, effect: &mut Effect) -> Result<(), Event>
-    ensures value { left_in result effect.new ≡ flat_effect chip.now.image chip.now.cpu (map_of memory.now)
+fn judge(chip: &Chip, memory: &FlatRam, draft: &mut Draft) -> Result<(), Event>
+    requires { IsDraftOf draft.old chip.now.cpu }
+    ensures value { left_in result draft.new.effect ≡ flat_effect chip.now.image chip.now.cpu (map_of memory.now)
         ((inputs_of chip.now.script).pins chip.now.cycle) (attempt_of chip.now.image chip.now.cpu) }
     ensures text { IfErr result (HasText 0) }
 {
     match chip.attempt() {
         Attempt::Vectoring(source) => {
-            take(effect, chip.cpu(), memory, source);
+            take(&mut draft.effect, chip.cpu(), memory, source);
             Ok(())
         }
         Attempt::Idling => {
-            idle(effect, chip.cpu());
+            idle(&mut draft.effect, chip.cpu());
             Ok(())
         }
-        Attempt::Executing(instr) => execute(chip, memory, &instr, effect),
+        Attempt::Executing(instr) => execute(chip, memory, &instr, draft),
         Attempt::Refusing => Err(Event::Reserved { at: chip.pc() }),
     }
 }
 
 // Writes the cells of a put.
-fn put(memory: &mut FlatRam, put: &Put)
+#[inline(always)]
+fn put_any(memory: &mut FlatRam, put: &Put)
     ensures { map_of memory.new ≡ map_after put.now (map_of memory.old) }
 {
     memory.put(put);
+}
+
+// The same in a place of its own, for the puts that few steps have.
+#[inline(never)]
+fn put_apart(memory: &mut FlatRam, put: &Put)
+    ensures { map_of memory.new ≡ map_after put.now (map_of memory.old) }
+{
+    put_any(memory, put);
+}
+
+// Writes the cells of a put, where a byte or none, as most are, has machine code of its own.
+#[inline(always)]
+fn put(memory: &mut FlatRam, put: &Put)
+    ensures { map_of memory.new ≡ map_after put.now (map_of memory.old) }
+{
+    match *put {
+        Put::Byte { .. } => put_any(memory, put),
+        Put::Nothing => put_any(memory, put),
+        _ => put_apart(memory, put),
+    }
 }
 
 // Writes the cells of both puts of an effect, those of the first one first.
@@ -156,7 +181,9 @@ fn put_both(memory: &mut FlatRam, effect: &Effect)
 
 // Performs a step and gives what it reports, or gives the event that stops it.
 #[inline(always)]
-fn advance(chip: &mut Chip, memory: &mut FlatRam, effect: &mut Effect) -> Result<Entries, Event>
+fn advance(chip: &mut Chip, memory: &mut FlatRam, draft: &mut Draft) -> Result<Entries, Event>
+    requires { IsDraftOf draft.old chip.old.cpu }
+    ensures draft { IsDraftOf draft.new chip.new.cpu }
     ensures image { chip.new.image ≡ chip.old.image }
     ensures script { chip.new.script ≡ chip.old.script }
     ensures step { IsAdvance (flat_machine chip.old.image (inputs_of chip.old.script)
@@ -164,12 +191,15 @@ fn advance(chip: &mut Chip, memory: &mut FlatRam, effect: &mut Effect) -> Result
         (state_with chip.old (map_of memory.old)) (state_with chip.new (map_of memory.new)) }
     ensures text { IfErr result (HasText 0) }
 {
-    match judge(chip, memory, effect) {
+    match judge(chip, memory, draft) {
         Ok(()) => {
-            put_both(memory, effect);
-            Ok(chip.pass(effect, &[]))
+            put_both(memory, &draft.effect);
+            Ok(chip.pass(draft, &[]))
         }
-        Err(event) => Err(event),
+        Err(event) => {
+            draft.same = false;
+            Err(event)
+        }
     }
 }
 
@@ -193,7 +223,7 @@ impl Runnable for FlatBoard {
     ghost extents = { λ loaded. [] };
 
     fn advance(&mut self) -> Result<Entries, Event> {
-        advance(&mut self.chip, &mut self.memory, &mut self.effect)
+        advance(&mut self.chip, &mut self.memory, &mut self.draft)
     }
 
     fn cycle(&self) -> u64 {

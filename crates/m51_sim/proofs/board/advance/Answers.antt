@@ -18,7 +18,7 @@ commit-requires-clause-level c = c.in-Ok.ensures.may.level
 pub returns-in-Ok-clause-order : goal.returns-in-Ok-clause-order
 returns-in-Ok-clause-order c =
     let inputs = with_extra c.args.extra.now (inputs_of c.args.chip.now.script) in
-    let allowed : Allowed = record { effect = c.judge.new.effect; step = c.in-Ok.step } in
+    let allowed : Allowed = record { effect = c.judge.new.draft.effect; step = c.in-Ok.step } in
     let passed : IsPassed inputs c.args.chip.now c.pass.new.self allowed.effect c.pass.result =
     record { port = c.pass.ensures.port; passed = c.pass.ensures.passed } in
     order_after c.args.monitor.now c.commit.new.monitor c.args.chip.now.cpu c.pass.new.self.cpu allowed
@@ -32,7 +32,7 @@ returns-in-Ok-clause-step c =
     step_done c.args.monitor.now.layout c.args.chip.now.image inputs c.args.chip.now
     (held_memory c.args.monitor.now)
     c.pass.new.self (held_memory c.commit.new.monitor)
-    (record { effect = c.judge.new.effect; step = c.in-Ok.step }) c.pass.result
+    (record { effect = c.judge.new.draft.effect; step = c.in-Ok.step }) c.pass.result
     c.in-Ok.ensures.value c.commit.ensures.memory
     (record { port = c.pass.ensures.port; passed = c.pass.ensures.passed })
 

@@ -9,7 +9,7 @@ pub returns-in-Ok-clause-step : goal.returns-in-Ok-clause-step
 returns-in-Ok-clause-step c =
     let chip = c.args.chip.now in
     let new = c.pass.new.self in
-    let e = c.judge.new.effect in
+    let e = c.judge.new.draft.effect in
     let told = c.pass.result in
     let passed = subst (λ (inputs : Inputs). IsPassed inputs chip new e told) (no_extra (inputs_of chip.script))
     (record { port = c.pass.ensures.port; passed = c.pass.ensures.passed }) in

@@ -3,12 +3,12 @@ use Rattle.m51_sim.proofs.judging.conclude.Goals as goal
 
 pub returns-in-Ok-clause-may : goal.returns-in-Ok-clause-may
 returns-in-Ok-clause-may c =
-    judged_commits c.args.monitor.now c.args.cpu.now c.args.effect.now c.judge.result
-    (rw c.in-Ok.is at c.requires.prepared) c.judge.ensures.answers
+    judged_commits c.args.monitor.now c.args.cpu.now c.args.effect.now c.judge_move.result
+    (rw c.in-Ok.is at c.requires.prepared) c.judge_move.ensures.answers
 
 pub returns-in-Ok-clause-text : goal.returns-in-Ok-clause-text
 returns-in-Ok-clause-text c =
-    judged_text c.args.monitor.now c.args.cpu.now c.args.effect.now c.judge.result _ c.judge.ensures.answers
+    judged_text c.args.monitor.now c.args.cpu.now c.args.effect.now c.judge_move.result _ c.judge_move.ensures.answers
 
 pub unwritten-requires : goal.unwritten-requires
 unwritten-requires c =

@@ -3,10 +3,13 @@ use Rattle.m51_sim.proofs.Beginning.{is_started, start_order}
 use Rattle.m51_sim.proofs.board.Board.make.Goals as goal
 
 pub invariant_of-result : goal.invariant_of-result
-invariant_of-result c =
-    start_order c.args.layout c.fill.result c.in_ok-monitor.monitor c.cite_stores.ensures.sound
-    c.cite_stores.ensures.records c.in_ok-monitor.ensures c.in_ok-chip.chip.cpu
-    (ap (λ (chip : ChipState). chip.cpu) c.in_ok-chip.ensures)
+invariant_of-result c = record {
+  order =
+      start_order c.args.layout c.fill.result c.in_ok-monitor.monitor c.cite_stores.ensures.sound
+      c.cite_stores.ensures.records c.in_ok-monitor.ensures c.in_ok-chip.chip.cpu
+      (ap (λ (chip : ChipState). chip.cpu) c.in_ok-chip.ensures);
+  draft = c.blank_draft.ensures c.in_ok-chip.chip.cpu;
+}
 
 pub returns : goal.returns
 returns c =

@@ -7,7 +7,7 @@ returns-clause-state c =
     (record {
       stores = c.cite_stores.ensures.stores;
       records = c.cite_stores.ensures.records;
-      order = c.self.invariant;
+      order = c.self.invariant.order;
     })
 
 pub returns-clause-one : goal.returns-clause-one

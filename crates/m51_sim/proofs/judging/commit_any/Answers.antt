@@ -1,6 +1,6 @@
 use Rattle.m51_sim.proofs.Common.{refl, stores_read}
 use Rattle.m51_sim.proofs.StoresRead.{read_same}
-use Rattle.m51_sim.proofs.judging.commit.Goals as goal
+use Rattle.m51_sim.proofs.judging.commit_any.Goals as goal
 
 pub returns-clause-memory : goal.returns-clause-memory
 returns-clause-memory c =

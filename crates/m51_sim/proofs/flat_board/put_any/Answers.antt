@@ -1,7 +1,7 @@
 use Rattle.m51_sim.proofs.Common.{sym}
 use Rattle.m51_flat.proofs.Flat.{none_shut}
 use Rattle.m51_sim.proofs.Values.{put_map}
-use Rattle.m51_sim.proofs.flat_board.put.Goals as goal
+use Rattle.m51_sim.proofs.flat_board.put_any.Goals as goal
 
 pub put-requires : goal.put-requires
 put-requires c = sym (none_shut c.args.put.now)

@@ -189,13 +189,7 @@ impl Chip {
         }
         begin_sending(&mut self.passing.periph, &draft.effect);
         self.passing.sent = None;
-        self.resting = pass_cycles(
-            &self.script,
-            extra,
-            draft.effect.cycles,
-            &mut self.passing,
-            false,
-        );
+        self.resting = pass_cycles(&self.script, extra, draft.effect.cycles, &mut self.passing);
         Entries {
             port: port_entry(start, &draft.effect),
             sent: self.passing.sent,

@@ -160,18 +160,16 @@ fn comes_to_rest(script: &Script, passing: &Passing) -> bool
     script.is_silent() && passing.periph.rests(&passing.cpu, &ALL_HIGH)
 }
 
-// Whether the next cycles change nothing but their number: no further frame comes, and the devices are known to rest or
-// come to rest now.
+// Whether the next cycles change nothing but their number: no further frame comes, and the devices come to rest.
 #[inline(always)]
-fn are_idle(script: &Script, extra: &[Timed], passing: &Passing, rests: bool) -> bool
-    requires { IsTrue rests → Rests script.now passing.now }
+fn are_idle(script: &Script, extra: &[Timed], passing: &Passing) -> bool
     ensures alone { IsTrue result → length extra.now ≡ 0 }
     ensures rests { IsTrue result → Rests script.now passing.now }
 {
     if !extra.is_empty() {
         return false;
     }
-    rests || comes_to_rest(script, passing)
+    comes_to_rest(script, passing)
 }
 
 // This number of machine cycles, which change nothing but the number of the cycle.
@@ -221,23 +219,15 @@ fn pass_each(script: &Script, extra: &[Timed], count: u8, passing: &mut Passing)
     }
 }
 
-// This number of machine cycles, where `rests` says that the devices are known to rest. It answers whether they are
-// known to rest after them.
+// This number of machine cycles. It answers whether the devices are known to rest after them.
 #[tactic(auto, using(crate::proofs::Quiet::rest_passes, crate::proofs::Quiet::rest_lasts))]
 #[inline(always)]
-pub(crate) fn pass_cycles(
-    script: &Script,
-    extra: &[Timed],
-    count: u8,
-    passing: &mut Passing,
-    rests: bool,
-) -> bool
-    requires few { AreFew extra.now }
-    requires rests { IsTrue rests → Rests script.now passing.old }
+pub(crate) fn pass_cycles(script: &Script, extra: &[Timed], count: u8, passing: &mut Passing) -> bool
+    requires { AreFew extra.now }
     ensures passed { passing.new ≡ cycles_passed (with_extra extra.now (inputs_of script.now)) count passing.old }
     ensures rests { IsTrue result → Rests script.now passing.new }
 {
-    if are_idle(script, extra, passing, rests) {
+    if are_idle(script, extra, passing) {
         skip_cycles(count, passing);
         return true;
     }

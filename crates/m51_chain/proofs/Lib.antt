@@ -3,6 +3,7 @@ pub mod Dues
 pub mod Causes
 pub mod Holding
 pub mod Planned
+pub mod PlannedRuns
 pub mod FitJobs
 pub mod InputsGiven
 pub mod Accepted

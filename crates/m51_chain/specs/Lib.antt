@@ -13,5 +13,6 @@ pub mod Parties
 pub mod Verbs
 pub mod Expected
 pub mod Due
+pub mod BuildTasks
 pub mod Told
 pub mod Complete

@@ -1,6 +1,7 @@
 //! The report of a linked program: its map is made, and then its board.
 ghost use Rattle.std.specs.Prelude.{◌≡◌, ◌≤◌, IfOk};
 ghost use Rattle.m51_linker.specs.Link.{IsReady};
+ghost use Rattle.m51_chain.specs.BuildTasks.{EndsInRun};
 ghost use Rattle.m51_chain.specs.Programs.{IsMap, IsReport, filled_by, hex_kept};
 ghost use Rattle.m51_verbs.specs.Outcome.{outcome_of};
 
@@ -68,7 +69,9 @@ pub(crate) fn report(
     found: LinkedFiles,
 ) -> Result<Finished, NoMemory>
     requires { IsReady found.linked }
-    ensures { IfOk result (λ work. IsReport found.linked job.now.hex found.script job.now.steps (outcome_of work)) }
+    ensures report { IfOk result (λ work.
+        IsReport found.linked job.now.hex found.script job.now.steps (outcome_of work)) }
+    ensures run { IfOk result (λ work. EndsInRun found.linked found.script job.now.steps work.text work.ending) }
 {
     let LinkedFiles { linked, script } = found;
     let keeps = hex_kept(alloc, job, &linked)?;

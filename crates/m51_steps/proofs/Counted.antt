@@ -1,17 +1,18 @@
 -- A run that is under way, of which the steps are counted.
-use Rattle.std.proofs.Common.{◌≡◌, ℕ, zero, suc, ◌+◌, ◌-◌, ◌*◌, ◌<◌, ◌≤◌, Bool, true, false, List, [], ◌∷◌, ◌++◌}
+use Rattle.std.proofs.Common.{◌≡◌, ℕ, suc, ◌+◌, ◌-◌, ◌*◌, ◌<◌, ◌≤◌, Bool, true, false, List, [], ◌∷◌, ◌++◌}
 use Rattle.std.proofs.Common.{Option, Some}
 use Rattle.std.proofs.Common.{None, Result, Ok, Err, refl, sym, ap, ◌∙◌, arith, append_assoc, append-nil, subst}
-use Rattle.std.specs.Prelude.{if◌then◌else◌, ◌==◌, ◌^◌, count_by, min, sum_by, slice_index}
-use Rattle.std.proofs.lemmas.List.Sums.{sum_by-append}
+use Rattle.std.specs.Prelude.{if◌then◌else◌, ◌^◌, count_by, min, sum_by, slice_index}
+use Rattle.std.proofs.lemmas.List.Sums.{sum_by_push}
+use Rattle.m51_cells.proofs.Members.{Every, every_append}
 use Rattle.m51_cells.specs.declared.event.Event.{Event}
-use Rattle.m51_shelf.specs.declared.sink.Failed.{Failed}
 use Rattle.m51_sim.specs.Effects.{attempt_of}
 use Rattle.m51_sim.specs.Runs.{Machine, Performed, State}
 use Rattle.m51_sim.specs.StepLaws.{IsShort}
-use Rattle.m51_steps.specs.Counts.{AgreesWith, Begun, IsAdded, IsBlank, Kept, Table, begun, cycles_at, is_at, place_of}
+use Rattle.m51_steps.specs.Counts.{AgreesWith, Begun, IsAdded, IsBlank, Kept, begun, cycles_at, is_at, place_of}
 use Rattle.m51_steps.specs.Counts.{table_of}
 use Rattle.m51_steps.specs.Noted.{IsStepWritten}
+use Rattle.m51_steps.proofs.Totals.{IsHeld}
 
 -- some steps are done and counted, and others are to come
 pub record IsCounting {M : Type 0} (machine : Machine M) (image : List ℕ) (counts : Kept) (n : ℕ) (first : State M)
@@ -23,6 +24,13 @@ pub record IsCounting {M : Type 0} (machine : Machine M) (image : List ℕ) (cou
   pub agrees : AgreesWith counts (table_of image past)
   pub few : (place : ℕ) → count_by (is_at image place) past ≤ done
   pub short : (place : ℕ) → sum_by (cycles_at image place) past ≤ 4 * done
+  pub held : Every (IsHeld image) past
+
+-- all steps are counted
+pub record AllCounted {M : Type 0} (machine : Machine M) (image : List ℕ) (counts : Kept) (n : ℕ) (first : State M)
+    : Type 0 where
+  pub agrees : AgreesWith counts (table_of image (begun machine n first))
+  pub held : Every (IsHeld image) (begun machine n first)
 
 -- a number more at a place, or the same at another
 more_at : (b : Bool) (old add limit new : ℕ) → new ≡ (if b then min (old + add) limit else old) → old + add ≤ limit
@@ -42,19 +50,12 @@ module _ {M : Type 0} (image : List ℕ) where
       → count_by (is_at image place) (past ++ step_at s cycles ∷ [])
       ≡ count_by (is_at image place) past + (if is_at image place (step_at s cycles) then 1 else 0)
   times_more past s cycles place =
-      let last : 0 + (if is_at image place (step_at s cycles) then 1 else 0)
-      ≡ (if is_at image place (step_at s cycles) then 1 else 0) = omega arith in
-      sum_by-append (λ (step : Begun M). if is_at image place step then 1 else 0) past (step_at s cycles ∷ [])
-      ∙ ap (λ k. count_by (is_at image place) past + k) last
+      sum_by_push (λ (step : Begun M). if is_at image place step then 1 else 0) past (step_at s cycles)
 
   cycles_more : (past : List (Begun M)) (s : State M) (cycles place : ℕ)
       → sum_by (cycles_at image place) (past ++ step_at s cycles ∷ [])
       ≡ sum_by (cycles_at image place) past + (if is_at image place (step_at s cycles) then cycles else 0)
-  cycles_more past s cycles place =
-      let last : 0 + cycles_at image place (step_at s cycles) ≡ cycles_at image place (step_at s cycles) =
-      omega arith in
-      sum_by-append (cycles_at image place) past (step_at s cycles ∷ [])
-      ∙ ap (λ k. sum_by (cycles_at image place) past + k) last
+  cycles_more past s cycles place = sum_by_push (cycles_at image place) past (step_at s cycles)
 
 module _ {M : Type 0} (machine : Machine M) (image : List ℕ) where
   pub counting_start : (counts : Kept) (n : ℕ) (first : State M) → IsBlank counts
@@ -67,6 +68,7 @@ module _ {M : Type 0} (machine : Machine M) (image : List ℕ) where
     agrees = record { times = blank.times; cycles = blank.cycles };
     few = λ place. omega arith;
     short = λ place. omega arith;
+    held = tt;
   }
 
   -- a step that is made is the next one
@@ -84,8 +86,9 @@ module _ {M : Type 0} (machine : Machine M) (image : List ℕ) where
       (s next : State M)
       → done < n → n ≤ 10000000 → next.cycle - s.cycle ≤ 4 → IsStepWritten (machine s) a b (Ok None) s next
       → IsAdded counts more (place_of (attempt_of image s.cpu) s.cpu.pc) (next.cycle - s.cycle)
+      → place_of (attempt_of image s.cpu) s.cpu.pc < 65543 → s.cycle ≤ 2 ^ 64 - 1
       → IsCounting machine image counts n first done s → IsCounting machine image more n first (done + 1) next
-  counting_on a b counts more n first done s next below most short step added counting =
+  counting_on a b counts more n first done s next below most short step added place cycle counting =
       let k = n - (done + 1) in
       let last : counting.left ≡ suc k = omega (arith, counting.sum, below) in
       let passed = next.cycle - s.cycle in
@@ -123,6 +126,8 @@ module _ {M : Type 0} (machine : Machine M) (image : List ℕ) where
         short = λ place.
             let least = at_most (here place) passed 4 short in
             omega (arith, counting.short place, cycles_more image counting.past s passed place, least);
+        held = every_append (IsHeld image) counting.past (step_at image s passed ∷ []) counting.held
+            (record { place = place; cycle = cycle }, tt);
       }
 
   -- no step is to come
@@ -139,14 +144,17 @@ module _ {M : Type 0} (machine : Machine M) (image : List ℕ) where
 
   all_counted : (counts : Kept) (n : ℕ) (first : State M) (done : ℕ) (s : State M)
       → (counting : IsCounting machine image counts n first done s) → begun machine counting.left s ≡ []
-      → AgreesWith counts (table_of image (begun machine n first))
+      → AllCounted machine image counts n first
   all_counted counts n first done s counting none =
       let all : begun machine n first ≡ counting.past =
       counting.rest ∙ ap (λ (t : List (Begun M)). counting.past ++ t) none ∙ append-nil counting.past in
-      subst (λ (t : List (Begun M)). AgreesWith counts (table_of image t)) (sym all) counting.agrees
+      record {
+        agrees = subst (λ (t : List (Begun M)). AgreesWith counts (table_of image t)) (sym all) counting.agrees;
+        held = subst (λ (t : List (Begun M)). Every (IsHeld image) t) (sym all) counting.held;
+      }
 
   pub counted_at_last : (counts : Kept) (n : ℕ) (first : State M) (done : ℕ) (s : State M) → done ≡ n
-      → IsCounting machine image counts n first done s → AgreesWith counts (table_of image (begun machine n first))
+      → IsCounting machine image counts n first done s → AllCounted machine image counts n first
   counted_at_last counts n first done s all counting =
       all_counted counts n first done s counting
       (none_begun counting.left s (omega (arith, counting.sum, all)))
@@ -155,7 +163,7 @@ module _ {M : Type 0} (machine : Machine M) (image : List ℕ) where
       (s next : State M) (event : Event)
       → done < n → IsCounting machine image counts n first done s
       → IsStepWritten (machine s) a b (Ok (Some event)) s next
-      → AgreesWith counts (table_of image (begun machine n first))
+      → AllCounted machine image counts n first
   counted_at_event a b counts n first done s next event below counting step =
       let k = n - (done + 1) in
       let last : counting.left ≡ suc k = omega (arith, counting.sum, below) in

@@ -4,7 +4,7 @@ use Rattle.std.specs.Io.KnownBytes.{Appends}
 use Rattle.std.proofs.KnownBytes.{Appends-trans}
 use Rattle.m51_cells.specs.Outside.{AppendsFront}
 use Rattle.m51_cells.specs.declared.event.Event.{Event}
-use Rattle.m51_cells.proofs.Fronts.{front_at_end, front_more}
+use Rattle.m51_cells.proofs.Fronts.{front_at_end}
 use Rattle.m51_shelf.specs.declared.sink.Failed.{Failed}
 use Rattle.m51_sim.specs.Boards.{BoardState}
 use Rattle.m51_sim.specs.Runs.{Record, State}

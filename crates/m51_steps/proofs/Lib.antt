@@ -5,6 +5,7 @@ pub mod Cells
 pub mod Listed
 pub mod Shown
 pub mod Tabled
+pub mod Totals
 pub mod Counted
 pub mod UnderWay
 pub mod Alone

@@ -1,5 +1,5 @@
 -- The places at which steps are counted.
-use Rattle.std.proofs.Common.{◌≡◌, ℕ, ◌+◌, ◌/◌, ◌<◌, arith}
+use Rattle.std.proofs.Common.{◌/◌, ◌<◌, arith}
 use Rattle.m51_flat.specs.declared.state.Source.{Source}
 use Rattle.m51_flat.specs.declared.state.Source.TheVariants.{Ie0, Tf0, Ie1, Tf1, Serial, Timer2}
 use Rattle.m51_flat.specs.Vectors.{vector_of}

@@ -1,6 +1,7 @@
 -- The run of a board with its notes that is under way, by the boards at the start and now, and how it ends.
 use Rattle.std.proofs.Common.{◌≡◌, ℕ, ◌+◌, ◌-◌, ◌<◌, ◌≤◌, List, Option, Some, None, Result, Ok, Err, refl, sym, ap, ◌∙◌}
-use Rattle.std.proofs.Common.{arith, subst}
+use Rattle.std.proofs.Common.{subst}
+use Rattle.std.specs.Prelude.{◌^◌}
 use Rattle.std.specs.Io.KnownBytes.{Appends}
 use Rattle.m51_cells.specs.Outside.{AppendsFront}
 use Rattle.m51_cells.specs.declared.event.Event.{Event}
@@ -14,16 +15,18 @@ use Rattle.m51_sim.specs.Runs.{Performed, State, record_of}
 use Rattle.m51_sim.specs.SeparateMachine.{Separate, separate_machine}
 use Rattle.m51_sim.specs.StepLaws.{StepsAreShort}
 use Rattle.m51_steps.specs.declared.shape.Shape.{Shape}
-use Rattle.m51_steps.specs.Counts.{AgreesWith, IsAdded, IsBlank, Kept, place_of}
+use Rattle.m51_steps.specs.Counts.{IsAdded, IsBlank, Kept, place_of}
 use Rattle.m51_steps.specs.Noted.{IsStepWritten, IsWholeNoted}
 use Rattle.m51_steps.specs.Ram.{nothing_shown}
 use Rattle.m51_steps.specs.Shapes.{IsShown, note_by, note_of}
+use Rattle.m51_steps.specs.Totals.{AddsUp}
 use Rattle.m51_steps.specs.Traced.{machine_of, noted_run, run_table}
-use Rattle.m51_steps.proofs.Counted.{IsCounting, counted_at_event, counted_at_last, counting_on, counting_start}
-use Rattle.m51_steps.proofs.Counted.{short_by}
+use Rattle.m51_steps.proofs.Counted.{AllCounted, IsCounting, counted_at_event, counted_at_last, counting_on}
+use Rattle.m51_steps.proofs.Counted.{counting_start, short_by}
 use Rattle.m51_steps.proofs.Shown.{WasShown, note_is, nothing_was_shown, was_shown}
+use Rattle.m51_steps.proofs.Totals.{adds_up}
 use Rattle.m51_steps.proofs.UnderWay.{IsUnderWay, cut_in_note, cut_in_step, event_cut, event_end, last_cut, last_end}
-use Rattle.m51_steps.proofs.UnderWay.{last_note_cut, on_more, start}
+use Rattle.m51_steps.proofs.UnderWay.{on_more, start}
 
 -- layout, image and script stay; some steps are done, written and counted
 pub record IsRunning (before now : Option (List ℕ)) (shape : Shape) (n : ℕ) (first : BoardState) (done : ℕ)
@@ -119,8 +122,9 @@ module _ (before now : Option (List ℕ)) (shape : Shape) (n : ℕ) (first : Boa
         → IsStepWritten (machine_of at (separate_of at)) noted_at after (Ok None) (separate_of at) (separate_of next)
         → IsAdded counts more (place_of (attempt_of at.chip.image at.chip.cpu) at.chip.cpu.pc)
         (next.chip.cycle - at.chip.cycle)
+        → place_of (attempt_of at.chip.image at.chip.cpu) at.chip.cpu.pc < 65543 → at.chip.cycle ≤ 2 ^ 64 - 1
         → IsRunning before after shape n first (done + 1) next more_shown more
-    run_on after next more_shown more below most short layout image script shows step added =
+    run_on after next more_shown more below most short layout image script shows step added place cycle =
         let as_first = step_as noted_at after (Ok None) (separate_of next) step in
         record {
           layout = layout ∙ running.layout;
@@ -139,7 +143,9 @@ module _ (before now : Option (List ℕ)) (shape : Shape) (n : ℕ) (first : Boa
               (short_next first noted_at after (separate_of at) (separate_of next) (machine_of first (separate_of at))
               short refl as_first) as_first
               (subst (λ (k : List ℕ). IsAdded counts more (place_of (attempt_of k at.chip.cpu) at.chip.cpu.pc)
-              (next.chip.cycle - at.chip.cycle)) running.image added) running.counting;
+              (next.chip.cycle - at.chip.cycle)) running.image added)
+              (subst (λ (k : List ℕ). place_of (attempt_of k at.chip.cpu) at.chip.cpu.pc < 65543) running.image place)
+              cycle running.counting;
         }
 
     pub run_cut_in_step : (after : Option (List ℕ)) (next : BoardState) (f : Failed) → done < n
@@ -183,7 +189,7 @@ module _ (before now : Option (List ℕ)) (shape : Shape) (n : ℕ) (first : Boa
           (subst (λ (t : List (List ℕ)). AppendsFront stepped after (last_line t (Some event) done next.chip.cycle))
           titles_same line)
 
-      pub run_event_counted : AgreesWith counts (run_table first n)
+      pub run_event_counted : AllCounted (machine_of first) first.chip.image counts n (separate_of first)
       run_event_counted =
           counted_at_event (machine_of first) first.chip.image noted_at stepped counts n (separate_of first) done
           (separate_of at) (separate_of next) event below running.counting
@@ -199,7 +205,7 @@ module _ (before now : Option (List ℕ)) (shape : Shape) (n : ℕ) (first : Boa
         (subst (λ (k : ℕ). AppendsFront now after (note_by shape at.monitor.layout at.chip.image shown k
         (separate_of at))) (sym all) h)
 
-    pub run_counted : AgreesWith counts (run_table first n)
+    pub run_counted : AllCounted (machine_of first) first.chip.image counts n (separate_of first)
     run_counted =
         counted_at_last (machine_of first) first.chip.image counts n (separate_of first) done (separate_of at) all
         running.counting
@@ -237,3 +243,10 @@ module _ (before now : Option (List ℕ)) (shape : Shape) (n : ℕ) (first : Boa
           running.last (separate_of at) all running.under last_note
           (subst (λ (t : List (List ℕ)). AppendsFront noted_at after (last_line t None n at.chip.cycle)) last_titles
           line)
+
+-- what was counted adds up
+pub counts_add_up : (first : BoardState) (counts : Kept) (n : ℕ) → StepsAreShort
+    → AllCounted (machine_of first) first.chip.image counts n (separate_of first)
+    → AddsUp (run_table first n) (separate_of first) (record_of (machine_of first) n (separate_of first))
+counts_add_up first counts n short all =
+    adds_up first.monitor.layout first.chip.image (inputs_of first.chip.script) short n (separate_of first) all.held

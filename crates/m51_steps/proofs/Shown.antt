@@ -1,7 +1,7 @@
 -- What was shown of internal RAM before a note, and what is shown after it.
 use Rattle.std.proofs.Common.{◌≡◌, ℕ, ◌+◌, ◌<◌, ◌≤◌, Bool, true, false, List, [], ◌++◌, refl, sym, ap, ◌∙◌, arith}
 use Rattle.std.specs.Prelude.{◌==◌, ◌&&◌, nat_le, if◌then◌else◌, codes}
-use Rattle.std.proofs.lemmas.Bool.{and_parts, le-leb, leb-true}
+use Rattle.std.proofs.lemmas.Bool.{and_parts, le-leb, leb-true, lt-leb}
 use Rattle.std.proofs.lemmas.Bool.Decides.{nat_tests}
 use Rattle.m51_cells.specs.Hex.{hex2}
 use Rattle.m51_module.specs.declared.parts.LayoutParts.{LayoutParts}
@@ -13,7 +13,7 @@ use Rattle.m51_steps.specs.declared.shape.Window.{Window}
 use Rattle.m51_steps.specs.Lines.{state_text, tab}
 use Rattle.m51_steps.specs.Ram.{active_text, byte_code, bytes_text, change_text, changes_text, code_text, nothing_shown}
 use Rattle.m51_steps.specs.Ram.{ram_line}
-use Rattle.m51_steps.specs.Shapes.{IsShown, in_window, note_by, note_of, shown_before, shown_from}
+use Rattle.m51_steps.specs.Shapes.{IsShown, in_window, note_by, note_of, shown_from}
 use Rattle.m51_steps.proofs.Listed.{listed_same}
 
 -- what is shown is what the note of the state takes for shown, up to the last line
@@ -75,10 +75,6 @@ note_is (Ram w) l image steps before s shown h =
     over_window w l image steps shown (shown_from w.first l steps before) s (in_window w steps) refl h
 note_is Counts l image steps before s shown h = refl
 
--- a test that fails
-past_first : (a b : ℕ) → b < a → nat_le a b ≡ false
-past_first a b h = grind (arith, nat_tests)
-
 not_from : (w : Window) (steps : ℕ) (b : Bool) → nat_le w.first steps ≡ b → (b && nat_le steps w.last) ≡ false
     → steps ≤ w.last → steps < w.first
 not_from w steps true e h last = absurd (cc (h, le-leb steps w.last last))
@@ -96,7 +92,7 @@ shown_next : (w : Window) (l : LayoutParts) (done : ℕ) (before s : State Separ
 shown_next w l done before s old new a true e last small h is =
     let from = since w done e in
     is ∙ sym (ap (λ (b : Bool). if b then nothing_shown else byte_code (cells_of l s.memory) a)
-    (past_first (done + 1) w.first (omega (arith, from))))
+    (lt-leb (done + 1) w.first (omega (arith, from))))
 shown_next w l done before s old new a false e last small h is =
     let early = not_since w done e last in
     is ∙ h

@@ -6,8 +6,8 @@ use Rattle.std.specs.Fmt.{decimal}
 use Rattle.m51_cells.specs.Hex.{hex4}
 use Rattle.m51_sim.specs.Effects.{instr_at}
 use Rattle.m51_steps.specs.Lines.{tab}
-use Rattle.m51_steps.specs.Listing.{listed_from, mark_after, marked}
-use Rattle.m51_steps.specs.Counts.{AgreesWith, Kept, Table, address_line, address_lines, count_text, idle_line}
+use Rattle.m51_steps.specs.Listing.{mark_after}
+use Rattle.m51_steps.specs.Counts.{AgreesWith, Kept, Table, address_line, address_lines, idle_line}
 use Rattle.m51_steps.specs.Counts.{next_text}
 use Rattle.m51_steps.specs.Counts.{table_in, table_text, vector_line, vector_lines}
 use Rattle.m51_steps.specs.declared.shape.Shape.{Shape}

@@ -1,20 +1,19 @@
 -- A run with notes that is under way, and how it ends.
-use Rattle.std.proofs.Common.{◌≡◌, ℕ, zero, suc, ◌+◌, ◌-◌, ◌<◌, List, [], ◌++◌, Option, Some, None, Result, Ok, Err}
+use Rattle.std.proofs.Common.{◌≡◌, ℕ, suc, ◌+◌, ◌-◌, ◌<◌, List, [], ◌++◌, Option, Some, None, Result, Ok, Err}
 use Rattle.std.proofs.Common.{refl, sym, ap, ◌∙◌, arith, append_assoc, append-nil, subst}
 use Rattle.std.specs.Io.KnownBytes.{Appends}
 use Rattle.std.proofs.KnownBytes.{Appends-nil, Appends-trans}
 use Rattle.m51_cells.specs.Outside.{AppendsFront}
 use Rattle.m51_cells.specs.declared.event.Event.{Event}
-use Rattle.m51_cells.proofs.Fronts.{front_after, front_at_end}
+use Rattle.m51_cells.proofs.Fronts.{front_after}
 use Rattle.std.specs.Prelude.{flat_map}
 use Rattle.m51_print.specs.Lines.{entry_line, last_line}
 use Rattle.m51_shelf.specs.declared.sink.Failed.{Failed}
 use Rattle.m51_sim.specs.declared.runs.Told.{Told}
-use Rattle.m51_sim.specs.declared.runs.Step.{Step}
 use Rattle.m51_sim.specs.declared.runs.Step.TheVariants.{Done, Stopped}
-use Rattle.m51_sim.specs.Run.{IsToldStep, told_by}
-use Rattle.m51_sim.specs.Runs.{Machine, Performed, Record, State, entries_of, record_from, record_of}
-use Rattle.m51_steps.specs.Noted.{IsStepWritten, IsWholeNoted, Notes, after_note, follows, noted, told_lines}
+use Rattle.m51_sim.specs.Run.{IsToldStep}
+use Rattle.m51_sim.specs.Runs.{Machine, Performed, State, entries_of, record_of}
+use Rattle.m51_steps.specs.Noted.{IsStepWritten, IsWholeNoted, Notes, follows, noted, told_lines}
 
 -- some steps are done, and what is written and what is to come are the whole text
 pub record IsUnderWay {M : Type 0} (before now : Option (List ℕ)) (titles : List (List ℕ)) (machine : Machine M)

@@ -6,3 +6,4 @@ pub mod Shapes
 pub mod Counts
 pub mod Traced
 pub mod Laws
+pub mod Totals

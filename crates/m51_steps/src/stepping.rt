@@ -1,5 +1,5 @@
 //! The run of a board, with what is written of its steps.
-ghost use Rattle.std.specs.Prelude.{◌≡◌, ◌≤◌, ◌-◌, IfOk, OnErr, OnOk, length, option_copied, slice_index};
+ghost use Rattle.std.specs.Prelude.{◌≡◌, ◌≤◌, ◌-◌, ◌^◌, IfOk, OnErr, OnOk, length, option_copied, slice_index};
 ghost use Rattle.std.specs.Option.{ForSome};
 ghost use Rattle.std.specs.Io.KnownBytes.{Appends};
 ghost use Rattle.m51_cells.specs.Outside.{AppendsFront, HasCause};
@@ -12,6 +12,7 @@ ghost use Rattle.m51_sim.specs.SeparateMachine.{separate_machine};
 ghost use Rattle.m51_steps.specs.Counts.{AgreesWith, IsBlank};
 ghost use Rattle.m51_steps.specs.Noted.{IsNoted, IsStepWritten};
 ghost use Rattle.m51_steps.specs.Shapes.{IsShown, note_by};
+ghost use Rattle.m51_steps.specs.Totals.{AddsUp};
 ghost use Rattle.m51_steps.specs.Traced.{machine_of, noted_run, run_table};
 
 use crate::active::write_ram_line;
@@ -82,6 +83,14 @@ fn step_written<S: Sink>(out: &mut S, board: &mut Board) -> Result<Option<Event>
     }
 }
 
+// The number of the machine cycle, which is one of 64 bits.
+fn cycle_of(board: &Board) -> u64
+    ensures value { result ≡ board.now.chip.cycle }
+    ensures bound { result ≤ 2 ^ 64 - 1 }
+{
+    board.cycle()
+}
+
 // How many cycles have passed since this one.
 fn passed_since(board: &Board, start: u64) -> u64
     ensures { result ≡ board.now.chip.cycle - start }
@@ -122,6 +131,8 @@ pub fn run_noted<S: Sink>(
     ensures noted { IsNoted (S.state out.old).text (S.state out.new).text (noted_run shape.now board.old n)
         (record_of (machine_of board.old) n (separate_of board.old)) (separate_of board.new) result }
     ensures counted { OnOk result (AgreesWith counts.new (run_table board.old n)) }
+    ensures totals { OnOk result (AddsUp (run_table board.old n) (separate_of board.old)
+        (record_of (machine_of board.old) n (separate_of board.old))) }
     ensures layout { board.new.monitor.layout ≡ board.old.monitor.layout }
     ensures image { board.new.chip.image ≡ board.old.chip.image }
     ensures script { board.new.chip.script ≡ board.old.chip.script }
@@ -135,7 +146,7 @@ pub fn run_noted<S: Sink>(
             Err(Failed) => return Err(Failed),
         }
         let place = place_of(board);
-        let start = board.cycle();
+        let start = cycle_of(board);
         match step_written(out, board) {
             Ok(None) => counts.add(place, passed_since(board, start)),
             Ok(Some(event)) => {

@@ -7,6 +7,7 @@ ghost use Rattle.m51_sim.specs.Boards.{separate_of};
 ghost use Rattle.m51_sim.specs.Runs.{record_of};
 ghost use Rattle.m51_steps.specs.Counts.{IsBlank, table_in};
 ghost use Rattle.m51_steps.specs.Noted.{IsNoted};
+ghost use Rattle.m51_steps.specs.Totals.{AddsUp};
 ghost use Rattle.m51_steps.specs.Traced.{ending_by, heading, machine_of, noted_run, run_table, traced_text};
 
 use crate::counting::Counts;
@@ -67,6 +68,8 @@ fn run_and_end<S: Sink>(
     ensures traced { IsNoted (S.state out.old).text (S.state out.new).text
         (noted_run shape.now board.old n ++ ending_by shape.now board.old.chip.image (run_table board.old n))
         (record_of (machine_of board.old) n (separate_of board.old)) (separate_of board.new) result }
+    ensures totals { OnOk result (AddsUp (run_table board.old n) (separate_of board.old)
+        (record_of (machine_of board.old) n (separate_of board.old))) }
     ensures cause { HasCause (S.state out.old).faults (S.state out.new).faults result }
 {
     match run_noted(out, board, n, shape, counts) {
@@ -93,6 +96,8 @@ fn run_titled<S: Sink>(
         (titles.now ++ (noted_run shape.now board.old n
         ++ ending_by shape.now board.old.chip.image (run_table board.old n)))
         (record_of (machine_of board.old) n (separate_of board.old)) (separate_of board.new) result }
+    ensures totals { OnOk result (AddsUp (run_table board.old n) (separate_of board.old)
+        (record_of (machine_of board.old) n (separate_of board.old))) }
     ensures cause { HasCause (S.state out.old).faults (S.state out.new).faults result }
 {
     match write_front(out, titles) {
@@ -118,6 +123,8 @@ pub fn trace_run<S: Sink>(
     requires few { n ≤ MOST_STEPS }
     ensures traced { IsNoted (S.state out.old).text (S.state out.new).text (traced_text shape.now board.old n)
         (record_of (machine_of board.old) n (separate_of board.old)) (separate_of board.new) result }
+    ensures totals { OnOk result (AddsUp (run_table board.old n) (separate_of board.old)
+        (record_of (machine_of board.old) n (separate_of board.old))) }
     ensures cause { HasCause (S.state out.old).faults (S.state out.new).faults result }
 {
     run_titled(out, heading(shape), board, n, shape, counts)

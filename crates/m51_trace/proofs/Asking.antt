@@ -1,10 +1,25 @@
 -- What the arguments ask for, by the steps of the top call.
-use Rattle.std.proofs.Common.{◌≡◌, ◌∙◌, Bool, true, false, cond, List, ℕ, Option, Some, None, ap, sym}
-use Rattle.std.specs.Prelude.{option_and_then}
+use Rattle.std.proofs.Common.{◌≡◌, ◌∙◌, Bool, true, false, cond, List, ℕ, Option, Some, None, refl, ap, sym}
+use Rattle.std.specs.Prelude.{IfSome, is_none, option_and_then}
 use Rattle.std.proofs.lemmas.Option.{none-some}
 use Rattle.m51_args.specs.Jobs.{job_of}
+use Rattle.m51_chain.specs.declared.work.Task.{Task}
+use Rattle.m51_chain.specs.declared.work.Task.TheVariants as task
+use Rattle.m51_chain.specs.BuildTasks.{IsBuildTask, IsRunFor, IsRunTask}
+use Rattle.m51_chain.proofs.PlannedRuns.{run_weaker}
+use Rattle.m51_jobs.specs.declared.job.BuildJob.{BuildJob}
+use Rattle.m51_jobs.specs.declared.job.Job.{Job}
+use Rattle.m51_jobs.specs.declared.job.Job.TheVariants as jobs
+use Rattle.m51_shelf.specs.Shelf.{Files}
+use Rattle.m51_shelf.specs.States.{ReadAt}
+use Rattle.m51_steps.specs.declared.shape.Shape.{Shape}
+use Rattle.m51_verbs.specs.declared.plan.Plan.TheVariants as plan
+use Rattle.m51_verbs.specs.declared.work.Finish.{Finish}
+use Rattle.m51_verbs.specs.declared.work.Finish.TheVariants as ending
+use Rattle.m51_verbs.specs.Outcome.{Answer, refusal}
 use Rattle.m51_trace.specs.declared.requests.Chosen.{Chosen}
 use Rattle.m51_trace.specs.Requests.{Request, build_words, choice_of, is_run, request_by, request_of}
+use Rattle.m51_trace.specs.Traces.{IsRun, OfEnding, OfTask, run_answer}
 
 -- what the words of a choice ask for
 abbrev pub asked_for : List (List ℕ) → Chosen → Request
@@ -37,3 +52,65 @@ no_choice words choice = ap (option_and_then (request_by words)) choice
 pub not_faulty : {X : Type 0} (words : List (List ℕ)) (r : Request) → request_of words ≡ Some r
     → request_of words ≡ None → X
 not_faulty words r is faulty = absurd (none-some r (sym faulty ∙ is))
+
+-- ---- what is planned for them
+
+-- the words are those of a build that keeps no HEX, and this is planned for it
+pub record IsPlannedRun (asked : List (List ℕ)) (holds : Option Files) (before after : ReadAt) (it : Task)
+    : Type 0 where
+  pub job : BuildJob
+  pub is : job_of asked ≡ Some (jobs.Build job)
+  pub run : IsRunTask (IsRunFor job holds before after) it
+
+no_name : (hex : Option (List ℕ)) → is_none hex ≡ true → hex ≡ None
+no_name None h = refl
+no_name (Some name) h = absurd (cc h)
+
+planned_for : (asked : List (List ℕ)) (job : Option Job) (holds : Option Files) (before after : ReadAt) (it : Task)
+    → job_of asked ≡ job → is_run job ≡ true → IfSome job (λ job. IsBuildTask job holds before after it)
+    → IsPlannedRun asked holds before after it
+planned_for asked (Some (jobs.Build job)) holds before after it is run planned =
+    record { job = job; is = is; run = planned (no_name job.hex run) }
+planned_for asked (Some (jobs.Asm other)) holds before after it is run planned = absurd (cc run)
+planned_for asked (Some (jobs.Library other)) holds before after it is run planned = absurd (cc run)
+planned_for asked (Some (jobs.Flat other)) holds before after it is run planned = absurd (cc run)
+planned_for asked (Some (jobs.Gen other)) holds before after it is run planned = absurd (cc run)
+planned_for asked (Some (jobs.Dis other)) holds before after it is run planned = absurd (cc run)
+planned_for asked (Some (jobs.Stack other)) holds before after it is run planned = absurd (cc run)
+planned_for asked (Some (jobs.Party other)) holds before after it is run planned = absurd (cc run)
+planned_for asked None holds before after it is run planned = absurd (cc run)
+
+pub planned_run : (asked : List (List ℕ)) (holds : Option Files) (before after : ReadAt) (it : Task) (is : Bool)
+    → is ≡ is_run (job_of asked) → is ≡ true
+    → IfSome (job_of asked) (λ job. IsBuildTask job holds before after it)
+    → IsPlannedRun asked holds before after it
+planned_run asked holds before after it is run held planned =
+    planned_for asked (job_of asked) holds before after it refl (sym run ∙ held) planned
+
+-- its run is a run
+ends_so : (job : BuildJob) (holds : Option Files) (before after : ReadAt) (text : List ℕ) (end : Finish)
+    → IsRunFor job holds before after text end → IsRun end
+ends_so job holds before after text (ending.Run board steps) h = tt
+ends_so job holds before after text ending.Ran h = absurd h.run.run
+ends_so job holds before after text ending.Event h = absurd h.run.run
+ends_so job holds before after text (ending.FlatRun board steps) h = absurd h.run.run
+
+pub is_run_task : (asked : List (List ℕ)) (holds : Option Files) (before after : ReadAt) (it : Task)
+    → IsPlannedRun asked holds before after it → IsRunTask (λ text end. IsRun end) it
+is_run_task asked holds before after it h =
+    run_weaker (IsRunFor h.job holds before after) (λ text end. IsRun end) (ends_so h.job holds before after) it h.run
+
+-- what is so of the answer
+of_ending : (shape : Shape) (text : List ℕ) (end : Finish) (P Q : Answer → Type 0) → ((a : Answer) → P a → Q a)
+    → OfEnding shape text end P → OfEnding shape text end Q
+of_ending shape text (ending.Run board steps) P Q on h = on (run_answer shape text board steps) h
+of_ending shape text ending.Ran P Q on h = h
+of_ending shape text ending.Event P Q on h = h
+of_ending shape text (ending.FlatRun board steps) P Q on h = h
+
+pub of_task : (shape : Shape) (it : Task) (P Q : Answer → Type 0) → ((a : Answer) → P a → Q a)
+    → OfTask shape it P → OfTask shape it Q
+of_task shape (task.Alone (plan.Refused told text)) P Q on h = on (refusal told text) h
+of_task shape (task.Alone (plan.Accepted None text end)) P Q on h = of_ending shape text end P Q on h
+of_task shape (task.Alone (plan.Accepted (Some file) text end)) P Q on h = h
+of_task shape (task.Party boards steps) P Q on h = h

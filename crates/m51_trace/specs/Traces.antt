@@ -2,12 +2,17 @@
 use Rattle.std.specs.Prelude.{◌≡◌, ℕ, List, ◌++◌, codes, Option, Some, None, Result}
 use Rattle.m51_chain.specs.declared.work.Task.{Task}
 use Rattle.m51_chain.specs.declared.work.Task.TheVariants as task
+use Rattle.m51_args.specs.Jobs.{job_of}
+use Rattle.m51_chain.specs.BuildTasks.{IsRunFor, IsRunTask}
 use Rattle.m51_chain.specs.Due.{IsDue}
 use Rattle.m51_chain.specs.Work.{task_answer}
+use Rattle.m51_jobs.specs.declared.job.BuildJob.{BuildJob}
+use Rattle.m51_jobs.specs.declared.job.Job.TheVariants.{Build}
 use Rattle.m51_shelf.specs.declared.sink.Failed.{Failed}
 use Rattle.m51_shelf.specs.Shelf.{Files}
 use Rattle.m51_shelf.specs.States.{ReadAt}
 use Rattle.m51_shelf.specs.Writing.{SinkState}
+use Rattle.m51_sim.specs.Boards.{BoardState}
 use Rattle.m51_steps.specs.declared.shape.Shape.{Shape}
 use Rattle.m51_steps.specs.Traced.{traced_text}
 use Rattle.m51_verbs.specs.declared.plan.Plan.{Plan}
@@ -29,27 +34,34 @@ usage_text =
 abbrev pub usage_answer : Answer
 usage_answer = refusal status.Usage usage_text
 
--- the answer for a run that is accepted: the text before the run, and its trace; any other ending is none of a build
-abbrev pub run_answer : Shape → List ℕ → Finish → Answer
-run_answer shape text (ending.Run board steps) =
-    record {
-      status = status_by (run_of board steps).event;
-      text = text ++ traced_text shape board steps;
-      keeps = None;
-    }
-run_answer shape text ending.Ran = usage_answer
-run_answer shape text ending.Event = usage_answer
-run_answer shape text (ending.FlatRun board steps) = usage_answer
+-- the answer for a run that is accepted: the text before the run, and its trace
+abbrev pub run_answer : Shape → List ℕ → BoardState → ℕ → Answer
+run_answer shape text board steps = record {
+  status = status_by (run_of board steps).event;
+  text = text ++ traced_text shape board steps;
+  keeps = None;
+}
 
--- the answer for what is to be done: a refusal stays as it is
-abbrev pub plan_answer : Shape → Plan → Answer
-plan_answer shape (plan.Refused told text) = refusal told text
-plan_answer shape (plan.Accepted None text end) = run_answer shape text end
-plan_answer shape (plan.Accepted (Some file) text end) = usage_answer
+-- work ends with the run of a board: that of a build does
+abbrev pub IsRun : Finish → Type 0
+IsRun (ending.Run board steps) = Unit {0}
+IsRun other = ⊥
 
-abbrev pub trace_answer : Shape → Task → Answer
-trace_answer shape (task.Alone plan) = plan_answer shape plan
-trace_answer shape (task.Party boards steps) = usage_answer
+-- it is so of the answer for an ending, which is a run
+abbrev pub OfEnding : Shape → List ℕ → Finish → (Answer → Type 0) → Type 0
+OfEnding shape text (ending.Run board steps) Is = Is (run_answer shape text board steps)
+OfEnding shape text other Is = ⊥
+
+-- it is so of the answer for a plan: a refusal stays as it is, and a run has its trace; a build that keeps no HEX has
+-- no other plan
+abbrev pub OfPlan : Shape → Plan → (Answer → Type 0) → Type 0
+OfPlan shape (plan.Refused told text) Is = Is (refusal told text)
+OfPlan shape (plan.Accepted None text end) Is = OfEnding shape text end Is
+OfPlan shape (plan.Accepted (Some file) text end) Is = ⊥
+
+abbrev pub OfTask : Shape → Task → (Answer → Type 0) → Type 0
+OfTask shape (task.Alone plan) Is = OfPlan shape plan Is
+OfTask shape (task.Party boards steps) Is = ⊥
 
 -- an answer's text is written whole, or a write failed after a prefix of it
 pub record IsAnswered (answer : Answer) (before after : SinkState) (told : Status) : Type 0 where
@@ -58,14 +70,17 @@ pub record IsAnswered (answer : Answer) (before after : SinkState) (told : Statu
   pub text : IsTextWritten answer.status answer.text before after result
 
 -- How the top call ends: the arguments are faulty; or what is written is the answer for a task that is due for the
--- words of `build`, for the files and for what the shelf did; or memory ran out, and nothing is written.
+-- words of `build`, for the files and for what the shelf did; or memory ran out, and nothing is written. The task is a
+-- refusal, or it is the run of the program that the files give: so each build that is accepted is traced.
 pub data IsTraced (words : List (List ℕ)) (holds : Option Files) (before after : ReadAt)
     (sink_before sink_after : SinkState) (told : Status) : Type 0 where
   Faulty : request_of words ≡ None → IsAnswered usage_answer sink_before sink_after told
       → IsTraced words holds before after sink_before sink_after told
-  Asked : (request : Request) (task : Task) → request_of words ≡ Some request
+  Asked : (request : Request) (job : BuildJob) (task : Task) → request_of words ≡ Some request
+      → job_of request.words ≡ Some (Build job)
       → IsDue request.words holds before after (task_answer task)
-      → IsAnswered (trace_answer request.shape task) sink_before sink_after told
+      → IsRunTask (IsRunFor job holds before after) task
+      → OfTask request.shape task (λ answer. IsAnswered answer sink_before sink_after told)
       → IsTraced words holds before after sink_before sink_after told
   NoMemory : told ≡ status.Memory → sink_after ≡ sink_before
       → IsTraced words holds before after sink_before sink_after told

@@ -1,12 +1,13 @@
 //! The top call: what the arguments ask for.
 ghost use Rattle.std.specs.Prelude.{◌≡◌, ◌≤◌, ◌++◌, IfOk, None, OnErr, Some};
 ghost use Rattle.m51_cells.specs.declared.limits.TheConstants.{MOST_STEPS};
+ghost use Rattle.m51_chain.specs.BuildTasks.{IsRunTask};
 ghost use Rattle.m51_jobs.specs.Texts.{texts};
 ghost use Rattle.m51_shelf.specs.States.{OnlyReads};
 ghost use Rattle.m51_steps.specs.Counts.{IsBlank};
 ghost use Rattle.m51_steps.specs.Traced.{traced_text};
 ghost use Rattle.m51_trace.specs.Requests.{choice_of, request_of};
-ghost use Rattle.m51_trace.specs.Traces.{IsTraced, plan_answer, run_answer, trace_answer, usage_answer};
+ghost use Rattle.m51_trace.specs.Traces.{IsRun, IsTraced, OfEnding, OfPlan, OfTask, usage_answer};
 ghost use Rattle.m51_verbs.specs.Carried.{IsTextWritten};
 ghost use Rattle.m51_verbs.specs.Outcome.{run_of, status_by};
 
@@ -95,7 +96,7 @@ fn write_both<S: Sink>(
     }
 }
 
-// Runs, if there is something to run, and writes the trace.
+// Runs the board of a build, and writes its trace.
 fn write_run<S: Sink>(
     out: &mut S,
     text: &[u8],
@@ -103,31 +104,33 @@ fn write_run<S: Sink>(
     shape: &Shape,
     counts: &mut Counts,
 ) -> Result<Status, Failed>
-    requires { IsBlank counts.old }
-    ensures written { IsTextWritten (run_answer shape.now text.now ending).status
-        (run_answer shape.now text.now ending).text (S.state out.old) (S.state out.new) result }
+    requires blank { IsBlank counts.old }
+    requires run { IsRun ending }
+    ensures written { OfEnding shape.now text.now ending (λ answer.
+        IsTextWritten answer.status answer.text (S.state out.old) (S.state out.new) result) }
     ensures later { (S.state out.old).faults ≤ (S.state out.new).faults }
 {
     match ending {
         Finish::Run { mut board, steps } => {
             write_both(out, text, &mut board, steps.number(), shape, counts)
         }
-        Finish::Ran => refuse(out),
-        Finish::Event => refuse(out),
-        Finish::FlatRun { .. } => refuse(out),
+        Finish::Ran => unreachable!(),
+        Finish::Event => unreachable!(),
+        Finish::FlatRun { .. } => unreachable!(),
     }
 }
 
-// Does what a plan says: a refusal is written as `build` writes it.
+// Does what the plan of a build says that keeps no HEX: a refusal is written as `build` writes it.
 fn perform_plan<S: Sink>(
     out: &mut S,
     plan: Plan,
     shape: &Shape,
     counts: &mut Counts,
 ) -> Result<Status, Failed>
-    requires { IsBlank counts.old }
-    ensures written { IsTextWritten (plan_answer shape.now plan).status (plan_answer shape.now plan).text
-        (S.state out.old) (S.state out.new) result }
+    requires blank { IsBlank counts.old }
+    requires run { IsRunTask (λ text end. IsRun end) (Task.Alone plan) }
+    ensures written { OfPlan shape.now plan (λ answer.
+        IsTextWritten answer.status answer.text (S.state out.old) (S.state out.new) result) }
     ensures later { (S.state out.old).faults ≤ (S.state out.new).faults }
 {
     match plan {
@@ -137,27 +140,28 @@ fn perform_plan<S: Sink>(
             text,
             ending,
         } => match keeps {
-            Some(_) => refuse(out),
+            Some(_) => unreachable!(),
             None => write_run(out, text.as_slice(), ending, shape, counts),
         },
     }
 }
 
-// Does what a task says.
+// Does what the task of such a build says.
 fn perform<S: Sink>(
     out: &mut S,
     task: Task,
     shape: &Shape,
     counts: &mut Counts,
 ) -> Result<Status, Failed>
-    requires { IsBlank counts.old }
-    ensures written { IsTextWritten (trace_answer shape.now task).status (trace_answer shape.now task).text
-        (S.state out.old) (S.state out.new) result }
+    requires blank { IsBlank counts.old }
+    requires run { IsRunTask (λ text end. IsRun end) task }
+    ensures written { OfTask shape.now task (λ answer.
+        IsTextWritten answer.status answer.text (S.state out.old) (S.state out.new) result) }
     ensures later { (S.state out.old).faults ≤ (S.state out.new).faults }
 {
     match task {
         Task::Alone(plan) => perform_plan(out, plan, shape, counts),
-        Task::Party { .. } => refuse(out),
+        Task::Party { .. } => unreachable!(),
     }
 }
 
@@ -199,8 +203,9 @@ pub(crate) fn trace<F: Shelf, S: Sink>(
     files: &mut F,
     out: &mut S,
 ) -> Status
-    // What is written is the answer for a task that is due for the words of `build`, the files and what the shelf did;
-    // or the usage, where the arguments are faulty; or nothing, where memory runs out.
+    // What is written is the answer for a task that is due for the words of `build`, the files and what the shelf did,
+    // and this is a refusal of `build` or the trace of its run; or the usage, where the arguments are faulty; or
+    // nothing, where memory runs out.
     ensures traced { IsTraced (texts words.now) (F.state files.old).holds (F.state files.old).reads
         (F.state files.new).reads (S.state out.old) (S.state out.new) result }
 

@@ -1,9 +1,10 @@
-use Rattle.std.proofs.Common.{◌≡◌, ◌∙◌, ◌-◌, ℕ, None, Some, ap, arith}
+use Rattle.std.proofs.Common.{◌≡◌, ◌∙◌, ◌-◌, ◌<◌, ◌≤◌, ℕ, None, Some, ap, arith, subst}
+use Rattle.std.specs.Prelude.{◌^◌}
 use Rattle.std.proofs.lemmas.List.{get_or-replicate}
 use Rattle.m51_steps.specs.Ram.{nothing_shown}
 use Rattle.m51_steps.proofs.Counted.{added_as}
 use Rattle.m51_steps.proofs.Moved.{step_told}
-use Rattle.m51_steps.proofs.Running.{run_counted, run_cut_in_note, run_cut_in_step, run_end, run_end_cut}
+use Rattle.m51_steps.proofs.Running.{counts_add_up, run_counted, run_cut_in_note, run_cut_in_step, run_end, run_end_cut}
 use Rattle.m51_steps.proofs.Running.{run_event_counted}
 use Rattle.m51_steps.proofs.Running.{run_event_cut, run_event_end, run_last_note_cut, run_on, run_start}
 use Rattle.m51_steps.proofs.stepping.run_noted.Goals as goal
@@ -23,9 +24,17 @@ returns-in-Ok-end-clause-noted g c =
 pub returns-in-Ok-end-clause-counted : goal.returns-in-Ok-end-clause-counted
 returns-in-Ok-end-clause-counted g c =
     let step = step_told _ _ _ _ (Some c.in-Ok-Some.event) _ _ c.in-Ok-Some.field-0-is c.in-Ok-Some.ensures.step in
-    run_event_counted _ _ c.args.shape.now c.args.n c.args.board.now c.loop-done.done c.loop-done.board _ _
+    (run_event_counted _ _ c.args.shape.now c.args.n c.args.board.now c.loop-done.done c.loop-done.board _ _
     c.loop-done.invariant.running _ c.in-Ok.ensures.whole _ c.step_written.new.board c.in-Ok-Some.event (omega arith)
-    c.step_written.ensures.layout step
+    c.step_written.ensures.layout step).agrees
+
+pub returns-in-Ok-end-clause-totals : goal.returns-in-Ok-end-clause-totals
+returns-in-Ok-end-clause-totals g c =
+    let step = step_told _ _ _ _ (Some c.in-Ok-Some.event) _ _ c.in-Ok-Some.field-0-is c.in-Ok-Some.ensures.step in
+    counts_add_up c.args.board.now _ c.args.n c.steps_are_short.ensures
+    (run_event_counted _ _ c.args.shape.now c.args.n c.args.board.now c.loop-done.done c.loop-done.board _ _
+    c.loop-done.invariant.running _ c.in-Ok.ensures.whole _ c.step_written.new.board c.in-Ok-Some.event (omega arith)
+    c.step_written.ensures.layout step)
 
 pub returns-in-Err-end-clause-noted : goal.returns-in-Err-end-clause-noted
 returns-in-Err-end-clause-noted g c =
@@ -55,8 +64,15 @@ returns-in-Ok-end-2-clause-noted g c =
 pub returns-in-Ok-end-2-clause-counted : goal.returns-in-Ok-end-2-clause-counted
 returns-in-Ok-end-2-clause-counted g c =
     let all : c.loop-done.done ≡ c.args.n = omega arith in
-    run_counted _ _ c.args.shape.now c.args.n c.args.board.now c.loop-done.done c.loop-done.board _ _
-    c.loop-done.invariant.running all
+    (run_counted _ _ c.args.shape.now c.args.n c.args.board.now c.loop-done.done c.loop-done.board _ _
+    c.loop-done.invariant.running all).agrees
+
+pub returns-in-Ok-end-2-clause-totals : goal.returns-in-Ok-end-2-clause-totals
+returns-in-Ok-end-2-clause-totals g c =
+    let all : c.loop-done.done ≡ c.args.n = omega arith in
+    counts_add_up c.args.board.now _ c.args.n c.steps_are_short.ensures
+    (run_counted _ _ c.args.shape.now c.args.n c.args.board.now c.loop-done.done c.loop-done.board _ _
+    c.loop-done.invariant.running all)
 
 pub returns-in-Err-end-2-clause-noted : goal.returns-in-Err-end-2-clause-noted
 returns-in-Err-end-2-clause-noted g c =
@@ -79,8 +95,11 @@ loop-done-preserved g c =
           (omega arith) c.steps_are_short.ensures c.step_written.ensures.layout c.step_written.ensures.image
           c.step_written.ensures.script c.in-Ok.ensures.shown step
           (added_as _ _ _ _ _ _ c.place_of-place.ensures.place
-          (c.passed_since.ensures ∙ ap (λ (k : ℕ). c.step_written.new.board.chip.cycle - k) c.cycle-start.ensures)
-          c.add.ensures);
+          (c.passed_since.ensures
+          ∙ ap (λ (k : ℕ). c.step_written.new.board.chip.cycle - k) c.cycle_of-start.ensures.value)
+          c.add.ensures)
+          (subst (λ (k : ℕ). k < 65543) c.place_of-place.ensures.place c.place_of-place.ensures.bound)
+          (subst (λ (k : ℕ). k ≤ 2 ^ 64 - 1) c.cycle_of-start.ensures.value c.cycle_of-start.ensures.bound);
     }
 
 pub loop-done-init : goal.loop-done-init

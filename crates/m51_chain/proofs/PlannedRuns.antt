@@ -1,0 +1,145 @@
+-- What is planned for a build that keeps no HEX.
+use Rattle.m51_chain.proofs.Common.{◌≡◌, ℕ, true, List, Option, Some, None, Result, Ok, Err, refl, sym, ap, ◌∙◌, subst}
+use Rattle.m51_chain.proofs.Common.{Answer, Files, Job, ReadAt, Stop, name_kept, names_read, status_if}
+use Rattle.std.proofs.Common.{Bool, false}
+use Rattle.std.specs.Prelude.{IfOk}
+use Rattle.m51_cells.specs.declared.event.Event.{Event}
+use Rattle.m51_cells.specs.declared.memory.NoMemory.{NoMemory}
+use Rattle.m51_jobs.specs.declared.job.BuildJob.{BuildJob}
+use Rattle.m51_jobs.specs.declared.job.Job.TheVariants as jobs
+use Rattle.m51_chain.specs.declared.linking.LinkedFiles.{LinkedFiles}
+use Rattle.m51_chain.specs.declared.work.Task.{Task}
+use Rattle.m51_chain.specs.declared.work.Task.TheVariants as task
+use Rattle.m51_chain.specs.declared.work.Work.{Work}
+use Rattle.m51_chain.specs.declared.work.Work.TheVariants as work
+use Rattle.m51_chain.specs.Builds.{build_files}
+use Rattle.m51_chain.specs.BuildTasks.{EndsInRun, IfBuild, IsBuildPlanned, IsBuildRun, IsBuildTask, IsBuildWork}
+use Rattle.m51_chain.specs.BuildTasks.{IsPlannedAlike, IsRefusal, IsRunFor, IsRunTask, IsRunWork}
+use Rattle.m51_chain.specs.Due.{IsPlanned}
+use Rattle.m51_chain.specs.Linking.{AreLinked}
+use Rattle.m51_chain.specs.Work.{task_answer}
+use Rattle.m51_verbs.specs.declared.plan.Plan.TheVariants as plan
+use Rattle.m51_verbs.specs.declared.work.Finish.{Finish}
+use Rattle.m51_verbs.specs.declared.work.Finish.TheVariants as ending
+use Rattle.m51_verbs.specs.declared.work.Reason.{Reason}
+use Rattle.m51_verbs.specs.declared.work.Reason.TheVariants as reason
+use Rattle.m51_verbs.specs.declared.work.Stop.TheVariants as stop
+use Rattle.m51_verbs.specs.Outcome.{flat_run_of, named_answer, refused, run_of, status_at, status_by, status_of}
+use Rattle.m51_verbs.specs.Reading.{AreGiven, AreRead}
+
+-- ---- refusals, by their status
+
+not_by : (event : Option Event) → IsRefusal (status_by event) → ⊥
+not_by None h = h
+not_by (Some event) h = h
+
+not_if : (event : Bool) → IsRefusal (status_if event) → ⊥
+not_if false h = h
+not_if true h = h
+
+not_end : (e : Finish) → IsRefusal (status_at e) → ⊥
+unfolding status_at
+not_end ending.Ran h = h
+not_end ending.Event h = h
+not_end (ending.Run board steps) h = not_by (run_of board steps).event h
+not_end (ending.FlatRun board steps) h = not_by (flat_run_of board steps).event h
+
+refuses : (why : Reason) → IsRefusal (status_of why)
+refuses reason.Source = tt
+refuses reason.Link = tt
+refuses reason.Object = tt
+refuses reason.Script = tt
+refuses reason.Limit = tt
+refuses reason.Stack = tt
+
+module _ (Ends : List ℕ → Finish → Type 0) where
+  by_status : (it : Task) → IsRefusal (task_answer it).status → IsRunTask Ends it
+  by_status (task.Alone (plan.Refused told text)) h = h
+  by_status (task.Alone (plan.Accepted keeps text end)) h = absurd (not_end end h)
+  by_status (task.Party boards steps) h = absurd (not_if _ h)
+
+  refused_by : (it : Task) (answer : Answer) → task_answer it ≡ answer → IsRefusal answer.status → IsRunTask Ends it
+  refused_by it answer is h = by_status it (subst (λ (a : Answer). IsRefusal a.status) (sym is) h)
+
+pub run_weaker : (P Q : List ℕ → Finish → Type 0) → ((text : List ℕ) (end : Finish) → P text end → Q text end)
+    → (it : Task) → IsRunTask P it → IsRunTask Q it
+run_weaker P Q on (task.Alone (plan.Refused told text)) h = h
+run_weaker P Q on (task.Alone (plan.Accepted keeps text end)) h = (h.0, on text end h.1)
+run_weaker P Q on (task.Party boards steps) h = h
+
+-- ---- builds among jobs
+
+any_build : (job : Job) (Is : BuildJob → Type 0) → ((build : BuildJob) → job ≡ jobs.Build build → Is build)
+    → IfBuild job Is
+any_build (jobs.Build build) Is on = on build refl
+any_build (jobs.Asm other) Is on = tt
+any_build (jobs.Library other) Is on = tt
+any_build (jobs.Flat other) Is on = tt
+any_build (jobs.Gen other) Is on = tt
+any_build (jobs.Dis other) Is on = tt
+any_build (jobs.Stack other) Is on = tt
+any_build (jobs.Party other) Is on = tt
+
+-- the run of a linked program is that of its files
+pub run_of_files : (job : BuildJob) (contents : List (List ℕ)) (found : LinkedFiles) (text : List ℕ) (end : Finish)
+    → AreLinked (build_files job) contents found → EndsInRun found.linked found.script job.steps text end
+    → IsBuildRun job contents text end
+run_of_files job contents found text end are run = record {
+  inputs = are.inputs;
+  given = are.given;
+  linked = found.linked;
+  program = are.program;
+  run = subst (λ script. EndsInRun found.linked script job.steps text end) are.script run;
+}
+
+plan_of_work : (build : BuildJob) (contents : List (List ℕ)) (name : Option (List ℕ)) (made : Result Work Stop)
+    (result : Result Task NoMemory) → name ≡ None → IfOk made (IsRunWork build contents)
+    → IsPlanned name made result → (name ≡ None → IsPlannedAlike made result)
+    → IfOk result (IsRunTask (IsBuildRun build contents))
+plan_of_work build contents name (Ok (work.Alone done)) (Ok it) none is planned plain =
+    subst (λ (t : Task). IsRunTask (IsBuildRun build contents) t) (sym (plain none)) (refl, is)
+plan_of_work build contents name (Ok (work.Party boards steps)) (Ok it) none is planned plain = absurd is
+plan_of_work build contents name (Ok done) (Err out) none is planned plain = tt
+plan_of_work build contents name (Err (stop.Refused why text)) (Ok it) none is planned plain =
+    refused_by (IsBuildRun build contents) it (named_answer name (refused why text)) planned (refuses why)
+plan_of_work build contents name (Err (stop.Refused why text)) (Err out) none is planned plain = tt
+plan_of_work build contents name (Err stop.Memory) (Ok it) none is planned plain = absurd planned
+plan_of_work build contents name (Err stop.Memory) (Err out) none is planned plain = tt
+
+-- what is planned for the work of a job
+pub build_planned : (job : Job) (contents : List (List ℕ)) (name : Option (List ℕ)) (made : Result Work Stop)
+    (result : Result Task NoMemory) → name ≡ name_kept job → IfOk made (IsBuildWork job contents)
+    → IsPlanned name made result → (name ≡ None → IsPlannedAlike made result)
+    → IfOk result (IsBuildPlanned job contents)
+build_planned job contents name made (Ok it) is worked planned plain =
+    any_build job (λ build. build.hex ≡ None → IsRunTask (IsBuildRun build contents) it) (λ build same no_hex.
+    plan_of_work build contents name made (Ok it) (is ∙ ap name_kept same ∙ no_hex)
+    (subst (λ (j : Job). IfOk made (IsBuildWork j contents)) same worked) planned plain)
+build_planned job contents name made (Err out) is worked planned plain = tt
+
+-- ---- what the shelf did
+
+module _ (job : Job) (holds : Option Files) (before after : ReadAt) where
+  -- the files were read
+  pub build_task : (contents : List (List ℕ)) (result : Result Task NoMemory)
+      → AreRead holds (names_read job) contents → AreGiven (names_read job) before after contents
+      → IfOk result (IsBuildPlanned job contents) → IfOk result (IsBuildTask job holds before after)
+  build_task contents (Ok it) read given planned =
+      any_build job (λ build. build.hex ≡ None → IsRunTask (IsRunFor build holds before after) it)
+      (λ build same no_hex.
+      run_weaker (IsBuildRun build contents) (IsRunFor build holds before after)
+      (λ text end run. record {
+        contents = contents;
+        read = subst (λ (j : Job). AreRead holds (names_read j) contents) same read;
+        given = subst (λ (j : Job). AreGiven (names_read j) before after contents) same given;
+        run = run;
+      }) it
+      ((subst (λ (j : Job). IsBuildPlanned j contents it) same planned) no_hex))
+  build_task contents (Err out) read given planned = tt
+
+  -- it is refused
+  pub build_refused : (it : Task) (answer : Answer) → task_answer it ≡ answer → IsRefusal answer.status
+      → IsBuildTask job holds before after it
+  build_refused it answer is h =
+      any_build job (λ build. build.hex ≡ None → IsRunTask (IsRunFor build holds before after) it)
+      (λ build same no_hex. refused_by (IsRunFor build holds before after) it answer is h)

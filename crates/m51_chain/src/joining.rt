@@ -63,7 +63,9 @@ fn party_boards(alloc: Global, job: &PartyJob, contents: &[Bytes]) -> Result<Vec
     ensures { AreJoinedOr job.now contents.now result }
 {
     let Inputs {
-        modules, script, ..
+        modules,
+        script,
+        ..
     } = inputs_in(alloc, job.files.as_slice(), &None, &job.script, contents)?;
     boards_alone(alloc, modules, &script)
 }

@@ -222,7 +222,12 @@ fn pass_each(script: &Script, extra: &[Timed], count: u8, passing: &mut Passing)
 // This number of machine cycles. It answers whether the devices are known to rest after them.
 #[tactic(auto, using(crate::proofs::Quiet::rest_passes, crate::proofs::Quiet::rest_lasts))]
 #[inline(always)]
-pub(crate) fn pass_cycles(script: &Script, extra: &[Timed], count: u8, passing: &mut Passing) -> bool
+pub(crate) fn pass_cycles(
+    script: &Script,
+    extra: &[Timed],
+    count: u8,
+    passing: &mut Passing,
+) -> bool
     requires { AreFew extra.now }
     ensures passed { passing.new ≡ cycles_passed (with_extra extra.now (inputs_of script.now)) count passing.old }
     ensures rests { IsTrue result → Rests script.now passing.new }

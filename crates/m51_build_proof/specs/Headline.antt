@@ -34,8 +34,8 @@ use Rattle.m51_chain.specs.Verbs.{IsOutcome}
 use Rattle.m51_build_proof.specs.Builds.{AreOfBytes, IsAccepted, IsBuilt, IsRun, flat_run, separate_run}
 
 -- It links exactly: the program is run, status 0 or 1, where no file is refused and no rule of the link fails, and then
--- there is what it is linked to; else the outcome is that of the first file that is refused, or of the first rule that
--- fails.
+-- there is what it is linked to; else the outcome is that of the files that are refused (the faults of all sources, or
+-- else the first refusal), or of the first rule that fails.
 pub record LinksExactly (job : BuildJob) (contents : List (List ℕ)) (outcome : Outcome) : Type 0 where
   -- it is run exactly if it is accepted
   pub runs : IsRun outcome ↔ IsAccepted job contents

@@ -48,10 +48,8 @@ class Checkout(StandIn):
 
     def pack(self, name, *options, status=0, **environment):
         """Packs a release; gives what is said of it."""
-        with open(TOP / 'VERSION') as file:
-            kit = file.read().splitlines()[1]
         return ran([self.path('top', 'tools', 'release'), *options, self.path(name)],
-                   env={**self.environment, 'VERSION': kit, **environment}, status=status)
+                   env={**self.environment, **environment}, status=status)
 
     def unpack(self, name):
         """Unpacks a tar, and gives the folder."""

@@ -10,7 +10,7 @@ PROVER = """#!/bin/sh
 echo "$1" >> "$CALLS"
 case $1 in
     version) echo kit ;;
-    check) cat src/sum.rt > "$CALLS.text"; grep -rnw wrong src && { echo "src/sum.rt:1:1: error: not proved"; exit 1; } ;;
+    check) ls -d ../*/src ../*/out/* > "$CALLS.copied"; cat src/sum.rt > "$CALLS.text"; grep -rnw wrong src && { echo "src/sum.rt:1:1: error: not proved"; exit 1; } ;;
     must-fail) echo "rt: must-fail sum/carry.edit: refused, as it must be: ${PLACE:-src/sum.rt:2:5}: not proved" ;;
 esac
 exit 0
@@ -99,6 +99,19 @@ class WrongBodies(Folder):
         self.keep('top/tests/wrong-bodies/sum/limit.twin',
                   'file: src/sum.rt / old: sum > 255 / new: sum / old: > 255; / new: > 255;')
         self.assertEqual(self.call('--twins')[0], 1, 'two pairs of one twin meet')
+
+    def test_what_is_copied(self):
+        """The crate and those below it, with the libraries of these and what was kept of the crate."""
+        for name in ('low', 'above'):
+            os.makedirs(self.path('top', 'crates', name, 'src'))
+        for name in ('low/out/rlib', 'low/out/incremental', 'sum/out/rlib', 'sum/out/incremental', 'sum/out/other'):
+            os.makedirs(self.path('top', 'crates', name))
+            self.keep(f'top/crates/{name}/a.oantt', 'kept')
+        self.keep('top/crates.txt', 'low: / sum: low / above: sum')
+        self.assertEqual(self.call('--twins')[0], 0)
+        with open(self.path('calls.copied')) as file:
+            self.assertEqual(file.read().split(), [
+                '../low/out/rlib', '../low/src', '../sum/out/incremental', '../sum/out/rlib', '../sum/src'])
 
     def test_edits(self):
         self.assertEqual(self.call()[0], 0)

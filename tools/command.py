@@ -117,39 +117,41 @@ def overwritten(words):
 
 
 def version():
-    """The version, the program and its verbs."""
+    """The version, the programs with their sums, and the verbs."""
     number, kit = sources.version()
-    program = kind_of_program('m51') or 'no program is built yet'
-    trace = kind_of_program(sources.TRACE)
-    return '\n'.join([f'm51 {number}, {kit}', program, *certificate(), *([f'm51-trace: {trace}'] if trace else []), f'verbs: {" ".join(arguments.VERBS)}'])
+    trace = [f'm51-trace: {line}' for line in lines_of_program(sources.TRACE)]
+    program = lines_of_program('m51') or ['no program is built yet']
+    return '\n'.join([f'm51 {number}, {kit}', *program, *trace, f'verbs: {" ".join(arguments.VERBS)}'])
 
 
-def kind_of_program(crate):
-    """Whether a program is the proved one, and where it is; nothing if there is none."""
-    if sources.proved(crate):
-        return f'the proved program {sources.proved(crate)}'
-    return f'the unproved program {sources.unproved(crate)}' if sources.unproved(crate) else None
-
-
-def certificate():
-    """The sum of the program, whether it is that of its certificate, or of what was installed, and what that says."""
-    program = sources.proved() or sources.unproved()
+def lines_of_program(crate):
+    """Whether a program is the proved one, where it is, and its sum, with what the certificate says of it; no lines if
+    there is none."""
+    program = sources.proved(crate) or sources.unproved(crate)
     if not program:
-        return
+        return []
+    kind = 'proved' if program == sources.proved(crate) else 'unproved'
+    said, is_certified = judged(program)
+    lines = sources.lines_of('CERTIFICATE') if is_certified and crate == 'm51' else []
+    return [f'the {kind} program {program}', said,
+            *(line[2:] for line in lines if line.startswith(('# commit ', '# gate ')))]
+
+
+def judged(program):
+    """What the sum of a program is, whether that is the one of its certificate, or of what was installed; and whether a
+    certificate has it."""
     import hashlib
 
     with open(program, 'rb') as file:
         found = hashlib.sha256(file.read()).hexdigest()
     lines = sources.lines_of('CERTIFICATE')
     if f'{found}  {os.path.basename(program)}' in lines:
-        yield f'sha256 {found}, that of the certificate'
-        yield from (line[2:] for line in lines if line.startswith(('# commit ', '# gate ')))
-    elif lines:
-        yield f'sha256 {found}, WHICH IS NOT THAT OF THE CERTIFICATE'
-    elif program == sources.installed() and sources.lines_of('SHA256') != [found]:
-        yield f'sha256 {found}, WHICH IS NOT WHAT WAS INSTALLED'
-    else:
-        yield f'sha256 {found}, without a certificate'
+        return f'sha256 {found}, that of the certificate', True
+    if lines:
+        return f'sha256 {found}, WHICH IS NOT THAT OF THE CERTIFICATE', False
+    if program == sources.installed() and sources.lines_of('SHA256') != [found]:
+        return f'sha256 {found}, WHICH IS NOT WHAT WAS INSTALLED', False
+    return f'sha256 {found}, without a certificate', False
 
 
 def answer_without_program(words):

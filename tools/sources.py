@@ -135,11 +135,15 @@ def toolchain_place(command):
 
 
 def toolchain_name(command):
-    """What `rt version` writes."""
+    """The first line that `rt version` writes; nothing of an rt that does not run."""
     import subprocess
 
-    ran = subprocess.run([command, 'version'], stdout=subprocess.PIPE, stdin=subprocess.DEVNULL)
-    return ran.stdout.decode('utf-8', 'replace').strip()
+    try:
+        ran = subprocess.run([command, 'version'], stdout=subprocess.PIPE, stderr=subprocess.DEVNULL,
+                             stdin=subprocess.DEVNULL)
+    except OSError:
+        return ''
+    return ran.stdout.decode('utf-8', 'replace').strip().partition('\n')[0]
 
 
 def stamp_of(sources, command):

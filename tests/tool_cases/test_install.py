@@ -33,7 +33,8 @@ class Install(StandIn):
         for name in PARTS:
             (shutil.copytree if (TOP / name).is_dir() else shutil.copy)(TOP / name, self.path(folder, name))
         shutil.copy(self.fake, self.path(folder, 'program'))
-        shutil.copy(self.fake, self.path(folder, 'trace-program'))
+        with open(shutil.copy(self.fake, self.path(folder, 'trace-program')), 'a') as file:
+            file.write('# m51-trace\n')
         with open(self.path(folder, 'CERTIFICATE'), 'w') as file:
             file.write('# m51 0\n# commit abc\n# gate 9 passed, 0 failed\n')
             for name in ('README.md', 'm51', 'program', 'trace-program'):
@@ -52,7 +53,9 @@ class Install(StandIn):
         self.assertIn(f'the proved program {os.path.realpath(self.prefix)}/lib', said)
         self.assertIn(f'\nsha256 {sum_of(self.fake)}, that of the certificate\ncommit abc\ngate 9 passed, 0 failed\n',
                       said)
-        self.assertIn('lib/m51/trace-program', self.files())
+        trace, sum_of_trace = self.path('usr', 'lib', 'm51', 'trace-program'), sum_of(self.path('m51-0', 'trace-program'))
+        self.assertIn(f'\nm51-trace: the proved program {os.path.realpath(trace)}\n'
+                      f'm51-trace: sha256 {sum_of_trace}, that of the certificate\nverbs: ', said)
         self.assertEqual(self.call('gen', command=command, M51_UNPROVED='1')[0], 70)
         for name in INSTALLED:
             self.assertIn(name, self.files())
@@ -63,6 +66,9 @@ class Install(StandIn):
         said = self.call('--version', command=command)[1]
         self.assertIn(', WHICH IS NOT THAT OF THE CERTIFICATE\n', said)
         self.assertNotIn('commit', said)
+        shutil.copy(self.path('m51-0', 'program'), trace)
+        said = self.call('--version', command=command)[1]
+        self.assertIn(f'\nm51-trace: sha256 {sum_of(self.fake)}, WHICH IS NOT THAT OF THE CERTIFICATE\n', said)
         self.keep('usr/bin/other', 'stays')
         ran([install, '--remove', self.prefix], folder=self.folder)
         self.assertEqual(self.files(), ['bin/other'])

@@ -9,7 +9,7 @@ import tarfile
 from unittest import mock
 
 from stand_in import StandIn
-from support import PROGRAM, TOP, ran, sum_of
+from support import PROGRAM, TOP, ran, sources, sum_of
 
 sys.path.insert(0, str(TOP / 'tests'))
 import pages  # noqa: E402
@@ -22,6 +22,42 @@ WRITE_STAMP = (
     'sources.write_stamp(sources.stamp_of(sources.checksum(), sources.toolchain_command()), time.time_ns())')
 # Where nothing of the toolchain is.
 CLEAN_PATH = '/usr/bin:/bin'
+# A root of its own, in which only what the system has in /usr is there, and nothing in /usr/local: unpacks the release $2,
+# installs it, and types a page of it by the tests in $3.
+OWN_ROOT = """set -e
+mount -t tmpfs none "$1"
+cd "$1"
+for name in usr bin lib lib64 sbin; do
+    if [ -L "/$name" ]; then
+        cp -P "/$name" .
+    elif [ -d "/$name" ]; then
+        mkdir "$name"
+        mount --rbind "/$name" "$name"
+    fi
+done
+mount -t tmpfs none usr/local
+mkdir dev proc tmp home home/tests home/tests/tool_cases
+mount --rbind /dev dev
+mount --rbind /proc proc
+cp "$3"/pages "$3"/*.py home/tests
+cp "$3"/tool_cases/second_trace.py home/tests/tool_cases
+cp "$2" home/release.tar
+exec chroot . /bin/sh -ec '
+    cd /home
+    tar xf release.tar
+    m51-*/install
+    cp -R /usr/local/share/doc/m51/* .
+    rm -r m51-*
+    m51 --version
+    [ -e /usr/local/lib/m51/trace-program ] ||
+        export M51_PROGRAM=/usr/local/bin/m51 M51_TRACE=/home/tests/tool_cases/second_trace.py
+    tests/pages --m51 /usr/local/bin/m51 docs/TUTORIAL.md
+    ls -A / /usr/local
+    command -v rt || echo no rt
+'
+"""
+IN_OWN_ROOT = ('unshare', '--mount', '--propagation', 'private',
+               *(() if os.geteuid() == 0 else ('--user', '--map-root-user')), 'sh', '-c')
 
 
 class Checkout(StandIn):
@@ -48,10 +84,8 @@ class Checkout(StandIn):
 
     def pack(self, name, *options, status=0, **environment):
         """Packs a release; gives what is said of it."""
-        with open(TOP / 'VERSION') as file:
-            kit = file.read().splitlines()[1]
         return ran([self.path('top', 'tools', 'release'), *options, self.path(name)],
-                   env={**self.environment, 'VERSION': kit, **environment}, status=status)
+                   env={**self.environment, **environment}, status=status)
 
     def unpack(self, name):
         """Unpacks a tar, and gives the folder."""
@@ -63,8 +97,11 @@ class Release(Checkout):
     def setUp(self):
         super().setUp()
         self.fill()
-        self.proved = self.script('top/crates/m51/out/m51', '#!/bin/sh\n')
+        self.keep('top/crates.txt', 'm51: / m51_trace: m51')
+        self.commit()
         os.makedirs(self.path('top', 'crates', 'm51_trace', 'out'))
+        self.proved = self.script('top/crates/m51/out/m51', '#!/bin/sh\n')
+        self.trace = self.script('top/crates/m51_trace/out/m51_trace', '#!/bin/sh\nexit 3\n')
         self.keep('log', PASSED)
 
     def pack_proved(self, name, status=0, **environment):
@@ -88,25 +125,25 @@ class Release(Checkout):
         self.assertEqual(names, sorted(names))
         # Each file has its sum, but for the certificate itself.
         self.assertEqual({line[66:] for line in lines if line[0] != '#'} | {'CERTIFICATE'}, set(names))
-        for name in ('program', 'm51', 'install', 'tools/explain', 'docs/m51.1', 'editors/README.md',
+        for name in ('program', 'trace-program', 'm51', 'install', 'tools/explain', 'docs/m51.1', 'editors/README.md',
                      'completions/_m51'):
             self.assertIn(name, names)
-        self.assertNotIn('trace-program', names)
 
     def test_the_second_program(self):
-        self.keep('top/crates.txt', 'm51: / m51_trace: m51')
-        self.commit()
-        self.script('top/crates/m51/out/m51', '#!/bin/sh\n')
-        self.keep('log', PASSED)
-        self.script('top/crates/m51_trace/out/m51_trace', '#!/bin/sh\nexit 3\n')
         self.assertRegex(self.pack_proved('a.tar'), r'\ntrace-program [0-9a-f]{64}\n')
         ran([os.path.join(self.unpack('a.tar'), 'install'), self.path('usr')])
-        self.assertTrue(os.path.exists(self.path('usr', 'lib', 'm51', 'trace-program')))
+        self.assertEqual(sum_of(self.path('usr', 'lib', 'm51', 'trace-program')), sum_of(self.trace))
         os.makedirs(self.path('top', 'crates', 'm51_trace', 'src'))
         self.keep('top/crates/m51_trace/src/later.rt', 'fn later')
         os.utime(self.path('top', 'crates', 'm51_trace', 'src', 'later.rt'), (2**32, 2**32))
         self.commit()
         self.pack_proved('b.tar', status=1)
+        os.utime(self.path('top', 'crates', 'm51_trace', 'src', 'later.rt'), (5, 5))
+        self.script('top/crates/m51_trace/out/m51_trace', '#!/bin/sh\nexit 3\n')
+        self.pack_proved('b.tar')
+        os.remove(self.trace)
+        refused = self.call('--log', self.path('log'), self.path('c.tar'), command=self.path('top', 'tools', 'release'))
+        self.assertEqual(refused, (1, '', 'release: the proved program of m51_trace is not built\n'))
 
     def test_a_log_of_the_whole_gate(self):
         """Of the log of .ci/run the last line of `rt ci` is taken, and that of tests/run beside it."""
@@ -148,6 +185,17 @@ class CleanMachine(Checkout):
         shutil.copy(PROGRAM, self.unproved_path)
         ran([sys.executable, '-c', WRITE_STAMP], folder=self.path('top'), env=self.environment)
 
+    def pack_program(self, name):
+        """Packs the program that is tested as what it is: the proved one with m51-trace, if both are proved."""
+        trace = sources.proved(sources.TRACE)
+        if PROGRAM != sources.proved() or not trace:
+            return self.pack(name, '--unproved')
+        os.makedirs(self.path('top', 'crates', 'm51_trace', 'out'))
+        shutil.copy(PROGRAM, os.path.join(self.out, 'm51'))
+        shutil.copy(trace, self.path('top', 'crates', 'm51_trace', 'out', 'm51_trace'))
+        self.keep('log', PASSED)
+        return self.pack(name, '--log', self.path('log'))
+
     def test_an_unproved_release_says_so(self):
         said = self.pack('a.tar', '--unproved')
         self.pack('b.tar', '--unproved')
@@ -167,7 +215,7 @@ class CleanMachine(Checkout):
 
     def test_the_tutorial_to_its_end(self):
         self.assertIsNone(shutil.which('rt', path=CLEAN_PATH))
-        self.pack('a.tar', '--unproved')
+        self.pack_program('a.tar')
         shutil.rmtree(self.path('top'))
         environment = {'PATH': CLEAN_PATH, 'DESTDIR': self.path('root')}
         ran([os.path.join(self.unpack('a.tar'), 'install'), '/usr'], env=environment)
@@ -182,3 +230,19 @@ class CleanMachine(Checkout):
         path = f'{os.path.dirname(command)}:{CLEAN_PATH}'
         said = ran(['make', '-s'], folder=self.path('mine'), env={'PATH': path})
         self.assertTrue(said.endswith('link  shell.hex\n'), said)
+
+    def test_the_tutorial_in_a_root_of_its_own(self):
+        """Where the system lets this test make one."""
+        os.mkdir(self.path('root'))
+        words = [*IN_OWN_ROOT, 'mount -t tmpfs none "$0"', self.path('root')]
+        if not shutil.which('unshare') or subprocess.run(words, stderr=subprocess.DEVNULL).returncode:
+            self.skipTest('no root of its own can be made here')
+        # What is mounted must be seen there only, since the folder is removed.
+        self.assertFalse(os.path.ismount(self.path('root')))
+        self.pack_program('a.tar')
+        said = ran([*IN_OWN_ROOT, OWN_ROOT, 'sh', self.path('root'), self.path('a.tar'), TOP / 'tests'],
+                   env={'PATH': f'/usr/local/bin:/usr/sbin:{CLEAN_PATH}'})
+        self.assertIn(f'\nsha256 {sum_of(PROGRAM)}, that of the certificate\ncommit ', said)
+        self.assertIn('\ndocs/TUTORIAL.md: right\n1 passed, 0 failed\n', said)
+        self.assertTrue(said.endswith('\nno rt\n'), said)
+        self.assertNotIn('opt', said.split())

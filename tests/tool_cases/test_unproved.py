@@ -51,6 +51,8 @@ class Unproved(StandIn):
         self.script('bin/rt', TOOLCHAIN + '# moved\n')
         self.call(*GEN)
         self.assertEqual(self.compiled(), 2, 'the same toolchain')
+        with open(self.path('top', 'VERSION'), 'w') as file:
+            file.write('1.0\nkit 2\n')
         self.script('bin/rt', TOOLCHAIN + '# another one\n')
         self.call(*GEN, VERSION='kit 2')
         self.assertEqual(self.compiled(), 3, 'another toolchain')
@@ -59,16 +61,40 @@ class Unproved(StandIn):
         self.assertEqual(self.compiled(), 4, 'a source less')
 
     def test_another_kit(self):
-        """What the kit of VERSION compiled stays right beside another kit; another one is named before it compiles."""
-        with open(self.path('top', 'VERSION')) as file:
-            kit = file.read().splitlines()[1]
-        self.assertNotIn('these sources need', self.call(*GEN, VERSION=kit)[2])
+        """Another kit than that of VERSION compiles nothing, and one line says what to do; what the right one compiled
+        stays right beside it."""
+        refused = self.call(*GEN, VERSION='kit 9')
+        why = (f'm51: {self.path("bin", "rt")} is kit 9, and these sources need {self.kit()}: put the rt of that one first '
+               f'on the path, or try this one by {self.path("top", "tools", "unproved")} --any-kit\n')
+        self.assertEqual(refused, (70, '', why))
+        self.assertEqual((self.compiled(), self.left(), os.listdir(self.out)), (0, [], ['m51-unproved.lock']))
+        said = self.call(*GEN)[2]
+        self.assertEqual((self.compiled(), 'these sources need' in said), (1, False))
         self.script('bin/rt', TOOLCHAIN + '# another one\n')
         self.assertEqual(self.call(*GEN, VERSION='kit 9')[0], 0)
-        self.assertEqual(self.compiled(), 1)
         self.change_source('fn other')
-        self.assertIn(f'/bin/rt is kit 9, and these sources need {kit}\n', self.call(*GEN, VERSION='kit 9')[2])
+        self.assertEqual(self.call(*GEN, VERSION='kit 9')[0], 70)
+        self.assertEqual(self.compiled(), 1)
+
+    def test_another_kit_that_is_tried(self):
+        """A kit that is asked for by hand compiles, and its program is right until the kit of VERSION is there."""
+        unproved = self.path('top', 'tools', 'unproved')
+        status, _, said = self.call('--any-kit', command=unproved, VERSION='kit 9')
+        self.assertEqual((status, self.compiled()), (0, 1))
+        self.assertIn(f'/bin/rt is kit 9, and these sources need {self.kit()}\n', said)
+        self.assertEqual(self.call(*GEN, VERSION='kit 9')[0], 0)
+        self.assertEqual(self.compiled(), 1)
+        self.script('bin/rt', TOOLCHAIN + '# another one\n')
+        self.assertEqual(self.call(*GEN)[0], 0)
         self.assertEqual(self.compiled(), 2)
+
+    def test_an_rt_that_does_not_run(self):
+        for text in ('no program', '#!/no/such/file', '#!/bin/sh / exit 3'):
+            self.keep('bin/rt', text)
+            os.chmod(self.path('bin', 'rt'), 0o755)
+            status, text, said = self.call(*GEN)
+            self.assertEqual((status, text, said.count('\n')), (70, '', 1))
+            self.assertIn('/bin/rt is no rattle-kit, and these sources need ', said)
 
     def test_beside_a_proved_program(self):
         self.prove()

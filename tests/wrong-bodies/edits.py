@@ -108,18 +108,38 @@ def changes(path):
     return found
 
 
-def changed(folder, path):
-    """The files of the crate in a folder that an edit changes, with their new texts; ValueError says why it does not apply."""
-    texts = {}
-    found = changes(path)
-    if not found:
-        raise ValueError('has no file with a pair of lines')
-    for file, old, new in found:
+def places(folder, path):
+    """What an edit changes in the crate in a folder: for each pair of lines the file, where the old text begins and ends
+    there, and the new text. ValueError says why it does not apply."""
+    found = []
+    for file, old, new in changes(path):
         source = folder / file
         if not source.is_file():
             raise ValueError(f'names {file}, which is not there')
-        text = texts.get(file) or source.read_text(encoding='utf-8')
+        text = source.read_text(encoding='utf-8')
         if text.count(old) != 1:
             raise ValueError(f'changes a line that is there {text.count(old)} times: {old.strip()}')
-        texts[file] = text.replace(old, new)
+        start = text.index(old)
+        if meet(found, [(file, start, start + len(old), new)]):
+            raise ValueError(f'changes a text twice: {old.strip()}')
+        found.append((file, start, start + len(old), new))
+    if not found:
+        raise ValueError('has no file with a pair of lines')
+    return found
+
+
+def meet(some, others):
+    """Whether two of these places have a character in common."""
+    return any(file == other and start < last and first < end
+               for file, start, end, _ in some for other, first, last, _ in others)
+
+
+def changed(folder, *paths):
+    """The files of the crate in a folder that these edits change together, with their new texts. Each old text is looked
+    for in the crate's own text, not in what another edit writes there. ValueError says why one does not apply."""
+    texts = {}
+    # From the end of a file to its beginning, so that the places before a change stay what they are.
+    for file, start, end, new in sorted((place for path in paths for place in places(folder, path)), reverse=True):
+        text = texts.get(file) or (folder / file).read_text(encoding='utf-8')
+        texts[file] = text[:start] + new + text[end:]
     return texts

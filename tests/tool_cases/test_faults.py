@@ -1,0 +1,29 @@
+"""The faults that tests/broken plants: each can be planted, and names tests that are there."""
+import pathlib
+import unittest
+
+from support import TOP
+
+CASES = pathlib.Path(__file__).resolve().parent
+
+
+def names_of(suite):
+    """The names of the tests of a suite."""
+    for test in suite:
+        yield from names_of(test) if isinstance(test, unittest.TestSuite) else [test.id()]
+
+
+class Faults(unittest.TestCase):
+    def test_each_can_be_planted(self):
+        """The text of each is once in its file, what takes its place is another, and its tests exist."""
+        names = list(names_of(unittest.defaultTestLoader.discover(str(CASES), 'test_*.py')))
+        for paragraph in (CASES / 'faults.txt').read_text().strip().split('\n\n'):
+            with self.subTest(paragraph):
+                head, old, new = paragraph.split('\n')
+                file, *tests = head.split()
+                text, other = (line.partition(': ')[2].replace('\\n', '\n') for line in (old, new))
+                self.assertEqual((TOP / file).read_text().count(text), 1)
+                self.assertNotEqual(text, other)
+                self.assertTrue(tests)
+                for name in tests:
+                    self.assertTrue(any(name in it for it in names), name)

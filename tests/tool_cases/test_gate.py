@@ -1,0 +1,129 @@
+""".ci/run over a small repository of its own, with a stand-in for rt: what must end it with a status that is not 0."""
+import os
+import shutil
+import subprocess
+
+from support import TOP, Folder
+
+FILES = {
+    'VERSION': '1.0 / kit',
+    'CHANGELOG.md': '# Changes /  / ## 1.0',
+    'README.md': 'The toolchain is `kit`. /  / | `build` | builds |',
+    'crates/m51_sum/README.md': '# m51_sum',
+    'crates/m51_sum/src/sum.rt': 'fn add() { /     let sum = first + second; / } /  / fn other() { /     sum / }',
+    'crates/m51_sum/specs/Sum.antt': 'sum : Nat',
+    'crates/m51_sum/must-fail/carry.edit':
+        '# refused at: add / file: src/sum.rt / old: first + second / new: first + second + 1',
+    'tests/wrong-bodies/m51_sum/carry.twin': 'file: src/sum.rt / old: first + second / new: second + first',
+    'tests/wrong-bodies/README.md':
+        '# Wrong bodies /  / ## Planted by hand /  / | what | edit | refused at | / |---|---|---| / '
+        '| the sum | `carry` | `m51_sum`, `add` | /  / ## Planted by the tool /  / '
+        '| crate | functions | refused | let through | / |---|---|---|---| / | `m51_sum` | 1 | 1 | `other` |',
+    'docs/WHERE.md': '| E1 | the sum | `m51_sum` | `Sum`, `sum` | `sum`, `add` |',
+    'docs/m51.1': '.IP "E1" 4 / the sum / .B m51 build',
+    'docs/PROOFS.md': '| [m51_sum](a) | `sum::add` |',
+    'docs/COMMAND.md': '    m51 build a.a51',
+    'docs/CONTRIBUTING.md': '# How /  / ## Words /  / | not | but | as in | / |---|---|---| / | stands | is | it is |',
+    'docs/DECISIONS.md':
+        '- Choices: One choice /  / ## Choices /  / ### One choice /  / - **Chosen:** a / - **Because:** b / '
+        '- **Instead of:** c',
+    'tools/numbers.txt': 'E1  the sum /     cure: none',
+}
+LOG = 'rt: must-fail m51_sum/carry.edit: {} / rt: ok; all proved; must-fail edits: {} refused; done'
+REFUSED = 'refused, as it must be: src/sum.rt:2:5: not proved'
+
+
+class Gate(Folder):
+    def setUp(self):
+        super().setUp()
+        for name, text in FILES.items():
+            self.write(name, text)
+        shutil.copytree(TOP / '.ci', self.path('top', '.ci'))
+        for name in ('tests/markdown.py', 'tests/wrong-bodies/edits.py'):
+            shutil.copy(TOP / name, self.path('top', name))
+        self.log(REFUSED, 1)
+        self.script('bin/rt', 'cat "$0.log"; exit ${STATUS:-0}')
+        self.script('top/tests/run', 'echo "over $1"; exit ${TESTS:-0}')
+
+    def write(self, name, text):
+        os.makedirs(os.path.dirname(self.path('top', name)), exist_ok=True)
+        self.keep(f'top/{name}', text)
+
+    def script(self, name, text):
+        os.makedirs(os.path.dirname(self.path(name)), exist_ok=True)
+        self.keep(name, f'#!/bin/sh / {text}')
+        os.chmod(self.path(name), 0o755)
+
+    def log(self, answer, count):
+        """What rt says of the one edit, and how many were refused."""
+        os.makedirs(self.path('bin'), exist_ok=True)
+        self.keep('bin/rt.log', LOG.format(answer, count))
+
+    def gate(self, **environment):
+        """The status of .ci/run, and what it says."""
+        path = f'{self.path("bin")}:{os.environ["PATH"]}'
+        done = subprocess.run([self.path('top', '.ci', 'run')], env={**os.environ, 'PATH': path, **environment},
+                              stdout=subprocess.PIPE, stderr=subprocess.STDOUT)
+        return done.returncode, done.stdout.decode()
+
+    def assert_ends(self, line, status=1, **environment):
+        """The gate ends with that status before the tests, after a line that ends so."""
+        found, said = self.gate(**environment)
+        self.assertEqual(found, status, said)
+        self.assertTrue(any(it.endswith(line) for it in said.splitlines()), said)
+        self.assertNotIn('over --proved', said)
+
+    def test_nothing_is_wrong(self):
+        status, said = self.gate()
+        self.assertEqual(status, 0, said)
+        self.assertTrue(said.endswith('1 in the gate, 0 beside it, 1 twins; 0 faults\nover --proved\n'), said)
+        self.assertEqual(self.gate(TESTS='4')[0], 4)
+
+    def test_the_status_of_rt(self):
+        self.assert_ends('1 refused; done', status=3, STATUS='3')
+
+    def test_an_edit_that_does_not_compile(self):
+        """For `rt ci` such an edit counts for nothing."""
+        self.log('BAD EDIT: it did not reach the prover', 0)
+        self.assert_ends('m51_sum/carry.edit is not refused: BAD EDIT: it did not reach the prover')
+        self.log(REFUSED, 0)
+        self.assert_ends('rt ci refused 0 edits, and crates/*/must-fail has 1')
+
+    def test_an_edit_that_is_refused_elsewhere(self):
+        self.log('refused, as it must be: src/sum.rt:6:5: not proved', 1)
+        self.assert_ends(
+            'must be refused at add, and is refused at sum::other: refused, as it must be: src/sum.rt:6:5: not proved')
+
+    def test_an_edit_that_names_no_function(self):
+        name = 'crates/m51_sum/must-fail/carry.edit'
+        self.write(name, FILES[name].partition(' / ')[2])
+        self.assert_ends('carry.edit has no line "# refused at: FUNCTION", or several')
+        self.write(name, FILES[name].replace('add', 'other'))
+        self.assert_ends('carry.edit is refused at other, and changes sum::add')
+
+    def test_an_edit_without_a_twin(self):
+        os.remove(self.path('top', 'tests', 'wrong-bodies', 'm51_sum', 'carry.twin'))
+        self.assert_ends('crates/m51_sum/must-fail/carry.edit has no twin')
+
+    def test_a_twin_that_does_not_apply(self):
+        self.write('tests/wrong-bodies/m51_sum/carry.twin', 'file: src/sum.rt / old: third / new: third')
+        self.assert_ends('carry.twin changes a line that is there 0 times: third')
+
+    def test_a_row_that_is_gone(self):
+        self.write('docs/WHERE.md', '# Where each number is defined')
+        self.assert_ends('docs/WHERE.md: 0 rows for E1, and not 1')
+
+    def test_a_function_that_is_gone(self):
+        name = 'crates/m51_sum/src/sum.rt'
+        self.write(name, FILES[name].replace('fn add', 'fn sum'))
+        self.assert_ends('docs/WHERE.md: m51_sum/src/sum.rt has no function add')
+        self.write(name, FILES[name].replace('fn other', 'fn another'))
+        self.assert_ends('tests/wrong-bodies/README.md names other in the row of m51_sum, and no crate has it')
+
+    def test_a_definition_that_is_gone(self):
+        self.write('crates/m51_sum/specs/Sum.antt', 'add : Nat')
+        self.assert_ends('docs/WHERE.md: m51_sum/specs/Sum.antt does not define sum')
+
+    def test_a_word_of_the_list(self):
+        self.write('crates/m51_sum/README.md', 'It stands there.')
+        self.assert_ends('crates/m51_sum/README.md:1: "stands" is in the list of words')

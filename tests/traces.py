@@ -7,8 +7,8 @@ lines are those of the cases of m51_rows: what is answered, ` = `, and what goes
 - `write 3`: the third write to standard output fails, and only that; `room 10`: it has room for 10 bytes
 - `short`: each read gives one byte; `memory`: each growth of memory by itself is refused with all later ones
 
-The answer is `same`, a refusal with its status as `8 READ FAULT a.a51`, or `9 after 19 lines`: the first lines of
-`stdout`, and nothing after them. For `room` the text is cut at the byte. In no run is a file changed.
+The answer is `same`, a refusal with its status as `8 READ FAULT a.a51`, `9 after 19 lines`: the first lines of `stdout`,
+and nothing after them, or `9 cut`: as many bytes of it as there is room for. In no run is a file changed.
 
 The calls fail by failing.c, which is loaded before the program, so these need a C compiler; `room` needs prlimit. They
 are left out over the unproved program, which takes half a second for each.
@@ -19,6 +19,7 @@ import re
 import shutil
 import subprocess
 import tempfile
+import threading
 
 from running import IS_UNPROVED, SECONDS, TESTS, files_of
 
@@ -28,15 +29,16 @@ COMPILER, PRLIMIT = shutil.which(os.environ.get('CC', 'cc')), shutil.which('prli
 # What fails, as failing.c names it: the letter of the calls, and whether only one fails, or all later ones too.
 KINDS = {'start': ('s', 'once'), 'piece': ('p', 'on'), 'write': ('t', 'once'), 'short': ('p', 'short'),
          'memory': ('a', 'on')}
-MADE = []
+MADE, LOCK = [], threading.Lock()
 
 
 def shim():
     """The library that lets calls fail, compiled once."""
-    if not MADE:
-        MADE.append(tempfile.TemporaryDirectory())
-        words = [COMPILER, '-shared', '-fPIC', '-O1', '-o', f'{MADE[0].name}/failing.so', TESTS / 'failing.c']
-        subprocess.run(words, check=True)
+    with LOCK:
+        if not MADE:
+            MADE.append(tempfile.TemporaryDirectory())
+            words = [COMPILER, '-shared', '-fPIC', '-O1', '-o', f'{MADE[0].name}/failing.so', TESTS / 'failing.c']
+            subprocess.run(words, check=True)
     return f'{MADE[0].name}/failing.so'
 
 
@@ -71,11 +73,13 @@ def whole(case):
     return int((case / 'status').read_text()), (case / 'stdout').read_bytes()
 
 
-def wanted(case, text):
+def wanted(case, text, number):
     """What a row of `fails` says: the status and the text."""
     status, _, rest = text.partition(' ')
     if status == 'same':
         return whole(case)
+    if rest == 'cut':
+        return int(status), whole(case)[1][:number]
     after = re.fullmatch(r'after (\d+) lines', rest)
     lines = whole(case)[1].splitlines(True)
     return int(status), b''.join(lines[: int(after[1])]) if after else f'{rest}\n'.encode()
@@ -87,28 +91,24 @@ def run_differs(case):
     return wrong or (None if (status, text) == whole(case) else f'{status} {text[-200:]!r}')
 
 
-def roomless_differs(case, room):
-    """What differs where standard output has room for so many bytes, or nothing."""
-    status, text, _, wrong = run(case, before=[PRLIMIT, f'--fsize={room}'])
-    right = whole(case) if room >= len(whole(case)[1]) else (9, whole(case)[1][:room])
-    return wrong or (None if (status, text) == right else f'{status} {text[-200:]!r}')
-
-
 def failing_differs(job):
     """What differs where calls go wrong as a row of `fails` says, or nothing."""
     case, row = job
     right, what = row.split(' = ')
     kind, _, number = what.partition(' ')
-    if kind == 'room':
-        return roomless_differs(case, int(number))
-    numbers = range(1, run(case, settings('memory', 0))[2].count('a') + 1) if kind == 'memory' else [int(number or 1)]
+    numbers = [int(number or 1)]
+    if kind == 'memory':
+        numbers = range(1, run(case, settings(kind, 0))[2].count('a') + 1)
     for at in numbers:
-        status, text, calls, wrong = run(case, settings(kind, at))
-        if calls.count(KINDS[kind][0]) + (calls.count('q') if kind in ('piece', 'short') else 0) < at:
-            return f'{what} {at}: there are fewer calls'
-        if wrong or (status, text) != wanted(case, right):
+        if kind == 'room':
+            status, text, calls, wrong = run(case, before=[PRLIMIT, f'--fsize={at}'])
+        else:
+            status, text, calls, wrong = run(case, settings(kind, at))
+            if sum(calls.count(letter) for letter in ('pq' if KINDS[kind][0] == 'p' else KINDS[kind][0])) < at:
+                return f'{what}: there are fewer calls'
+        if wrong or (status, text) != wanted(case, right, at):
             return f'{what} {at}: {wrong or ""} {status} {text[-200:]!r}'
-    return None if numbers else 'there is no such call'
+    return None if numbers else f'{what}: there is no such call'
 
 
 def all_cases():

@@ -86,6 +86,8 @@ class Port(Folder):
         self.assertEqual(port.lines[:4], ['AREA_DSEG SEGMENT DATA', 'AREA_CSEG SEGMENT CODE', '        EXTRN NUMBER (_g)',
                                           '        PUBLIC _f'])
         self.assertEqual(port.before, 4)
+        port = dialects.ported('sdas', ' .area CSEG (CODE)\nxy: nop\nxY: nop')
+        self.assertEqual([(at, port.lines[at - 1]) for at, _ in port.left], [(4, 'xY: nop')])
 
     def test_kinds_of_areas(self):
         """Areas without content and those of names only are left out; bits are counted; globals of other modules stay so."""

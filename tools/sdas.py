@@ -40,9 +40,25 @@ class Areas:
         return re.sub(r'\bDS\b', 'DBIT', made) if self.kinds.get(self.now) == 'BIT' else made
 
 
+class Banks:
+    """The register bank to which AR0 to AR7 belong; sdas8051 has them as names with values."""
+
+    def __init__(self):
+        self.now = 0
+
+    def line(self, name, value):
+        """The line for a name of these with a value: USING where the bank changes."""
+        number = re.fullmatch(r'([0-9A-F]+)H', value)
+        bank, register = divmod(int(number[1], 16), 8) if number else (4, 0)
+        if bank > 3 or register != int(name[2]):
+            return f'{name} EQU {value}'
+        before, self.now = self.now, bank
+        return f'        USING {bank}' if bank != before else ''
+
+
 def sdas(port):
     """sdas8051: areas, globals, local labels; lines with the segments and the externals come first."""
-    scope, areas, values, taken, shared = 0, Areas(), {}, [], set()
+    scope, areas, banks, values, taken, shared = 0, Areas(), Banks(), {}, [], set()
     port.numbers()
     port.texts()
     port.replace('#(x >> 8) becomes #HIGH(x)', r'#\((.*) >> 8\)', r'#HIGH(\1)')
@@ -74,6 +90,8 @@ def sdas(port):
             return areas.begin(words)
         if words[1:2] == ['='] and len(words) > 2:
             values[words[0]] = words[2]
+            if re.fullmatch('AR[0-7]', words[0].upper()):
+                return banks.line(*words[::2][:2])
             return '' if words[0].upper() in PREDEFINED | RESERVED else f'{words[0]} EQU {words[2]}'
         made = outside(line, lambda part: re.sub(r'\b(\d{1,5})\$', lambda found: f'L{scope}_{found[1]}', part))
         # Other names with this sign are no local ones.

@@ -22,6 +22,8 @@ EDITS = (
     ('sdas', ' mov dptr,#(0x0A&0x00FF)', ' mov dptr,#(00AH AND 000FFH)'), ('sdas', ' sjmp 2$', ' sjmp L0_2'),
     ('sdas', 'L00101$:', 'L00101?:'), ('sdas', "to$: sjmp to$ ; '$'", "to?: sjmp to? ; '$'"),
     ('sdas', 'x: nop\ny$: sjmp 1$', 'x: nop\ny?: sjmp L2_1'), ('sdas', ' sjmp . ; 2.', ' sjmp $ ; 2.'),
+    ('sdas', 'ar7 = 0x0f', '        USING 1'),
+    ('sdas', 'ar7 = 0x0F\nar6 = 0x0e ; x\nar0 = 0x00\nar1 = 0x01', '        USING 1\n\n        USING 0\n'),
     ('sdas', " jb a.2,. + 3 ; '.'", " jb a.2,$ + 3 ; '.'"),
     ('sdas', "x: .db #0x1F,'#'", "x: DB 01FH,'#'"), ('sdas', ' mov a,#1', ' mov a,#1'),
     ('as31', 'list: nop', 'list: nop'), ('as31', ' .dw list', ' DW list'),
@@ -41,6 +43,7 @@ LEFT = (
     ('asem', ' DB 1\n ORG 0100H', None), ('asem', 'X EQU 1\n ORG 0000h ; reset', None),
     ('asem', "DB '\xfc'", 'a letter with an accent'),
     ('as31', ' .macro x', 'a directive with a dot'), ('asem', ' JMP @A+DPTR', 'a computed jump'),
+    ('sdas', 'ar7 = 0x10', 'ar7 is a word of the language'), ('sdas', 'ar0 = 0x20', 'ar0 is a word of the language'),
     ('sdas', 'xy: nop\nxY: nop', 'xY and xy are one name here'), ('sdas', 'xy: nop\nxz: nop', None),
     ('mcu8051ide', 'x idata 90h', 'a byte from 80H on'), ('asem', 'X: NOP ; a | b', None))
 

@@ -42,8 +42,8 @@ def shown(board, address):
 class States:
     """The lines of a run of a board."""
 
-    def __init__(self, board, with_ram):
-        self.board, self.with_ram, self.ram = board, with_ram, {}
+    def __init__(self, board, with_ram, first):
+        self.board, self.with_ram, self.first, self.ram = board, with_ram, first, {}
 
     def line(self, steps):
         """The line of the state after this number of steps."""
@@ -51,6 +51,8 @@ class States:
         registers = [f'{board.registers[it]:02X}' for it in (ACC, B, PSW, SP)]
         pointer = f'{board.registers[DPH]:02X}{board.registers[DPL]:02X}'
         fields = [str(steps), str(board.cycle), f'{board.pc:04X}', next_of(board), *registers, pointer, board.current()]
+        # The first line that is shown has all of internal RAM.
+        self.ram = {} if steps == self.first else self.ram
         return '\t'.join([*fields, *(self.more() if self.with_ram else [])])
 
     def more(self):
@@ -81,6 +83,6 @@ class States:
         yield f'{last} {self.board.cycle} CYCLES'
 
 
-def trace_of(told, image, script, steps, with_ram=False):
-    """The whole answer: the map up to RUN, and what comes after it."""
-    return [*told.splitlines(), *States(Board(told, image, script), with_ram).lines(steps)]
+def trace_of(told, image, script, steps, with_ram=False, first=0):
+    """The whole answer: the map up to RUN, and what comes after it; the first state that is shown has this number."""
+    return [*told.splitlines(), *States(Board(told, image, script), with_ram, first).lines(steps)]

@@ -48,8 +48,14 @@ def asem(port):
 
 
 def mcu8051ide(port):
-    """MCU 8051 IDE: other controls, escapes of C in texts, DATA for IDATA; macros and conditions stay."""
+    """MCU 8051 IDE: other controls, escapes of C in texts, DATA for IDATA, what is above the first ORG; macros and
+    conditions stay."""
     port.texts()
+    first = port.above_first_org()
+    if first:
+        port.lines[first - 1] = re.sub(r'(?i)\bORG\b', 'CSEG AT', port.lines[first - 1], count=1)
+        port.put_first('what is above the first ORG gets a segment: it is placed after all others', [
+            'ABOVE_ORG SEGMENT CODE', '        RSEG ABOVE_ORG'])
     port.rule('IDATA for a name of a byte becomes DATA', lambda line: re.sub(
         r'^(\w+\s+)idata\b', r'\1data', line, flags=re.I))
     for at in port.changed.get('IDATA for a name of a byte becomes DATA', []):

@@ -3,8 +3,10 @@
 What every dialect needs is here: texts, numbers, controls, names of registers, END (docs/PORTING.md).
 """
 import re
+import zlib
 
-from guesses import RESERVED
+from guesses import MOST_OF_NAME
+from reserved import MNEMONICS, RESERVED
 
 # A text in either kind of quotes, a comment, or what is between them.
 PIECE = re.compile(r'"[^"]*"|\'(?:\'\'|\\.|[^\'])*\'|;.*|[^"\';]+|["\']')
@@ -13,6 +15,12 @@ KNOWN_CONTROLS = ('INCLUDE', 'MOD51', 'NOMOD51', 'TITLE', 'LIST', 'NOLIST', 'DEB
                   'ELSE', 'ENDIF', 'SET', 'RESET')
 REGISTER = re.compile(r'\s*([A-Za-z_]\w*)\s+(?:EQU|REG|SET)\s+(R[0-7]|@R[01]|A|DPTR)\s*$', re.I)
 NAME = re.compile(r'[A-Za-z_?][\w?]*')
+# How much of a longer name is kept.
+BEGIN_OF_NAME = 24
+WITH_BYTES = re.compile(r'\s*(?:[\w?]+\s*:)?\s*(?:DB|DW|DS|' + '|'.join(MNEMONICS) + r')\b', re.I)
+ORG = re.compile(r'\s*(?:\w+:)?\s*ORG\b', re.I)
+BEGINS_BODY, ENDS_BODY = re.compile(r'\b(?:MACRO|REPT|IRPC?)\b', re.I), re.compile(r'\s*ENDM\b', re.I)
+BEGINS_SEGMENT = re.compile(r'\s*(?:[CDXIB]SEG|RSEG)\b', re.I)
 LEFT = (
     (re.compile(r'<<|>>|[|&~^]|!='), 'a sign for an operator: SHL, SHR, OR, AND, NOT, XOR, NE, HIGH(..), LOW(..)'),
     (re.compile(r'^\s*(?:\w+:)?\s*\.\w+'), 'a directive with a dot that has no rule'),
@@ -47,6 +55,14 @@ def quoted(text):
     return ','.join(ESCAPES.get(part) or f"'{part}'" for part in parts if part) or "''"
 
 
+def short_name(name):
+    """A name of at most 31 characters. Of a longer one these are its first 24, and six digits that are of the whole name,
+    so that it is the same in each source."""
+    if len(name) <= MOST_OF_NAME:
+        return name
+    return f'{name[:BEGIN_OF_NAME]}_{zlib.crc32(name.upper().encode()) & 0xFFFFFF:06X}'
+
+
 class Port:
     """A source that is ported: its lines, what was changed in which, and what is left to decide."""
 
@@ -54,6 +70,27 @@ class Port:
         self.lines = text.replace('\r\n', '\n').splitlines()
         # `before` counts the lines that come before the first of the source.
         self.changed, self.left, self.before = {}, [], 0
+
+    def put_first(self, what, head):
+        """Puts lines before all others."""
+        self.lines, self.before = head + self.lines, self.before + len(head)
+        for numbers in self.changed.values():
+            numbers[:] = [number + len(head) for number in numbers]
+        self.left = [(number + len(head), why) for number, why in self.left]
+        if head:
+            self.changed[what] = list(range(1, len(head) + 1))
+
+    def above_first_org(self):
+        """The place of the first ORG, if bytes are above it that no other line has placed; else 0."""
+        has_bytes, depth = False, 0
+        for at, line in enumerate(self.lines, 1):
+            depth += bool(BEGINS_BODY.search(code_of(line))) - bool(ENDS_BODY.match(line))
+            if ORG.match(line):
+                return at if has_bytes else 0
+            if BEGINS_SEGMENT.match(line):
+                return 0
+            has_bytes |= bool(not depth and WITH_BYTES.match(line))
+        return 0
 
     def rule(self, what, change):
         """Applies a rule to each line."""
@@ -73,6 +110,9 @@ class Port:
             '\xef\xbb\xbf', ''))
         self.rule('a comment becomes plain ASCII', lambda line: ''.join(
             part.encode('ascii', 'replace').decode() if part[0] == ';' else part for part in pieces(line)))
+        self.rule('a name of over 31 characters becomes 24 of them with six digits', lambda line: line if (
+            line.lstrip()[:1] == '$') else outside(
+                line, lambda part: re.sub(r'(?<![\w?])' + NAME.pattern, lambda found: short_name(found[0]), part)))
         self.rule('a control comes to the first column, or becomes a comment if m51 has none of it', self.control)
         self.registers()
         if not any(re.match(r'\s*(?:\w+:\s*)?END\b', code_of(line), re.I) for line in self.lines):
@@ -116,10 +156,13 @@ class Port:
 
     def decide(self):
         """Notes what is left for a person."""
-        places = [at for at, line in enumerate(self.lines, 1) if re.match(r'\s*(?:\w+:)?\s*ORG\b', line, re.I)]
+        places = [at for at, line in enumerate(self.lines, 1) if ORG.match(line)]
         if len(places) > 1:
             self.note(places[1], f'{len(places)} ORG: each begins a unit. Parts that jump to each other need `DS x-$`, '
                                  'and vectors of interrupts CSEG AT (PORTING, "ORG")')
+        above = self.above_first_org()
+        if above and re.search(r'(?i)\bORG\s+0+H?\s*$', code_of(self.lines[above - 1])):
+            self.note(above, 'the lines above have these addresses too (L9): one of both is elsewhere')
         for at, line in enumerate(self.lines, 1):
             code = code_of(line)
             for pattern, why in LEFT:
@@ -128,9 +171,6 @@ class Port:
             found = re.match(r'\s*([A-Za-z_?][\w?]*)\s*(?::|\b(?:EQU|SET|DATA|BIT)\b)', code, re.I)
             if found and found[1].upper() in RESERVED:
                 self.note(at, f'{found[1]} is a word of the language and can be no name')
-            long = next((name for name in NAME.findall(code) if len(name) > 31), None)
-            if long:
-                self.note(at, f'{long} has more than 31 characters')
             if not code.isascii() or any(not part.isascii() for part in pieces(line) if part[0] in '"\''):
                 self.note(at, 'a letter with an accent outside a comment')
 

@@ -70,6 +70,9 @@ WRITTEN = (
      'DB 3 / ENDIF / IF 0 / ELSEIFNDEF N / DB 4 / ENDIF', 'DB 1 / DB 2 / DB 3 / DB 4'),
     ('IF 0 / REPT 2 / ENDIF / ENDM / IRP X,1 / ENDIF / ENDM / ENDIF / NOP', 'NOP'),
     ('  $ IF (1) ; c / NOP / $ endif', 'NOP'),
+    # The most macros in each other.
+    ('R MACRO N / IF N / R %N-1 / ENDIF / DB N / ENDM / R 63',
+     ' / '.join(f'DB {at}' for at in range(64))),
     # Lines of the assembler.
     ('  $NOLIST / $TITLE(a) / $MOD51', '$NOLIST / $TITLE(a) / $MOD51'),
     ('NOP / END / IF', 'NOP / END'),
@@ -111,6 +114,7 @@ REFUSED = (
     ('M / M MACRO / ENDM', 1, 'NAME: M is used above its definition'),
     ('R MACRO / R / ENDM / R', 2,
      'LIMIT: R is more than 64 macros deep: does it call itself without an end? in R, called at'),
+    ('R MACRO N / IF N / R %N-1 / ENDIF / DB N / ENDM / R 64', 3, 'LIMIT: R is more than 64 macros deep'),
     ('REPT 60000 / ' + 6 * 'IF 0 / NOP / ENDIF / ' + 'ENDM', 1, 'LIMIT: REPT gives more than 1000000 lines'),
     ('REPT 60000 / REPT 60000 / NOP / ENDM / ENDM', 3,
      'LIMIT: this would be more than 65535 lines in REPT, called at'),

@@ -49,7 +49,8 @@ def counts(lines):
         elif words[0] != 'STEP':
             if before:
                 is_code = before[3].partition(' ')[0] not in ('VECTOR', 'IDLE')
-                row = (0, before[2], before[3]) if is_code else (1, before[3].partition(' ')[0], before[3])
+                row = (0, before[2], before[3]) if is_code else (
+                    1 + (before[3] == 'IDLE'), before[3].partition(' ')[0], before[3])
                 times[row] += 1
                 cycles[row] += int(words[1]) - int(before[1])
             before = words
@@ -78,7 +79,7 @@ def main():
         with open(words[words.index('--script') + 1]) as file:
             script = file.read()
     told, steps = text[: text.index('RUN\n') + 4], int(words[words.index('--steps') + 1])
-    lines = states.trace_of(told, image, script, steps, '--ram' in options)
+    lines = states.trace_of(told, image, script, steps, '--ram' in options, options.get('--from', 0))
     for line in counts(lines) if '--counts' in options else window(lines, options):
         print(line)
     sys.exit(int(lines[-1].startswith('EVENT')))

@@ -29,7 +29,7 @@ class Trace(Folder):
 
     def test_it_is_the_second_trace(self):
         for words, status in RUNS:
-            for options in ([], ['--ram'], ['--from', '2', '--to', '3'], ['--counts']):
+            for options in ([], ['--ram'], ['--from', '2', '--to', '3'], ['--ram', '--from', '2'], ['--counts']):
                 one, two = (ran([it, *options, *words], folder=EXAMPLES, status=status) for it in (TRACE, SECOND_TRACE))
                 self.assertEqual(one.splitlines(), two.splitlines(), (options, words))
 

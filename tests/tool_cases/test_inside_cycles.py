@@ -114,6 +114,13 @@ class Cycles(Folder):
         other = self.trace('c.txt', '--steps', '2', 'first.a51', folder=TUTORIAL)
         self.assertIn('maps differ', self.refused('cover', '--run', kept[0], '--run', other, 'calls.a51'))
 
+    def test_a_routine_that_only_a_call_shows(self):
+        """A call that did not run makes a routine of where it leads, which has no public label and begins no unit."""
+        self.keep('n.a51', 'CSEG AT 0 / SJMP $ / ?PR?N SEGMENT CODE / RSEG ?PR?N / NEVER: LCALL DEEP / RET / DEEP: RET / END')
+        text = tool('cover', '--steps', '1', 'n.a51', folder=self.folder)
+        self.assertIn('1 of 3 routines ran, not these:\n', text)
+        self.assertIn(' DEEP (?PR?N, n.a51(7))\n', text)
+
     def test_an_event_stops_before_its_line(self):
         text = tool('cover', '--steps', '300', 'main.a51', 'tick.a51', 'scale.a51', folder=TUTORIAL)
         self.assertIn('not: 24, 36-43\n', text)

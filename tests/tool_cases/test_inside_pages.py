@@ -77,6 +77,12 @@ class Pages(Folder):
         self.assertRegex(text, r'<tr class="not" id="line-main.a51-41"><td>41</td><td>0</td>')
         self.assertIn('#line-main.a51-36', found.links)
 
+    def test_signs_of_a_source(self):
+        """What has a meaning in HTML is written out."""
+        self.keep('a.a51', "CSEG AT 0 / SJMP $ ; <i> & 'x' / END")
+        text, _ = self.page('cover', '--steps', '1', self.path('a.a51'))
+        self.assertIn('SJMP $ ; &lt;i&gt; &amp; ', text)
+
     def test_report(self):
         text, found = self.page('report', '--title', 'A & B', *CURED, option='--out')
         for name in ('memory', 'units', 'stack', 'profile', 'cover', 'ports', 'sources', 'unit--PR-SHOW'):

@@ -1,0 +1,4 @@
+        CSEG AT 0
+        MOV  P1,#3
+        POP  ACC
+        END

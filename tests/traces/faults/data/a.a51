@@ -1,0 +1,2 @@
+MOV A,^
+MOV A,X

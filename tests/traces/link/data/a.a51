@@ -1,0 +1,3 @@
+EXTRN CODE (F)
+LJMP F
+END

@@ -1,0 +1,1 @@
+OVERLAY(@0000 > ?PR?MAIN)

@@ -13,7 +13,7 @@ use Rattle.m51_cells.specs.Outcome.{and_then}
 use Rattle.m51_control.specs.declared.control.Control.{Control}
 use Rattle.m51_inputs.specs.declared.error.SourceFaults.{SourceFaults}
 use Rattle.m51_inputs.specs.Files.{includes_of, source_words, sources_of}
-use Rattle.m51_inputs.specs.Inputs.{IsInputsAnswer, inputs_of}
+use Rattle.m51_inputs.specs.Inputs.{IsInputsAnswer, controls_in, inputs_of, script_in}
 use Rattle.m51_inputs.specs.Objects.{Linked, linked_by, linked_from, with_module}
 use Rattle.m51_inputs.specs.Sources.{AreAnswers, faults_in, modules_in, unless_faults}
 use Rattle.m51_jobs.specs.declared.endings.Ending.{Ending}
@@ -124,8 +124,8 @@ unfolding inputs_of
 answered names contents control file answers inputs n sourced linked h =
     on_value _ _ inputs _ (λ sources is.
     on_value _ _ inputs _ (λ found are.
-    on_value _ _ inputs _ (λ controls read.
-    on_value _ _ inputs _ (λ s ran last.
+    on_value (controls_in control) _ inputs _ (λ controls read.
+    on_value (script_in file) _ inputs _ (λ s ran last.
     subst (λ (i : InputsTree). length i.modules ≡ n) (ok_same _ (inputs_with found controls s) inputs refl last)
     (linked sources found (sourced sources is) are))))) h
 

@@ -73,13 +73,13 @@ class Symbols(Folder):
 
     def test_bytes_of_a_module_without_a_listing(self):
         """They are none of the line before."""
-        texts = ('NAME ONE / CSEG AT 0 / SJMP $ / END', 'NAME TWO / CSEG AT 2 / DB 1,2 / END')
+        texts = ('NAME ONE / CSEG AT 0 / SJMP $ / DB 1,2,3 / END', 'NAME TWO / CSEG AT 5 / DB 4,5 / END')
         for name, text in zip('ab', texts):
             said = ran([PROGRAM, 'asm', '--out', f'{name}.obj', self.keep(f'{name}.a51', text)], folder=self.folder)
             self.keep('a.lst', said.rstrip('\n')) if name == 'a' else None
         self.keep('m.map', build('--steps', '1', 'a.obj', 'b.obj', folder=self.folder))
         made = json.loads(self.symbols('json', ['a.obj', 'b.obj']))
-        self.assertEqual([it['bytes'] for it in made['lines']], ['80FE'])
+        self.assertEqual([it['bytes'] for it in made['lines']], ['80FE', '010203'])
 
     def test_real_lines(self):
         """The listing and the lines for debuggers are those of the source that was expanded."""

@@ -19,7 +19,7 @@ a { color: var(--link); text-decoration: none; } a:hover { text-decoration: unde
 table { border-collapse: collapse; margin: 1em 0; }
 td, th { padding: 1px 10px; text-align: right; white-space: pre; vertical-align: baseline; }
 td.t, th.t { text-align: left; }
-td.w { text-align: left; white-space: normal; max-width: 460px; }
+td.w { text-align: left; white-space: normal; max-width: 460px; } td.w a { white-space: nowrap; }
 td.t, td.w, code, pre { font-family: DejaVu Sans Mono, Menlo, Consolas, monospace; font-size: 12px; }
 th { border-bottom: 1px solid var(--grey); font-weight: normal; color: var(--grey); }
 td.bar { width: 160px; text-align: left; padding: 3px 4px; }

@@ -62,6 +62,25 @@ class Symbols(Folder):
         self.assertTrue(any(line.endswith(' 2  F: ACALL F') for line in lines), lines)
         self.assertEqual(lines[:2], ['MODULE ONE', 'FILE m0.a51'])
 
+    def test_near_jumps_to_another_module(self):
+        """Their distances are those of the HEX file too."""
+        part = 'PART SEGMENT CODE / RSEG PART'
+        files = self.link(f'NAME ONE / EXTRN CODE (G) / CSEG AT 0 / SJMP $ / {part} / JZ G / DJNZ R2,G / END',
+                          f'NAME TWO / PUBLIC G / {part} / NOP / G: SJMP G / END')
+        lines = self.symbols('lst', ['--hex', 'm.hex', *files]).splitlines()
+        self.assertIn('    7   0002 6003   2  JZ G', lines)
+        self.assertIn('    8   0004 DA01   2  DJNZ R2,G', lines)
+
+    def test_bytes_of_a_module_without_a_listing(self):
+        """They are none of the line before."""
+        texts = ('NAME ONE / CSEG AT 0 / SJMP $ / DB 1,2,3 / END', 'NAME TWO / CSEG AT 5 / DB 4,5 / END')
+        for name, text in zip('ab', texts):
+            said = ran([PROGRAM, 'asm', '--out', f'{name}.obj', self.keep(f'{name}.a51', text)], folder=self.folder)
+            self.keep('a.lst', said.rstrip('\n')) if name == 'a' else None
+        self.keep('m.map', build('--steps', '1', 'a.obj', 'b.obj', folder=self.folder))
+        made = json.loads(self.symbols('json', ['a.obj', 'b.obj']))
+        self.assertEqual([it['bytes'] for it in made['lines']], ['80FE', '010203'])
+
     def test_real_lines(self):
         """The listing and the lines for debuggers are those of the source that was expanded."""
         self.keep('m.inc', 'M MACRO X / MOV A,#X / RL A / ENDM / CSEG AT 0 / NOP')

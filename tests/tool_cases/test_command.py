@@ -241,8 +241,10 @@ class Command(StandIn):
         for number, word, status in (
                 (signal.SIGTERM, 'wait', -15), (signal.SIGHUP, 'wait', -1), (signal.SIGINT, 'wait', -2),
                 (signal.SIGINT, 'catch', 7)):
+            # Under nohup these tests would hand on that SIGHUP is ignored.
             job = subprocess.Popen(
-                [self.script_path, word], stdout=subprocess.PIPE, stderr=subprocess.DEVNULL, start_new_session=True)
+                [self.script_path, word], stdout=subprocess.PIPE, stderr=subprocess.DEVNULL, start_new_session=True,
+                preexec_fn=lambda: signal.signal(signal.SIGHUP, signal.SIG_DFL))
             self.assertEqual(job.stdout.readline(), b'started\n')
             if number == signal.SIGINT:
                 # As a terminal does.

@@ -1,16 +1,12 @@
 //! The program `m51-trace`: what happens inside a run of `m51 build`.
 #![tactic(auto)]
 
-mod paging;
 mod requests;
 mod top;
 mod words;
 
-use crate::paging::PageSink;
 use crate::top::trace;
-use m51_cells::NoMemory;
-use m51_chain::{DirShelf, NOT_TEXT, Status};
-use m51_shelf::Failed;
+use m51_chain::{DirShelf, NOT_TEXT, Status, StdSink};
 use std::env;
 use std::io::ErrorKind;
 use std::process::ExitCode;
@@ -30,20 +26,9 @@ fn main(rt: HostRuntime) -> ExitCode {
         ),
         Err(_) => return ExitCode::from(NOT_TEXT),
     }
+    let mut files = DirShelf::make(&rt);
+    let mut out = StdSink::make(&rt);
+    let status = trace(rt.alloc(), &words, &mut files, &mut out);
     // The variants of `Status` are in the order of their numbers.
-    ExitCode::from(run(&rt, &words) as u8)
-}
-
-// The trace, of which the end is written last.
-fn run(rt: &HostRuntime, words: &[String]) -> Status {
-    let mut files = DirShelf::make(rt);
-    let mut out = match PageSink::make(rt.alloc(), rt) {
-        Ok(out) => out,
-        Err(NoMemory) => return Status::Memory,
-    };
-    let told = trace(rt.alloc(), words, &mut files, &mut out);
-    match out.finish() {
-        Ok(()) => told,
-        Err(Failed) => Status::WriteFault,
-    }
+    ExitCode::from(status as u8)
 }

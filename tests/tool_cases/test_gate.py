@@ -29,8 +29,13 @@ FILES = {
         '- **Instead of:** c',
     'tools/numbers.txt': 'E1  the sum /     cure: none',
 }
-LOG = 'rt: must-fail m51_sum/carry.edit: {} / rt: ok; all proved; must-fail edits: {} refused; done'
+EDIT = 'rt: must-fail m51_sum/carry.edit: '
 REFUSED = 'refused, as it must be: src/sum.rt:2:5: not proved'
+# The last lines of `rt ci`: of a toolchain that proves everything in each run, and of one that keeps what passed.
+OK = 'rt: ok; handles allowed: none'
+KEPT = '; done in this run: 0 of the 1 proofs and 0 of the 1 edits; the others are kept'
+PASSED = '2 passed, 0 failed'
+ENDS = (f'{OK} / {PASSED}', f'{OK}; must-fail edits: 1 refused{KEPT} / {PASSED}')
 
 
 class Gate(Folder):
@@ -41,7 +46,7 @@ class Gate(Folder):
         shutil.copytree(TOP / '.ci', self.path('top', '.ci'))
         for name in ('tests/markdown.py', 'tests/wrong-bodies/edits.py'):
             shutil.copy(TOP / name, self.path('top', name))
-        self.log(REFUSED, 1)
+        self.log(EDIT + REFUSED)
         self.script('bin/rt', 'cat "$0.log"; exit ${STATUS:-0}')
         self.script('top/tests/run', 'echo "over $1"; exit ${TESTS:-0}')
 
@@ -54,10 +59,10 @@ class Gate(Folder):
         self.keep(name, f'#!/bin/sh / {text}')
         os.chmod(self.path(name), 0o755)
 
-    def log(self, answer, count):
-        """What rt says of the one edit, and how many were refused."""
+    def log(self, lines, end=ENDS[0]):
+        """What rt ci writes: lines on edits, and its last ones."""
         os.makedirs(self.path('bin'), exist_ok=True)
-        self.keep('bin/rt.log', LOG.format(answer, count))
+        self.keep('bin/rt.log', f'rt: m51_sum: trying its must-fail edits (1) / {lines} / {end}')
 
     def gate(self, **environment):
         """The status of .ci/run, and what it says."""
@@ -73,26 +78,58 @@ class Gate(Folder):
         self.assertTrue(any(it.endswith(line) for it in said.splitlines()), said)
         self.assertNotIn('over --proved', said)
 
+    def assert_each_ends(self, lines, *ends):
+        """The gate ends so after these lines on edits, whichever the toolchain is."""
+        for end in ENDS:
+            self.log(lines, end)
+            for line in ends:
+                self.assert_ends(line)
+
     def test_nothing_is_wrong(self):
-        status, said = self.gate()
-        self.assertEqual(status, 0, said)
-        self.assertTrue(said.endswith('1 in the gate, 0 beside it, 1 twins; 0 faults\nover --proved\n'), said)
+        for end in ENDS:
+            self.log(EDIT + REFUSED, end)
+            status, said = self.gate()
+            self.assertEqual(status, 0, said)
+            self.assertTrue(said.endswith('1 in the gate, 0 beside it, 1 twins; 0 faults\nover --proved\n'), said)
         self.assertEqual(self.gate(TESTS='4')[0], 4)
 
     def test_the_status_of_rt(self):
-        self.assert_ends('1 refused; done', status=3, STATUS='3')
+        self.assert_ends('2 passed, 0 failed', status=3, STATUS='3')
 
-    def test_an_edit_that_does_not_compile(self):
-        """For `rt ci` such an edit counts for nothing."""
-        self.log('BAD EDIT: it did not reach the prover', 0)
-        self.assert_ends('m51_sum/carry.edit is not refused: BAD EDIT: it did not reach the prover')
-        self.log(REFUSED, 0)
-        self.assert_ends('rt ci refused 0 edits, and crates/*/must-fail has 1')
+    def test_a_run_that_did_not_pass(self):
+        """Whatever its status is: each of these ends is of no run that passed."""
+        failed = 'rt: FAILED: m51_sum'
+        for end in ('rt: stopped', PASSED, OK, f'{OK} / 2 passed, 1 failed', f'{OK} / 0 passed, 0 failed',
+                    f'{PASSED} / {OK}', f'{OK} / {OK} / {PASSED}', f'{failed} / {PASSED}',
+                    f'{failed} / {OK} / {PASSED}'):
+            self.log(EDIT + REFUSED, end)
+            last = [line for line in end.split(' / ') if line.startswith(('rt: ok;', 'rt: FAILED'))]
+            said = last[-1] if last else 'it has no such line'
+            self.assert_ends(f'rt ci did not end with one line "rt: ok; .." and "N passed, 0 failed": {said}')
+
+    def test_another_count(self):
+        """Where the toolchain counts the refused edits, it must have counted those that have a line."""
+        for count in ('0 refused', '2 refused', '11 refused', '1 refused, 1 bad'):
+            self.log(EDIT + REFUSED, f'{OK}; must-fail edits: {count}{KEPT} / {PASSED}')
+            self.assert_ends(f'rt ci says "must-fail edits: {count}", and its lines refuse 1')
+
+    def test_an_edit_that_is_not_refused(self):
+        for told in ('NOT REFUSED: the crate is still proved with this edit', 'BAD EDIT: it did not reach the prover'):
+            self.assert_each_ends(EDIT + told, f'm51_sum/carry.edit is not refused: {told}')
+        self.assert_each_ends('rt: m51_sum proved', 'm51_sum/carry.edit is not refused: not tried')
+
+    def test_an_edit_with_two_lines(self):
+        self.assert_each_ends(f'{EDIT}{REFUSED} / {EDIT}{REFUSED}', 'm51_sum/carry.edit has 2 lines, and not one')
+
+    def test_an_edit_that_is_not_there(self):
+        self.assert_each_ends(f'{EDIT}{REFUSED} / rt: must-fail m51_sum/sign.edit: {REFUSED}',
+                              'm51_sum/sign.edit was tried, and crates/*/must-fail has no such edit')
 
     def test_an_edit_that_is_refused_elsewhere(self):
-        self.log('refused, as it must be: src/sum.rt:6:5: not proved', 1)
-        self.assert_ends(
-            'must be refused at add, and is refused at sum::other: refused, as it must be: src/sum.rt:6:5: not proved')
+        for told in ('refused, as it must be: src/sum.rt:6:5: not proved',
+                     'refused, as it must be: proofs/sum/other/Answers.antt:6:5: not proved'):
+            where = 'sum::other' if 'src' in told else 'other'
+            self.assert_each_ends(EDIT + told, f'must be refused at add, and is refused at {where}: {told}')
 
     def test_an_edit_that_names_no_function(self):
         name = 'crates/m51_sum/must-fail/carry.edit'

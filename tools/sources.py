@@ -62,9 +62,19 @@ def has_sources():
 
 
 def version():
-    """The version, and the name of the toolchain that it needs."""
+    """The version, and the toolchain that proved it: its name, and the sum of its logic."""
     with open(os.path.join(TOP, 'VERSION')) as file:
         return file.read().splitlines()[:2]
+
+
+def logic_of(toolchain):
+    """The sum of the logic of a toolchain, in the line that `rt version` writes; nothing if it names none."""
+    return toolchain.partition(' logic ')[2]
+
+
+def has_logic(toolchain):
+    """Whether a toolchain has the logic of the one that VERSION names: what one proves or compiles, the other does."""
+    return logic_of(toolchain) == logic_of(version()[1]) != ''
 
 
 def crates(program='m51'):
@@ -151,9 +161,19 @@ def stamp_of(sources, command):
     return [sources, toolchain_name(command), toolchain_place(command)]
 
 
+def stamp_file(crate):
+    """Where the stamp of an unproved program is kept."""
+    return kept_unproved(crate) + '.stamp'
+
+
+def compiled_by(crate='m51'):
+    """The toolchain that has compiled the unproved program, which is kept."""
+    return lines_of(stamp_file(crate))[1]
+
+
 def write_stamp(lines, time, crate='m51'):
     """Keeps a stamp, with the time from which on a source is newer than its program."""
-    stamp = kept_unproved(crate) + '.stamp'
+    stamp = stamp_file(crate)
     part = f'{stamp}.{os.getpid()}'
     with open(part, 'w') as file:
         file.write('\n'.join(lines) + '\n')
@@ -165,15 +185,11 @@ def is_current(crate='m51'):
     """Whether the unproved program that is kept is that of the sources and of the toolchain."""
     if is_program(os.path.join(TOP, f'{INSTALLED_AS[crate]}-unproved')):
         return True
-    program, stamp = kept_unproved(crate), kept_unproved(crate) + '.stamp'
-    if not is_program(program) or not os.path.isfile(stamp):
-        return False
-    with open(stamp) as file:
-        kept = file.read().splitlines()
-    if len(kept) != 3:
+    kept = lines_of(stamp_file(crate))
+    if not is_program(kept_unproved(crate)) or len(kept) != 3:
         return False
     command = toolchain_command()
-    time = os.stat(stamp).st_mtime_ns
+    time = os.stat(stamp_file(crate)).st_mtime_ns
     is_moved = command and toolchain_place(command) != kept[-1]
     if not is_moved and not newer(time, crate):
         return True
@@ -181,11 +197,11 @@ def is_current(crate='m51'):
     found = [checksum(crate), *(stamp_of('', command)[1:] if command else kept[1:])]
     if found[0] != kept[0]:
         return False
-    if found[1] != kept[1]:
-        # What the right toolchain compiled stays right beside another one.
-        return kept[1] == version()[1]
+    # What a toolchain of the right logic has compiled stays right beside another one.
+    if found[1] != kept[1] and not has_logic(kept[1]):
+        return False
     try:
-        write_stamp(found, max(time, now), crate)
+        write_stamp([found[0], kept[1], found[2]], max(time, now), crate)
     except OSError:
         # Where the folder may not be written, the next call asks for the checksum again.
         pass

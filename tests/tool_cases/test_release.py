@@ -129,6 +129,11 @@ class Release(Checkout):
                      'completions/_m51'):
             self.assertIn(name, names)
 
+    def test_a_kit_of_the_same_logic(self):
+        """The certificate names the one that has proved this program."""
+        self.assertIn(f'\nkit {self.kit()}\n', self.pack_proved('a.tar'))
+        self.assertIn(f'\nkit {self.same_logic()}\n', self.pack_proved('a.tar', VERSION=self.same_logic()))
+
     def test_the_second_program(self):
         self.assertRegex(self.pack_proved('a.tar'), r'\ntrace-program [0-9a-f]{64}\n')
         ran([os.path.join(self.unpack('a.tar'), 'install'), self.path('usr')])
@@ -159,7 +164,8 @@ class Release(Checkout):
             self.keep('log', text)
             self.pack_proved('a.tar', status=1)
         self.keep('log', PASSED)
-        self.pack_proved('a.tar', status=1, VERSION='another kit')
+        for kit in ('another kit', self.kit() + '9', 'kit logic '):
+            self.pack_proved('a.tar', status=1, VERSION=kit)
         self.keep('top/README.md', 'changed')
         self.pack_proved('a.tar', status=1)
         self.commit()
@@ -202,6 +208,7 @@ class CleanMachine(Checkout):
         self.assertEqual(sum_of(self.path('a.tar')), sum_of(self.path('b.tar')))
         self.assertIn('\ngate none: this program is not proved, and is for tests only\n', said)
         self.assertIn(f'\nprogram-unproved {sum_of(PROGRAM)}\n', said)
+        self.assertIn(f'\nkit {self.kit()}\n', said)
         folder = self.unpack('a.tar')
         self.assertTrue(folder.endswith('-unproved'))
         ran([os.path.join(folder, 'install'), self.path('usr')])

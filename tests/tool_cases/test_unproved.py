@@ -52,40 +52,68 @@ class Unproved(StandIn):
         self.call(*GEN)
         self.assertEqual(self.compiled(), 2, 'the same toolchain')
         with open(self.path('top', 'VERSION'), 'w') as file:
-            file.write('1.0\nkit 2\n')
+            file.write('1.0\nkit 2 logic 2\n')
         self.script('bin/rt', TOOLCHAIN + '# another one\n')
-        self.call(*GEN, VERSION='kit 2')
+        self.call(*GEN, VERSION='kit 2 logic 2')
         self.assertEqual(self.compiled(), 3, 'another toolchain')
         os.remove(self.path('top', 'crates', 'm51', 'src', 'main.rt'))
-        self.call(*GEN, VERSION='kit 2')
+        self.call(*GEN, VERSION='kit 2 logic 2')
         self.assertEqual(self.compiled(), 4, 'a source less')
 
     def test_another_kit(self):
-        """Another kit than that of VERSION compiles nothing, and one line says what to do; what the right one compiled
-        stays right beside it."""
-        refused = self.call(*GEN, VERSION='kit 9')
-        why = (f'm51: {self.path("bin", "rt")} is kit 9, and these sources need {self.kit()}: put the rt of that one first '
-               f'on the path, or try this one by {self.path("top", "tools", "unproved")} --any-kit\n')
-        self.assertEqual(refused, (70, '', why))
+        """A kit of another logic than that of VERSION compiles nothing, and one line says what to do; what the right one
+        compiled stays right beside it."""
+        for kit in ('kit 9', 'kit 9 logic 9', self.kit() + '9', self.kit().partition(' ')[0], 'kit logic '):
+            why = (f'm51: {self.path("bin", "rt")} is {kit.strip()}, and these sources need one with the logic of '
+                   f'{self.kit()}: put its rt first on the path, or try this one by '
+                   f'{self.path("top", "tools", "unproved")} --any-kit\n')
+            self.assertEqual(self.call(*GEN, VERSION=kit), (70, '', why))
         self.assertEqual((self.compiled(), self.left(), os.listdir(self.out)), (0, [], ['m51-unproved.lock']))
         said = self.call(*GEN)[2]
         self.assertEqual((self.compiled(), 'these sources need' in said), (1, False))
-        self.script('bin/rt', TOOLCHAIN + '# another one\n')
-        self.assertEqual(self.call(*GEN, VERSION='kit 9')[0], 0)
+        for number, kit in enumerate(('kit 9', self.kit(), 'kit 9')):
+            self.script('bin/rt', TOOLCHAIN + f'# another one {number}\n')
+            self.assertEqual((self.call(*GEN, VERSION=kit)[0], self.compiled()), (0, 1))
         self.change_source('fn other')
         self.assertEqual(self.call(*GEN, VERSION='kit 9')[0], 70)
         self.assertEqual(self.compiled(), 1)
 
+    def test_a_kit_of_the_same_logic(self):
+        """It is as good as the one of VERSION, which is named where it compiles; what it compiled stays right."""
+        kit, moved = self.same_logic(), TOOLCHAIN + '# another one\n'
+        status, text, said = self.call(*GEN, VERSION=kit)
+        self.assertEqual((status, text, self.compiled()), (0, 'm51-unproved gen --units 1 --start 1 --steps 1\n', 1))
+        named = f'm51: {kit} compiles what {self.kit().partition(" ")[0]} has proved: its logic is the same\n'
+        self.assertEqual((said.count(named), said.count('is the same')), (1, 1))
+        self.assertNotIn('is the same', self.call(*GEN, VERSION=kit)[2])
+        self.script('bin/rt', moved)
+        status, _, said = self.call(*GEN)
+        self.assertEqual((status, self.compiled(), said.count('\n')), (0, 1, 1))
+        self.change_source('fn other')
+        self.assertNotIn('is the same', self.call(*GEN)[2])
+        self.assertEqual(self.compiled(), 2)
+
+    def test_what_another_kit_is_asked_once(self):
+        """Where the kit has changed and its program stays right, the next call does not ask for its name again."""
+        self.call(*GEN)
+        self.script('bin/rt', TOOLCHAIN + '# another one\n')
+        for kit in (self.same_logic(), 'kit 9 logic 9'):
+            os.remove(self.environment['CALLS'])
+            self.assertEqual([self.call(*GEN, VERSION=kit)[0] for _ in range(3)], [0, 0, 0])
+            with open(self.environment['CALLS']) as file:
+                self.assertEqual(file.read(), 'version\n')
+            self.script('bin/rt', TOOLCHAIN + '# a third one\n')
+
     def test_another_kit_that_is_tried(self):
-        """A kit that is asked for by hand compiles, and its program is right until the kit of VERSION is there."""
+        """A kit that is asked for by hand compiles, and its program is right until a kit of the right logic is there."""
         unproved = self.path('top', 'tools', 'unproved')
         status, _, said = self.call('--any-kit', command=unproved, VERSION='kit 9')
         self.assertEqual((status, self.compiled()), (0, 1))
-        self.assertIn(f'/bin/rt is kit 9, and these sources need {self.kit()}\n', said)
+        self.assertIn(f'/bin/rt is kit 9, and these sources need one with the logic of {self.kit()}\n', said)
         self.assertEqual(self.call(*GEN, VERSION='kit 9')[0], 0)
         self.assertEqual(self.compiled(), 1)
         self.script('bin/rt', TOOLCHAIN + '# another one\n')
-        self.assertEqual(self.call(*GEN)[0], 0)
+        self.assertEqual(self.call(*GEN, VERSION=self.same_logic())[0], 0)
         self.assertEqual(self.compiled(), 2)
 
     def test_an_rt_that_does_not_run(self):
@@ -94,7 +122,7 @@ class Unproved(StandIn):
             os.chmod(self.path('bin', 'rt'), 0o755)
             status, text, said = self.call(*GEN)
             self.assertEqual((status, text, said.count('\n')), (70, '', 1))
-            self.assertIn('/bin/rt is no rattle-kit, and these sources need ', said)
+            self.assertIn('/bin/rt is no rattle-kit, and these sources need one with the logic of ', said)
 
     def test_beside_a_proved_program(self):
         self.prove()

@@ -2,7 +2,7 @@
 ghost use Rattle.std.specs.Prelude.{◌≡◌, [], IfOk, Some, true, map};
 ghost use Rattle.std.specs.Char.{to_ascii_uppercase};
 ghost use Rattle.m51_cells.specs.Name.{is_name, title_at, IsWritten};
-ghost use Rattle.m51_object_cases.specs.Sample.{code, overlaid, field, sample_layout, sample_module, public_module};
+ghost use Rattle.m51_cases.specs.Sample.{code, overlaid, field, sample_layout, sample_module, public_module};
 
 use m51_cells::{Base, Bytes, Kind, ListOf, Name, NoMemory, Reloc};
 use m51_module::{

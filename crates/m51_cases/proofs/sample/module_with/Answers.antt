@@ -1,14 +1,14 @@
 use Rattle.std.proofs.Common.{◌≡◌, ℕ, List, [], ◌∷◌, rules}
 use Rattle.m51_cells.specs.Name.{IsWritten}
-use Rattle.m51_object_cases.specs.Sample.{number_public}
+use Rattle.m51_cases.specs.Sample.{number_public}
 use Rattle.m51_module.specs.Validity.{IsValid}
 use Rattle.m51_module.specs.declared.content.Fixup.{Fixup}
 use Rattle.m51_module.specs.declared.content.Piece.{Piece}
 use Rattle.m51_module.specs.declared.segment.Segment.{Segment}
 use Rattle.m51_module.specs.declared.symbol.External.{External}
 use Rattle.m51_module.specs.declared.symbol.Public.{Public}
-use Rattle.m51_object_cases.proofs.SamplePublic.{public_alone}
-use Rattle.m51_object_cases.proofs.sample.module_with.Goals as goal
+use Rattle.m51_cases.proofs.SamplePublic.{public_alone}
+use Rattle.m51_cases.proofs.sample.module_with.Goals as goal
 
 with_parts : (name public : List ℕ) (segments : List Segment) (publics : List Public) (externals : List External)
     (pieces : List Piece) (fixups : List Fixup)

@@ -4,11 +4,11 @@ use Rattle.m51_cells.specs.Name.{IsWritten}
 use Rattle.m51_module.specs.declared.segment.Segment.{Segment}
 use Rattle.m51_module.specs.declared.symbol.External.{External}
 use Rattle.m51_module.specs.declared.symbol.Public.{Public}
-use Rattle.m51_object_cases.specs.Sample.{number_public, public_module}
+use Rattle.m51_cases.specs.Sample.{number_public, public_module}
 use Rattle.m51_module.specs.Validity.{IsValid, IsSegmentValid, IsPublicValid, IsPieceValid, IsFixupValid, FieldBefore}
 use Rattle.m51_module.specs.Validity.{Differ, LiesBefore}
 use Rattle.m51_cells.proofs.Small.{all_one, pairs_none}
-use Rattle.m51_object_cases.proofs.SampleModule.{pairs_one}
+use Rattle.m51_cases.proofs.SampleModule.{pairs_one}
 
 -- what is asked of each item holds in the empty list
 pub all_none : {X : Type 0} (P : X → Type 0) → All P []

@@ -1,7 +1,7 @@
 //! Boards of one unit.
 ghost use Rattle.std.specs.Prelude.{◌≡◌, ◌<◌, ◌≤◌, [], IfOk, length};
 ghost use Rattle.m51_cells.specs.Name.{title_at};
-ghost use Rattle.m51_machine_cases.specs.OneUnit.{one_unit};
+ghost use Rattle.m51_cases.specs.OneUnit.{one_unit};
 ghost use Rattle.m51_sim.specs.Boards.{IsStarted};
 
 use m51_cells::{Kind, ListOf, Name, NoMemory, Reloc};

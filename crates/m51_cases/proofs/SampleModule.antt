@@ -6,8 +6,8 @@ use Rattle.m51_module.specs.declared.parts.ModuleParts.{ModuleParts}
 use Rattle.m51_module.specs.declared.segment.Segment.{Segment}
 use Rattle.m51_module.specs.declared.symbol.External.{External}
 use Rattle.m51_module.specs.declared.symbol.Public.{Public}
-use Rattle.m51_object_cases.specs.Sample.{field, code_segment, data_segment, byte_public, byte_external, mov_piece}
-use Rattle.m51_object_cases.specs.Sample.{sample_module}
+use Rattle.m51_cases.specs.Sample.{field, code_segment, data_segment, byte_public, byte_external, mov_piece}
+use Rattle.m51_cases.specs.Sample.{sample_module}
 use Rattle.m51_module.specs.Validity.{IsValid, IsSegmentValid, IsPublicValid, IsPieceValid, IsFixupValid, IsHeld}
 use Rattle.m51_module.specs.Validity.{FieldBefore, BeforeIn, Differ, LiesBefore}
 use Rattle.m51_cells.specs.Name.{IsWritten}

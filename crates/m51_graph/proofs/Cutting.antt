@@ -6,7 +6,7 @@ use Rattle.m51_graph.proofs.Common.{units_of}
 use Rattle.std.proofs.Math.Bool.{or_comm}
 use Rattle.std.specs.Prelude.{IfSome}
 use Rattle.std.proofs.lemmas.List.Folds.{list_any_more}
-use Rattle.m51_graph.specs.Conditions.{IsEdgeWithin}
+use Rattle.m51_graph.specs.DrawnEdges.{IsEdgeWithin}
 use Rattle.m51_graph.specs.Locals.{keeps_apart}
 use Rattle.m51_graph.proofs.Within.{EdgeWithin, fixup_within, named_within, titles_are}
 

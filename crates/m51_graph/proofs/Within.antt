@@ -15,17 +15,15 @@ use Rattle.std.proofs.lemmas.List.{length-map}
 use Rattle.std.proofs.lemmas.List.Elements.{Contains-append_cases}
 use borrow.Author.Tests.{ltb-true}
 use Rattle.m51_cells.specs.declared.kind.Base.{Base}
-use Rattle.m51_cells.specs.declared.kind.Base.TheVariants.{None as NoBase, Segment as InSegment, External as OfExternal}
+use Rattle.m51_cells.specs.declared.kind.Base.TheVariants.{Segment as InSegment}
 use Rattle.m51_cells.specs.Kinds.{is_absolute, is_code}
 use Rattle.m51_control.specs.declared.control.Control.TheVariants.{Add, Cut, NoOverlay, Reserve, Order}
-use Rattle.m51_resolve.specs.Publics.{public_of}
+use Rattle.m51_resolve.specs.Referents.{referent}
 use Rattle.m51_graph.specs.Drawing.{edge_between}
 use Rattle.m51_graph.specs.Drawing.{edges_of}
-use Rattle.m51_graph.specs.Targets.{unit_with, public_unit, public_base, target_unit}
 use Rattle.m51_graph.specs.Graphs.{parts_of}
 use Rattle.m51_graph.specs.Locals.{own_name, own_unit, own_units, unless_apart}
-use Rattle.m51_graph.specs.Units.{is_root, roots_from}
-use Rattle.m51_graph.specs.Units.{roots_of}
+use Rattle.m51_graph.specs.Units.{is_root, roots_from, roots_of, unit_of}
 
 -- there are as many titles as units
 pub count_units : (number : ℕ) (segments : List JoinedSegment) → length (units_from number segments)
@@ -138,25 +136,18 @@ module _ (modules : List ModuleParts) where
   abbrev count : ℕ
   count = length (unit_titles (segments_of modules))
 
-  unit_below : (m s : ℕ) → Below count (unit_with modules m s)
-  unit_below m s =
-      subst (λ n. Below n (unit_with modules m s)) (sym (titles_are (segments_of modules)))
-      (position_below _ (units_of (segments_of modules)))
+  part_below : (part : Option (ℕ × ℕ))
+      → Below count (option_and_then (λ (p : ℕ × ℕ). position (nat_eq p.0) (units_of (segments_of modules))) part)
+  part_below None = tt
+  part_below (Some part) =
+      rw (titles_are (segments_of modules)) (position_below (nat_eq part.0) (units_of (segments_of modules)))
 
-  public_below : (m : ℕ) (base : Base) → Below count (public_unit modules m base)
-  public_below m NoBase = tt
-  public_below m (InSegment s) = unit_below m s
-  public_below m (OfExternal e) = tt
-
-  target_below : (m : ℕ) (target : Base) → Below count (target_unit modules m target)
-  target_below m NoBase = tt
-  target_below m (InSegment s) = unit_below m s
-  target_below m (OfExternal e) =
-      public_below (public_of modules m e).0 (public_base modules (public_of modules m e).0 (public_of modules m e).1)
+  unit_below : (m : ℕ) (base : Base) → Below count (unit_of modules m base)
+  unit_below m base = part_below (referent modules m base).part
 
   pub fixup_within : (m : ℕ) (f : Fixup)
       → EdgeWithin (length (unit_titles (segments_of modules))) (fixup_edge modules m f)
-  fixup_within m f = between_within count _ _ (unit_below m f.segment) (target_below m f.target)
+  fixup_within m f = between_within count _ _ (unit_below m (InSegment f.segment)) (unit_below m f.target)
 
   module_within : (m : ℕ) → LeadWithin count (module_edges modules m)
   module_within m =

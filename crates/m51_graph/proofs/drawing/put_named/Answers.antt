@@ -1,6 +1,6 @@
 use Rattle.m51_graph.proofs.Common.{◌||◌, ℕ, List, Option, length, sym, ap, subst, ◌∙◌, edge_named, is_edge, pairs}
 use Rattle.std.specs.Prelude.{IfSome}
-use Rattle.m51_graph.specs.Conditions.{IsEdgeWithin}
+use Rattle.m51_graph.specs.DrawnEdges.{IsEdgeWithin}
 use Rattle.m51_graph.proofs.Cutting.{names_more, named_there}
 use Rattle.m51_graph.proofs.drawing.put_named.Goals as goal
 

@@ -49,7 +49,8 @@ reference_is : (names : Meanings) (at : Field) (next : ℕ) (v : Value) (r : Ref
 reference_is names field.Rel next v r h =
     referred (is_current names v.base) (is_linked names v.base) (stands_absolute names) (rel_of next (counted v))
     (reference_of names field.Rel v) r
-    (no_reference (is_near (distance next (counted v))) (distance next (counted v) % 256) (reference_of names field.Rel v) r)
+    (no_reference (is_near (distance next (counted v))) (distance next (counted v) % 256)
+    (reference_of names field.Rel v) r)
     h
 reference_is names field.Addr11 next v r h =
     referred false (is_linked names v.base) (stands_absolute names) (addr11_of next (counted v))

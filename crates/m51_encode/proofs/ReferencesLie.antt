@@ -57,7 +57,8 @@ kind_by : (names : Meanings) (at : Field) (v : Value) (byte : ℕ) (o : Option F
     → ((r : Reference) → o ≡ Some (Linked r) → reference_of names at v ≡ r)
     → of_field byte o ≡ ok held → IfSome held.reference (λ r. r ≡ reference_of names at v)
 kind_by names at v byte (Some (Number n)) held go h =
-    subst (λ (x : Held). IfSome x.reference (λ r. r ≡ reference_of names at v)) (ok_is (held_at byte (Number n)) held h) tt
+    subst (λ (x : Held). IfSome x.reference (λ r. r ≡ reference_of names at v)) (ok_is (held_at byte (Number n)) held h)
+    tt
 kind_by names at v byte (Some (Linked r)) held go h =
     subst (λ (x : Held). IfSome x.reference (λ r. r ≡ reference_of names at v)) (ok_is (held_at byte (Linked r)) held h)
     (sym (go r refl))

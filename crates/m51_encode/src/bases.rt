@@ -1,7 +1,8 @@
 //! How the base of a value relates to the segment of the statement.
 ghost use Rattle.std.specs.Prelude.{◌≡◌};
 ghost use Rattle.m51_expr.specs.Located.{base_by, origin_base};
-ghost use Rattle.m51_encode.specs.Bases.{same_segment, is_current, stands_absolute, object_base, is_numbered, is_linked};
+ghost use Rattle.m51_encode.specs.Bases.{same_segment, is_current, stands_absolute, object_base, is_numbered};
+ghost use Rattle.m51_encode.specs.Bases.{is_linked};
 
 use m51_cells::Base;
 use m51_expr::{Origin, Places, SegmentNumber, is_absolute_origin, is_unplaced_origin};

@@ -7,7 +7,7 @@ ghost use Rattle.m51_encode.specs.Bases.{is_linked};
 use m51_cells::Base;
 use m51_expr::{Origin, Places, SegmentNumber, is_absolute_origin, is_unplaced_origin};
 
-/// What names and the place of a statement mean whose bytes are wanted, and the numbers of the segments in the object.
+/// What names and the place of a statement that gives bytes mean, and the numbers of the segments in the object.
 ///
 /// Source: own choice ("Numbers of segments in values").
 pub trait Numbered: Places<u32> {

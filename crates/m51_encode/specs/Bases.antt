@@ -1,8 +1,8 @@
 -- How the base of a value is related to the segment of the statement.
-use Rattle.std.specs.Prelude.{◌==◌, Bool, false, not, ◌&&◌, ◌||◌}
+use Rattle.std.specs.Prelude.{◌==◌, Bool, true, false, not, ◌&&◌}
 use Rattle.m51_cells.specs.declared.kind.Base.{Base}
 use Rattle.m51_cells.specs.declared.kind.Base.TheVariants.{None, Segment, External}
-use Rattle.m51_expr.specs.Meanings.{Meanings, is_absolute_base, is_unplaced}
+use Rattle.m51_expr.specs.Meanings.{Meanings, is_absolute_base}
 
 -- two segments that are one
 abbrev pub same_segment : Base → Base → Bool
@@ -23,12 +23,9 @@ object_base names None = None
 object_base names (Segment s) = Segment (names.number s)
 object_base names (External n) = External n
 
--- a segment that the object has; it has no absolute one without a byte
-abbrev pub is_numbered : Meanings → Base → Bool
-is_numbered names (Segment s) = not (names.number s == 0)
-is_numbered names base = false
-
--- The linker adds the base: it is relocatable or external, or another absolute segment that has a number. Any other
--- value counts as a number.
+-- The linker adds the base: an external, or a segment that is relocatable or other than that of the statement. Any other
+-- value counts as a number, also one of a segment that the object does not have, an absolute one without a byte.
 abbrev pub is_linked : Meanings → Base → Bool
-is_linked names base = is_unplaced names base || (is_numbered names base && not (is_current names base))
+is_linked names None = false
+is_linked names (Segment s) = not (names.number s == 0) && not (names.fixed s && is_current names (Segment s))
+is_linked names (External n) = true

@@ -1,11 +1,10 @@
 //! How the base of a value relates to the segment of the statement.
 ghost use Rattle.std.specs.Prelude.{◌≡◌};
 ghost use Rattle.m51_expr.specs.Located.{base_by, origin_base};
-ghost use Rattle.m51_encode.specs.Bases.{same_segment, is_current, stands_absolute, object_base, is_numbered};
-ghost use Rattle.m51_encode.specs.Bases.{is_linked};
+ghost use Rattle.m51_encode.specs.Bases.{same_segment, is_current, stands_absolute, object_base, is_linked};
 
 use m51_cells::Base;
-use m51_expr::{Origin, Places, SegmentNumber, is_absolute_origin, is_unplaced_origin};
+use m51_expr::{Origin, Places, SegmentNumber, is_absolute_origin};
 
 /// What names and the place of a statement that gives bytes mean, and the numbers of the segments in the object.
 ///
@@ -40,16 +39,6 @@ pub(crate) fn stands_absolute<S: SegmentNumber, P: Places<S>>(names: &P) -> bool
     is_absolute_origin(names, names.here().origin)
 }
 
-// Whether the origin is a segment that the object has.
-fn is_numbered<N: Numbered>(names: &N, origin: Origin<u32>) -> bool
-    ensures { result ≡ is_numbered (N.meanings names.now) (origin_base origin) }
-{
-    match origin {
-        Origin::Segment(segment) => names.number(segment) != 0,
-        Origin::None | Origin::External(_) => false,
-    }
-}
-
 /// The base in the object.
 pub(crate) fn object_base<N: Numbered>(names: &N, origin: Origin<u32>) -> Base
     ensures { result ≡ object_base (N.meanings names.now) (origin_base origin) }
@@ -65,5 +54,11 @@ pub(crate) fn object_base<N: Numbered>(names: &N, origin: Origin<u32>) -> Base
 pub(crate) fn is_linked<N: Numbered>(names: &N, origin: Origin<u32>) -> bool
     ensures { result ≡ is_linked (N.meanings names.now) (origin_base origin) }
 {
-    is_unplaced_origin(names, origin) || (is_numbered(names, origin) && !is_current(names, origin))
+    match origin {
+        Origin::None => false,
+        Origin::Segment(segment) => {
+            names.number(segment) != 0 && !(names.fixed(segment) && is_current(names, origin))
+        }
+        Origin::External(_) => true,
+    }
 }

@@ -23,8 +23,8 @@ object_base names None = None
 object_base names (Segment s) = Segment (names.number s)
 object_base names (External n) = External n
 
--- The linker adds the base: an external, or a segment that is relocatable or other than that of the statement. Any other
--- value counts as a number, also one of a segment that the object does not have, an absolute one without a byte.
+-- The linker adds the base: an external, or a segment that is relocatable or other than that of the statement. Any
+-- other value counts as a number, also one of a segment that the object does not have: an absolute one without a byte.
 abbrev pub is_linked : Meanings → Base → Bool
 is_linked names None = false
 is_linked names (Segment s) = not (names.number s == 0) && not (names.fixed s && is_current names (Segment s))

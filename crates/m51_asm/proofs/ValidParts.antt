@@ -1,9 +1,9 @@
 -- The module that a text without faults gives is valid, and so is that of each answer.
 use Rattle.m51_asm.proofs
 use Rattle.m51_asm.specs
-use proofs.Common.{kept, cases_eq, ◌≡◌, inl, inr, ℕ, zero, suc, ◌≤◌, true, List, length, Option, Some, None}
+use proofs.Common.{kept, ◌≡◌, inl, inr, ℕ, zero, suc, ◌≤◌, true, List, length, Option, Some, None}
 use proofs.Common.{refl, subst, arith, Base, Field, Segment, numbered, Value, Meanings, Linked, Reference}
-use proofs.Common.{linked_is, LineTree, Assignment, object_segments, segment_number, externals, pieces, fixups}
+use proofs.Common.{linked_is, LineTree, Assignment, object_segments, externals, pieces, fixups}
 use proofs.Common.{◌+◌, ◌%◌, ◌<◌, Bool, cond, [], ◌∷◌, list_any, length-map, IsValid, SourceFile, Lines, text_of}
 use proofs.Common.{AreFree, Fits, Fixup, content_faults, Kept, min, sym, Fault, Row, rows_from, first_fault}
 use proofs.Common.{content_or_faults, eq-eqb}
@@ -56,19 +56,15 @@ module _ (lines : List LineTree) (a : Assignment) (c : IsClean lines a) where
   abbrev targets : List Segment
   targets = object_segments lines a
 
-  abbrev number : ℕ → ℕ
-  number id = segment_number lines a id
-
   -- a base that the linker adds is a target in the object
   target_there : (k : ℕ) (b : Base) → IsDeclaredBase lines a b → is_linked (final lines a k) b ≡ true
       → IsTarget targets (externals lines) (object_base (final lines a k) b)
   unfolding final
   target_there k base.None h l = absurd (cc l)
-  target_there k (base.Segment id) h l = elim (cases_eq (number id) 0) [
-    | inl e ↦ absurd (cc (eq-eqb _ _ e, l))
-    | inr ne ↦
-        let n = has_number (kept lines a) (all_kept lines a (free_text lines a c)).order id ne in (n.0.segment, n.3)
-  ]
+  target_there k (base.Segment id) h l =
+      let n = has_number (kept lines a) (all_kept lines a (free_text lines a c)).order id
+      (λ e. absurd (cc (rw (eq-eqb _ _ e) at l))) in
+      (n.0.segment, n.3)
   target_there k (base.External e) h l = numbered_there _ e h.0 (omega (arith, externals_count lines))
 
   final_good : (k : ℕ) → AreBased (IsDeclaredBase lines a) (final lines a k)

@@ -3,7 +3,6 @@ ghost use Rattle.std.specs.Prelude.{◌≡◌, option_map, if◌then◌else◌};
 ghost use Rattle.m51_predefined.specs.Predefined.{absolute_register_of};
 ghost use Rattle.m51_asm.specs.Fitting.{register_or_predefined};
 ghost use Rattle.m51_expr.specs.Located.{located_value};
-ghost use Rattle.m51_asm.specs.NamesAt.{names_at};
 ghost use Rattle.m51_asm.specs.Table.{sets};
 ghost use Rattle.m51_asm.specs.Values.{value_in};
 ghost use Rattle.m51_asm.specs.ValuesAt.{is_label, value_at};

@@ -1,8 +1,8 @@
 -- How the base of a value is related to the segment of the statement.
-use Rattle.std.specs.Prelude.{◌==◌, Bool, false, not, ◌&&◌, ◌||◌}
+use Rattle.std.specs.Prelude.{◌==◌, Bool, true, false, not, ◌&&◌}
 use Rattle.m51_cells.specs.declared.kind.Base.{Base}
-use Rattle.m51_cells.specs.declared.kind.Base.TheVariants.{Segment}
-use Rattle.m51_expr.specs.Meanings.{Meanings, is_absolute_base, is_unplaced}
+use Rattle.m51_cells.specs.declared.kind.Base.TheVariants.{None, Segment, External}
+use Rattle.m51_expr.specs.Meanings.{Meanings, is_absolute_base}
 
 -- two segments that are one
 abbrev pub same_segment : Base → Base → Bool
@@ -17,12 +17,15 @@ is_current names base = same_segment base names.here.base
 abbrev pub stands_absolute : Meanings → Bool
 stands_absolute names = is_absolute_base names names.here.base
 
--- a segment that an object has; an absolute one without a byte has the number 0 here, and none there
-abbrev pub is_numbered : Base → Bool
-is_numbered (Segment s) = not (s == 0)
-is_numbered base = false
+-- the base in the object
+abbrev pub object_base : Meanings → Base → Base
+object_base names None = None
+object_base names (Segment s) = Segment (names.number s)
+object_base names (External n) = External n
 
--- The linker adds the base: it is relocatable or external, or another absolute segment that has a number. Any other
--- value counts as a number.
+-- The linker adds the base: an external, or a segment that is relocatable or other than that of the statement. Any
+-- other value counts as a number, also one of a segment that the object does not have: an absolute one without a byte.
 abbrev pub is_linked : Meanings → Base → Bool
-is_linked names base = is_unplaced names base || (is_numbered base && not (is_current names base))
+is_linked names None = false
+is_linked names (Segment s) = not (names.number s == 0) && not (names.fixed s && is_current names (Segment s))
+is_linked names (External n) = true

@@ -21,7 +21,7 @@ import subprocess
 import tempfile
 import threading
 
-from running import IS_UNPROVED, SECONDS, TESTS, files_of
+from running import IS_UNPROVED, TESTS, ended, files_of
 
 FOLDER = TESTS / 'traces'
 PROGRAM = TESTS.parent / 'crates' / 'm51_trace' / 'out' / ('m51_trace-unproved' if IS_UNPROVED else 'm51_trace')
@@ -58,9 +58,8 @@ def run(case, environment=None, before=()):
             (folder / file).write_bytes(content)
         with tempfile.TemporaryFile() as out:
             # The signal of a limit on files, which Python ignores, is ignored by the program too.
-            ran = subprocess.run([*before, PROGRAM, *words], cwd=folder, env={**os.environ, **(environment or {})},
-                                 stdin=subprocess.DEVNULL, stdout=out, stderr=subprocess.STDOUT, timeout=SECONDS,
-                                 restore_signals=False)
+            ran = ended([*before, PROGRAM, *words], cwd=folder, env={**os.environ, **(environment or {})},
+                        stdin=subprocess.DEVNULL, stdout=out, stderr=subprocess.STDOUT, restore_signals=False)
             out.seek(0)
             text = out.read()
         left = files_of(folder)

@@ -2,9 +2,10 @@
 use Rattle.m51_graph.proofs.Common.{◌≡◌, ℕ, ◌+◌, ◌<◌, List, [], ◌∷◌, ◌++◌, length, drop, get_or, Option, Some, None}
 use Rattle.m51_graph.proofs.Common.{refl, sym, ap, ◌∙◌, arith, add-one, flat_map, cons_option, filter_map}
 use Rattle.m51_graph.proofs.Common.{range_with_len, Control, ModuleParts, Edges, with_edge, with_edges, added_by}
-use Rattle.m51_graph.proofs.Common.{module_edges}
+use Rattle.m51_graph.proofs.Common.{module_edges, subst, Contains}
 use Rattle.std.proofs.Common.{drop-cons, append-nil}
 use Rattle.std.proofs.lemmas.Grind.{flat_map-append}
+use Rattle.std.proofs.lemmas.List.Elements.{Contains-get_or}
 use Rattle.m51_cells.proofs.Small.{range_suc}
 use Rattle.m51_graph.specs.Drawing.{with_added}
 use Rattle.m51_graph.specs.DrawnEdges.{with_found}
@@ -59,3 +60,7 @@ modules_step modules m edges new is before =
     ∙ flat_map-append (module_edges modules) (range_with_len 0 m) ((0 + m) ∷ [])
     ∙ ap (λ es. done ++ es)
     (ap (λ k. flat_map (module_edges modules) (k ∷ [])) (omega arith) ∙ append-nil (module_edges modules m))))
+
+-- an item that is read in a list which is another
+pub listed : {A : Type 0} (xs ys : List A) (i : ℕ) (d : A) → xs ≡ ys → i < length xs → Contains ys (get_or xs i d)
+listed xs ys i d are below = subst (λ zs. Contains zs (get_or xs i d)) are (Contains-get_or xs i d below)

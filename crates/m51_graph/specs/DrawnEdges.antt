@@ -1,5 +1,5 @@
 -- Of the code: edges while they are drawn.
-use Rattle.std.specs.Prelude.{ℕ, ◌*◌, ◌<◌, List, Option}
+use Rattle.std.specs.Prelude.{ℕ, ◌<◌, Option}
 use Rattle.std.specs.Option.{option_map_or}
 use Rattle.m51_module.specs.Walks.{Edges}
 use Rattle.m51_graph.specs.Drawing.{with_edge}

@@ -12,8 +12,8 @@ use Rattle.m51_linker.proofs.patching.patch_module.Goals as goal
 
 pub patch_fixup-spot-requires-clause-placed : goal.patch_fixup-spot-requires-clause-placed
 patch_fixup-spot-requires-clause-placed c =
-    fixup_placed c.args.joined.now c.args.placing.now c.requires.placed c.args.module c.args.parts.now c.requires.there _
-    (subst (λ (fs : List Fixup). Contains fs _) c.fixups-fixup-items.ensures.list
+    fixup_placed c.args.joined.now c.args.placing.now c.requires.placed c.args.module c.args.parts.now c.requires.there
+    _ (subst (λ (fs : List Fixup). Contains fs _) c.fixups-fixup-items.ensures.list
     (Contains-get_or c.fixups-fixup-items.result.now c.loop-fixup.fixup-index _ c.loop-fixup-test.true))
 
 pub loop-fixup-preserved : goal.loop-fixup-preserved

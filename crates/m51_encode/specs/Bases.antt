@@ -29,6 +29,7 @@ is_numbered names None = false
 is_numbered names (Segment s) = not (names.number s == 0)
 is_numbered names (External n) = true
 
--- The linker adds the base, unless it is the absolute segment of the statement. Any other value counts as a number.
-abbrev pub is_linked : Meanings → Base → Bool
+-- The linker adds a base that the object has, unless it is the absolute segment of the statement. Any other value counts
+-- as a number.
+unfoldable pub is_linked : Meanings → Base → Bool
 is_linked names base = is_numbered names base && not (is_absolute_base names base && is_current names base)

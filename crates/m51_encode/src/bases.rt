@@ -63,6 +63,7 @@ fn is_numbered<N: Numbered>(names: &N, origin: Origin<u32>) -> bool
 }
 
 /// Whether the linker adds the base. Any other value counts as a number.
+#[tactic(auto, unfolding(crate::specs::Bases::is_linked))]
 pub(crate) fn is_linked<N: Numbered>(names: &N, origin: Origin<u32>) -> bool
     ensures { result ≡ is_linked (N.meanings names.now) (origin_base origin) }
 {

@@ -59,7 +59,7 @@ module _ (lines : List LineTree) (a : Assignment) (c : IsClean lines a) where
   -- a base that the linker adds is a target in the object
   target_there : (k : ℕ) (b : Base) → IsDeclaredBase lines a b → is_linked (final lines a k) b ≡ true
       → IsTarget targets (externals lines) (object_base (final lines a k) b)
-  unfolding final
+  unfolding final is_linked
   target_there k base.None h l = absurd (cc l)
   target_there k (base.Segment id) h l =
       let n = has_number (kept lines a) (all_kept lines a (free_text lines a c)).order id

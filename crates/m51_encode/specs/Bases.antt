@@ -23,9 +23,13 @@ object_base names None = None
 object_base names (Segment s) = Segment (names.number s)
 object_base names (External n) = External n
 
--- The linker adds the base: an external, or a segment that is relocatable or other than that of the statement. Any
--- other value counts as a number, also one of a segment that the object does not have: an absolute one without a byte.
-abbrev pub is_linked : Meanings → Base → Bool
-is_linked names None = false
-is_linked names (Segment s) = not (names.number s == 0) && not (names.fixed s && is_current names (Segment s))
-is_linked names (External n) = true
+-- The object has what the base is: an external, or a segment with a number. It has no absolute segment without a byte.
+abbrev pub is_numbered : Meanings → Base → Bool
+is_numbered names None = false
+is_numbered names (Segment s) = not (names.number s == 0)
+is_numbered names (External n) = true
+
+-- The linker adds a base that the object has, unless it is the absolute segment of the statement. Any other value counts
+-- as a number.
+unfoldable pub is_linked : Meanings → Base → Bool
+is_linked names base = is_numbered names base && not (is_absolute_base names base && is_current names base)

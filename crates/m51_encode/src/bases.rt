@@ -1,7 +1,8 @@
 //! How the base of a value relates to the segment of the statement.
 ghost use Rattle.std.specs.Prelude.{◌≡◌};
 ghost use Rattle.m51_expr.specs.Located.{base_by, origin_base};
-ghost use Rattle.m51_encode.specs.Bases.{same_segment, is_current, stands_absolute, object_base, is_linked};
+ghost use Rattle.m51_encode.specs.Bases.{same_segment, is_current, stands_absolute, object_base, is_numbered};
+ghost use Rattle.m51_encode.specs.Bases.{is_linked};
 
 use m51_cells::Base;
 use m51_expr::{Origin, Places, SegmentNumber, is_absolute_origin};
@@ -50,15 +51,21 @@ pub(crate) fn object_base<N: Numbered>(names: &N, origin: Origin<u32>) -> Base
     }
 }
 
-/// Whether the linker adds the base. Any other value counts as a number.
-pub(crate) fn is_linked<N: Numbered>(names: &N, origin: Origin<u32>) -> bool
-    ensures { result ≡ is_linked (N.meanings names.now) (origin_base origin) }
+// Whether the object has what an origin is.
+fn is_numbered<N: Numbered>(names: &N, origin: Origin<u32>) -> bool
+    ensures { result ≡ is_numbered (N.meanings names.now) (origin_base origin) }
 {
     match origin {
         Origin::None => false,
-        Origin::Segment(segment) => {
-            names.number(segment) != 0 && !(names.fixed(segment) && is_current(names, origin))
-        }
+        Origin::Segment(segment) => names.number(segment) != 0,
         Origin::External(_) => true,
     }
+}
+
+/// Whether the linker adds the base. Any other value counts as a number.
+#[tactic(auto, unfolding(crate::specs::Bases::is_linked))]
+pub(crate) fn is_linked<N: Numbered>(names: &N, origin: Origin<u32>) -> bool
+    ensures { result ≡ is_linked (N.meanings names.now) (origin_base origin) }
+{
+    is_numbered(names, origin) && !(is_absolute_origin(names, origin) && is_current(names, origin))
 }

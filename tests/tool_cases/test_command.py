@@ -234,7 +234,8 @@ class Command(StandIn):
             status, text, said = self.call(*words.split())
             self.assertEqual((status, text), (70, ''), words)
             self.assertIn(', and would be overwritten; nothing was done\n', said)
-        self.assertIn('m51: a.a51 is read by the same call, and would be', self.call('asm', '--out', 'link.obj', 'a.a51')[2])
+        said = self.call('asm', '--out', 'link.obj', 'a.a51')[2]
+        self.assertIn('m51: a.a51 is read by the same call, and would be', said)
         for words in NOT_OVERWRITTEN:
             self.assertEqual(self.call(*words.split())[0], 0, words)
 

@@ -1,4 +1,4 @@
-"""The faults that tests/broken plants: each can be planted, and names tests that are there; and no test hides another."""
+"""The faults that tests/broken plants: each can be planted, and names tests that are there. No test hides another."""
 import collections
 import pathlib
 import re

@@ -6,7 +6,7 @@ use proofs.Common.{refl, subst, arith, Base, Field, Segment, numbered, Value, Me
 use proofs.Common.{linked_is, LineTree, Assignment, object_segments, externals, pieces, fixups}
 use proofs.Common.{◌+◌, ◌%◌, ◌<◌, Bool, cond, [], ◌∷◌, list_any, length-map, IsValid, SourceFile, Lines, text_of}
 use proofs.Common.{AreFree, Fits, Fixup, content_faults, Kept, min, sym, Fault, Row, rows_from, first_fault}
-use proofs.Common.{content_or_faults, eq-eqb}
+use proofs.Common.{content_or_faults, eq-eqb, not, ◌&&◌, ◌||◌, false}
 use Rattle.std.proofs.lemmas.Option.{slice_get_cases}
 use Rattle.m51_module.specs.declared.symbol.External.{External}
 use Rattle.m51_module.specs.Validity.{IsTarget, IsFixupValid, IsVersion, IsSegmentValid}
@@ -17,7 +17,7 @@ use specs.ObjectSegments.{final}
 use Rattle.m51_cells.proofs.Members.{In, in_map, pairs_all}
 use proofs.Members.{all_in}
 use proofs.GoodLines.{IsClean, free_text, clean_where, clean}
-use proofs.KeptSegments.{all_kept, has_number}
+use proofs.KeptSegments.{all_kept, has_number, relocatable_numbered}
 use proofs.FewSegments.{externals_count, few_segments, few_externals}
 use proofs.GivenContents.{given}
 use proofs.BasedNames.{AreBased, value_based, IsDeclaredBase, name_good, place_good}
@@ -46,6 +46,10 @@ field_linked : (names : Meanings) (at : Field) (next : ℕ) (v : Value) (r : Ref
 unfolding field_of
 field_linked names at next v r h = grind arith
 
+-- a base without a number that the linker adds is relocatable
+unfixed : (fixed none current : Bool) → (not fixed || (not none && not current)) ≡ true → none ≡ true → fixed ≡ false
+unfixed fixed none current l e = grind arith
+
 -- an external of that number
 numbered_there : (es : List External) (e : ℕ) → 1 ≤ e → e ≤ length es → (x : External) × (numbered es e ≡ Some x)
 numbered_there es zero some most = absurd (omega arith)
@@ -59,11 +63,12 @@ module _ (lines : List LineTree) (a : Assignment) (c : IsClean lines a) where
   -- a base that the linker adds is a target in the object
   target_there : (k : ℕ) (b : Base) → IsDeclaredBase lines a b → is_linked (final lines a k) b ≡ true
       → IsTarget targets (externals lines) (object_base (final lines a k) b)
-  unfolding final is_linked
+  unfolding final
   target_there k base.None h l = absurd (cc l)
   target_there k (base.Segment id) h l =
-      let n = has_number (kept lines a) (all_kept lines a (free_text lines a c)).order id
-      (λ e. absurd (cc (rw (eq-eqb _ _ e) at l))) in
+      let free = free_text lines a c in
+      let n = has_number (kept lines a) (all_kept lines a free).order id
+      (λ e. relocatable_numbered lines a free id (unfixed _ _ _ l (eq-eqb _ _ e)) e) in
       (n.0.segment, n.3)
   target_there k (base.External e) h l = numbered_there _ e h.0 (omega (arith, externals_count lines))
 

@@ -12,7 +12,6 @@ use Rattle.m51_isa.specs.TextLaws.{HasNumbers, kept, slot_with_number}
 use Rattle.m51_isa.specs.declared.slot.FieldSlot.{FieldSlot}
 use Rattle.m51_expr.specs.Value.{plain}
 use Rattle.m51_expr.specs.declared.value.Value.{Value}
-use Rattle.m51_encode.specs.Bases.{is_linked}
 use Rattle.m51_encode.specs.FieldValues.{addr11_of, field_of, rel_of}
 use Rattle.m51_encode.specs.Filling.{filled, held_at, references_of, valued}
 use Rattle.m51_asm.proofs.ContentFields.{Held}
@@ -71,7 +70,7 @@ is_byte at = false
 
 byte_back : (names : Meanings) (at : Field) (next n : ℕ) → is_byte at ≡ true → n < 256
     → field_of names at next (plain n kind.Number) ≡ Some (Number n)
-unfolding field_of is_linked
+unfolding field_of
 byte_back names at next n is low = grind (arith, common_steps)
 
 abbrev field_at : Field → ℕ → ℕ → FieldSlot
@@ -110,7 +109,7 @@ module _ (names : Meanings) (segment at : ℕ) (s : StandsAt names segment at) w
       → leads_inside next at number ≡ true
       → address_by next at number ≡ Some address
       → field_of names at (next % 65536) (as_value own segment address) ≡ Some (Number number)
-  unfolding field_of is_linked leads_inside address_by
+  unfolding field_of leads_inside address_by
   address_back own at next number address holds inside leads =
       grind (arith, common_steps, rel_back next number, block_back next number)
 
@@ -143,7 +142,7 @@ module _ (names : Meanings) (segment at : ℕ) (s : StandsAt names segment at) w
       → stays_inside next (field_in o) ≡ true
       → IsLed t (slot_address next (field_in o)) → IsNamed names segment t
       → filled names (next % 65536) (field_in o) (operand_of t o) ≡ Ok (held_in o)
-  unfolding field_of is_linked
+  unfolding field_of
   slot_given t next (Imm f) usual room inside led named =
       let same : kept f.field f.number ≡ f.number = ap number_of_slot room in
       let n = next % 65536 in

@@ -1,8 +1,8 @@
 -- How the base of a value is related to the segment of the statement.
-use Rattle.std.specs.Prelude.{◌==◌, Bool, true, false, not, ◌&&◌}
+use Rattle.std.specs.Prelude.{◌==◌, Bool, false, not, ◌&&◌, ◌||◌}
 use Rattle.m51_cells.specs.declared.kind.Base.{Base}
 use Rattle.m51_cells.specs.declared.kind.Base.TheVariants.{None, Segment, External}
-use Rattle.m51_expr.specs.Meanings.{Meanings, is_absolute_base}
+use Rattle.m51_expr.specs.Meanings.{Meanings, is_absolute_base, is_unplaced}
 
 -- two segments that are one
 abbrev pub same_segment : Base → Base → Bool
@@ -23,13 +23,12 @@ object_base names None = None
 object_base names (Segment s) = Segment (names.number s)
 object_base names (External n) = External n
 
--- The object has what the base is: an external, or a segment with a number. It has no absolute segment without a byte.
+-- a segment that the object has; it has no absolute one without a byte
 abbrev pub is_numbered : Meanings → Base → Bool
-is_numbered names None = false
 is_numbered names (Segment s) = not (names.number s == 0)
-is_numbered names (External n) = true
+is_numbered names base = false
 
--- The linker adds a base that the object has, unless it is the absolute segment of the statement. Any other value counts
--- as a number.
-unfoldable pub is_linked : Meanings → Base → Bool
-is_linked names base = is_numbered names base && not (is_absolute_base names base && is_current names base)
+-- The linker adds the base: it is relocatable or external, or another absolute segment that has a number. Any other
+-- value counts as a number.
+abbrev pub is_linked : Meanings → Base → Bool
+is_linked names base = is_unplaced names base || (is_numbered names base && not (is_current names base))

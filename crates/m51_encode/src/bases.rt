@@ -5,7 +5,7 @@ ghost use Rattle.m51_encode.specs.Bases.{same_segment, is_current, stands_absolu
 ghost use Rattle.m51_encode.specs.Bases.{is_linked};
 
 use m51_cells::Base;
-use m51_expr::{Origin, Places, SegmentNumber, is_absolute_origin};
+use m51_expr::{Origin, Places, SegmentNumber, is_absolute_origin, is_unplaced_origin};
 
 /// What names and the place of a statement that gives bytes mean, and the numbers of the segments in the object.
 ///
@@ -40,6 +40,16 @@ pub(crate) fn stands_absolute<S: SegmentNumber, P: Places<S>>(names: &P) -> bool
     is_absolute_origin(names, names.here().origin)
 }
 
+// Whether the origin is a segment that the object has.
+fn is_numbered<N: Numbered>(names: &N, origin: Origin<u32>) -> bool
+    ensures { result ≡ is_numbered (N.meanings names.now) (origin_base origin) }
+{
+    match origin {
+        Origin::Segment(segment) => names.number(segment) != 0,
+        Origin::None | Origin::External(_) => false,
+    }
+}
+
 /// The base in the object.
 pub(crate) fn object_base<N: Numbered>(names: &N, origin: Origin<u32>) -> Base
     ensures { result ≡ object_base (N.meanings names.now) (origin_base origin) }
@@ -51,21 +61,9 @@ pub(crate) fn object_base<N: Numbered>(names: &N, origin: Origin<u32>) -> Base
     }
 }
 
-// Whether the object has what an origin is.
-fn is_numbered<N: Numbered>(names: &N, origin: Origin<u32>) -> bool
-    ensures { result ≡ is_numbered (N.meanings names.now) (origin_base origin) }
-{
-    match origin {
-        Origin::None => false,
-        Origin::Segment(segment) => names.number(segment) != 0,
-        Origin::External(_) => true,
-    }
-}
-
 /// Whether the linker adds the base. Any other value counts as a number.
-#[tactic(auto, unfolding(crate::specs::Bases::is_linked))]
 pub(crate) fn is_linked<N: Numbered>(names: &N, origin: Origin<u32>) -> bool
     ensures { result ≡ is_linked (N.meanings names.now) (origin_base origin) }
 {
-    is_numbered(names, origin) && !(is_absolute_origin(names, origin) && is_current(names, origin))
+    is_unplaced_origin(names, origin) || (is_numbered(names, origin) && !is_current(names, origin))
 }

@@ -45,8 +45,10 @@ def ended(words, seconds=SECONDS, **how):
     """A command that has ended in its time, as subprocess.run gives it; else NoAnswer."""
     pipes = {'stdout': subprocess.PIPE, 'stderr': subprocess.PIPE}
     with subprocess.Popen(words, **{**pipes, **how}) as running:
-        # What this process starts has the same limit, each by itself.
-        resource.prlimit(running.pid, resource.RLIMIT_CPU, (seconds, seconds + 1))
+        # What this process starts has the same limit, each by itself; whoever runs the tests may have a lower one.
+        most = resource.getrlimit(resource.RLIMIT_CPU)[1]
+        limit = seconds if most == resource.RLIM_INFINITY else min(seconds, most)
+        resource.prlimit(running.pid, resource.RLIMIT_CPU, (limit, most))
         try:
             text, said = running.communicate(timeout=CLOCK * seconds)
         except subprocess.TimeoutExpired:

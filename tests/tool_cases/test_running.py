@@ -1,4 +1,5 @@
 """How long a run of tests/run may take: so much processor time, whatever the clock says."""
+import subprocess
 import sys
 import time
 from unittest import mock
@@ -42,6 +43,12 @@ class Running(Folder):
         code = f'import subprocess, sys; sys.exit(-subprocess.call([sys.executable, "-c", {SPIN!r}]))'
         with mock.patch.object(running, 'CLOCK', 60):
             self.assertEqual(self.seconds(code)[0], 24)
+
+    def test_a_lower_limit(self):
+        """Under a limit of the shell, which nobody but root may raise, a run has no more than that."""
+        code = 'import sys; sys.path.insert(0, sys.argv[1]); import running; running.ended(["true"], 60)'
+        words = ['sh', '-c', 'ulimit -t 50; exec "$@"', 'sh', sys.executable, '-B', '-c', code, str(TOP / 'tests')]
+        self.assertEqual(subprocess.run(words, stderr=subprocess.PIPE).stderr, b'')
 
     def test_what_a_run_writes(self):
         code = 'import sys; sys.stdout.write("a"); sys.stderr.write("b"); sys.exit(3)'

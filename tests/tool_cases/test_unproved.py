@@ -2,6 +2,7 @@
 import os
 import signal
 import subprocess
+import sys
 import time
 
 from stand_in import TOOLCHAIN, StandIn
@@ -123,6 +124,16 @@ class Unproved(StandIn):
             status, text, said = self.call(*GEN)
             self.assertEqual((status, text, said.count('\n')), (70, '', 1))
             self.assertIn('/bin/rt is no rattle-kit, and these sources need one with the logic of ', said)
+
+    def test_no_toolchain(self):
+        """What is kept needs none; a program of other sources does."""
+        unproved, path = self.path('top', 'tools', 'unproved'), os.path.dirname(sys.executable) + ':/usr/bin:/bin'
+        self.call(*GEN)
+        self.assertEqual(self.call(command=unproved, PATH=path), (0, '', ''))
+        self.assertEqual(self.call(*GEN, PATH=path)[0], 0)
+        self.change_source('fn other')
+        status, _, said = self.call(command=unproved, PATH=path)
+        self.assertEqual((status, said), (1, "m51: no program came:\nthe toolchain's command rt is not on the path\n"))
 
     def test_beside_a_proved_program(self):
         self.prove()

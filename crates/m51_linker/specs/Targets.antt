@@ -1,6 +1,6 @@
 -- The addresses to which fixups refer: where a part begins, and the address of a target. Modules are counted from 0,
 -- segments of a module from 1.
-use Rattle.std.specs.Prelude.{ℕ, ◌+◌, ◌*◌, ◌%◌, List, slice_index}
+use Rattle.std.specs.Prelude.{ℕ, ◌+◌, ◌%◌, List, slice_index}
 use Rattle.std.specs.Option.{option_map_or}
 use Rattle.m51_module.specs.declared.content.Fixup.{Fixup}
 use Rattle.m51_module.specs.declared.parts.ModuleParts.{ModuleParts}

@@ -46,11 +46,11 @@ fn referent_address(placing: &Placing, referent: Referent) -> u32
     ensures value { result ≡ referent_address placing.now referent }
     ensures small { result ≤ 196605 }
 {
-    let origin = match referent.part {
-        Some(part) => part_address(placing, part),
-        None => 0,
-    };
-    origin + u32::from(referent.number)
+    let number = u32::from(referent.number);
+    match referent.part {
+        Some(part) => part_address(placing, part) + number,
+        None => number,
+    }
 }
 
 // The address to which the fixup of the module refers.

@@ -248,9 +248,9 @@ fn told_by(answer: Result<Entries, Event>) -> Told
     }
 }
 
-// Performs a step, or finds the event that stops it. It answers whether there is anything to tell, which the draft has
-// then: three functions perform steps, which is more than a step is repeated for, and a whole answer in memory would
-// cost each step a third of its machine instructions.
+// Performs a step, or finds the event that stops it. It answers whether there is anything to report, which the draft
+// then has: three functions perform steps, which is more than a step is repeated for, and a whole answer in memory
+// would cost each step a fifth of its machine instructions.
 #[inline(never)]
 fn advance(monitor: &mut Monitor, chip: &mut Chip, draft: &mut Draft, extra: &[Timed]) -> bool
     requires order { IsInOrder monitor.old chip.old.cpu }
@@ -295,7 +295,7 @@ fn keep_entries(draft: &mut Draft, told: Entries) -> bool
     true
 }
 
-// What there is to tell, where `advance` has answered whether there is anything.
+// What a step reports, where `advance` has answered whether there is anything.
 #[inline(always)]
 fn told_in(is_told: bool, draft: &Draft) -> Result<Entries, Event>
     ensures { result ≡ told_in is_told draft.now }

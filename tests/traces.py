@@ -131,4 +131,3 @@ def left_out():
         yield 'left out: the runs of m51-trace, which is not built'
     elif IS_UNPROVED or not COMPILER or not PRLIMIT:
         yield 'left out: runs of m51-trace in which calls fail (the proved program, a C compiler and prlimit have them)'
-

@@ -22,8 +22,8 @@ WRITE_STAMP = (
     'sources.write_stamp(sources.stamp_of(sources.checksum(), sources.toolchain_command()), time.time_ns())')
 # Where nothing of the toolchain is.
 CLEAN_PATH = '/usr/bin:/bin'
-# A root of its own, in which only what the system has in /usr is there, and nothing in /usr/local: unpacks the release $2,
-# installs it, and types a page of it by the tests in $3.
+# A root of its own, in which only what the system has in /usr is there, and nothing in /usr/local: unpacks the release
+# $2, installs it, and types a page of it by the tests in $3.
 OWN_ROOT = """set -e
 mount -t tmpfs none "$1"
 cd "$1"

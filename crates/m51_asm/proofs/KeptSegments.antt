@@ -277,7 +277,7 @@ module _ (lines : List LineTree) (a : Assignment) (c : IsFreeText lines a) where
   declared_above (suc n) k less =
       below_more (λ k. declares_absolute k ≡ false → IsAmong (suc n) (k + 2)) n
       (λ j l h. let r = declared_above n j l h in (r.0, in_left _ _ _ r.1, r.2))
-      (λ h. let r = declared_by_line n (body_at lines n) h in (r.0, in_right _ _ _ r.1, r.2)) k less
+      (λ h. let r = declared_by_line n (body_at lines n) h in (r.0, in_right _ _ _ r.1, r.2)) k (omega arith)
 
   declared_inside : (k : ℕ) → declares_absolute k ≡ false → k < length lines
   declared_inside k h = grind (arith, slice_get_cases)

@@ -23,13 +23,13 @@ use proofs.SegmentsAt.{segment_is}
 definer_is : (o : Option (ℕ × Definition)) → definer_of (option_map first_definition o) ≡ definer_by o
 definer_is b = grind arith
 
-module _ (lines : List LineTree) (a : Assignment) (t : PlacedText) (h : IsAssignedText lines a t) where
+module _ (lines : List LineTree) (a : Assignment) (t : PlacedText) (h : IsAssignedText lines a t)
+    (numbers : List ℕ) (each : (id : ℕ) → number_at numbers id ≡ segment_number lines a id) where
   abbrev segments : ℕ → PublicSegment
   segments id = numbered_as (segment_of lines a id) (segment_number lines a id)
 
   abbrev kept_segments : ℕ → PublicSegment
-  kept_segments id =
-      numbered_as (segment_in t.end.now.segments.table id) (number_at t.numbering.now.numbers id)
+  kept_segments id = numbered_as (segment_in t.end.now.segments.table id) (number_at numbers id)
 
   counted_is : (o : Option Value) → IfSomeBased (IsDeclaredBase lines a) o
       → counted_from kept_segments o ≡ counted_from segments o
@@ -38,14 +38,14 @@ module _ (lines : List LineTree) (a : Assignment) (t : PlacedText) (h : IsAssign
     where
       from : (b : Base) → IsDeclaredBase lines a b → base_segment kept_segments b ≡ base_segment segments b
       from (base.Segment id) is =
-          λ i. numbered_as (segment_is lines a h.fits _ h.placed.at.segments.table id is i) (h.numbered.each id i)
+          λ i. numbered_as (segment_is lines a h.fits _ h.placed.at.segments.table id is i) (each id i)
       from base.None is = refl
       from (base.External external) is = refl
 
   -- what PUBLIC makes of a name
   pub published_is : (k : ℕ) (set : Valuation) (bank : ℕ) (here : Located ℕ)
-      → names_at (names_of t set bank here) ≡ final lines a k → (name : List ℕ)
-      → published_by (names_of t set bank here) name ≡ published lines a k name
+      → names_at (names_of t set bank here numbers) ≡ final lines a k → (name : List ℕ)
+      → published_by (names_of t set bank here numbers) name ≡ published lines a k name
   unfolding published final
   published_is k set bank here means name =
       (λ i. public_by name (definer_of (h.names name i)) (counted_from kept_segments ((means i).value name))

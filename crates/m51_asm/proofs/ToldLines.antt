@@ -9,7 +9,7 @@ use proofs.Common.{slice_get, Whole, PassOneState, Located, body_of, here_at, mo
 use proofs.Common.{Jump, located_value, size_in, expression_given, IsAt, AreLineFacts, here_of, [], ◌∷◌, ◌++◌, length}
 use proofs.Common.{Defined, list_any, is_set, or_parts, take_all, bytes_eq-Decides, bytes_eq, Tree, LinePlace, Label}
 use proofs.Common.{SetOf, externals_from, defined_by, label_defined, found_in, set_by, named_value, defined_value}
-use proofs.Common.{Valuation, value_in, IsPlaceOf, IsSetAt, PlacedText, IsAssignedText}
+use proofs.Common.{Valuation, value_in, IsPlaceOf, IsSetAt, PlacedText, IsAssignedText, number_at, segment_number}
 use specs.Assignment.{above, value_or_none, is_bitaddressable}
 use specs.Fitting.{bank_before, last_absolute, declared, declared_by, segment_behind, size_at, filled, last_set}
 use specs.Fitting.{undefined_value}
@@ -231,15 +231,15 @@ pub place_is : (lines : List LineTree) (a : Assignment) (k : ℕ) (line : LineTr
 place_is lines a k line is t h p place = grind (arith, slice_get_within)
 
 -- the names at a line of a text whose lines are placed; where the references point does not matter
-abbrev pub names_of : PlacedText → Valuation → ℕ → Located ℕ → NamesAt
-names_of t set bank here = record {
+abbrev pub names_of : PlacedText → Valuation → ℕ → Located ℕ → List ℕ → NamesAt
+names_of t set bank here numbers = record {
   text = t.text;
   segments = record { ref_ptr = (0, 0); now = t.end.now.segments.table };
   kept = record { ref_ptr = (0, 0); now = t.end.now.values };
   set = record { ref_ptr = (0, 0); now = set };
   bank = bank;
   here = here;
-  numbers = record { ref_ptr = (0, 0); now = t.numbering.now.numbers };
+  numbers = record { ref_ptr = (0, 0); now = numbers };
   label = None;
 }
 
@@ -247,15 +247,16 @@ names_of t set bank here = record {
 pub names_mean : (lines : List LineTree) (a : Assignment) (k : ℕ) (t : PlacedText) → IsAssignedText lines a t
     → (set : Valuation) → IsSetAt lines a k set
     → (p : LinePlace) → IsPlaceOf lines a k p → (here : Located ℕ) → located_value here ≡ here_at a k
-    → names_at (names_of t set p.bank here) ≡ final lines a k
+    → (numbers : List ℕ) → ((id : ℕ) → number_at numbers id ≡ segment_number lines a id)
+    → names_at (names_of t set p.bank here numbers) ≡ final lines a k
 unfolding final
-names_mean lines a k t h set sets p stands here at =
+names_mean lines a k t h set sets p stands here at numbers each =
     λ i. record {
       value = λ name. value name i;
       here = at i;
       fixed = λ id. is_absolute (h.placed.at.segments.table.types id i);
       bitaddressable = λ id. is_bitaddressable (h.placed.at.segments.table.types id i);
-      number = λ id. h.numbered.each id i;
+      number = λ id. each id i;
     }
   where
     value : (name : List ℕ)

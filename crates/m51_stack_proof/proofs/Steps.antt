@@ -44,7 +44,7 @@ module _ (l : LayoutParts) (image : List ℕ) (sound : IsSound l) (b : StackBoun
   reset_base : (reset : List ℕ) (rs : List ReturnRecord) (start : Start) (base : ℕ) → Stands l image reset rs start base
       → is_reset start ≡ true → base ≡ 0
   reset_base reset _ _ _ AtReset h = refl
-  reset_base reset _ x2 x3 h4 h = absurd (cc h)
+  reset_base reset _ start base s h = absurd (cc h)
 
   -- a unit is appended to the top record
   pub jumped_stands : (reset : List ℕ) (rs : List ReturnRecord) (start : Start) (base u : ℕ)

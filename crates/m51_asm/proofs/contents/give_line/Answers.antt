@@ -32,7 +32,8 @@ returns-clause-given c = λ lines a k ready is stands h.
       content_is lines a k line is (names_at n) names
           c.in_ok-told.told.content content,
       next_given lines a k line is c.args.contents.now _ h (names_at n) names of
-          (λ i name. published_is lines a t ready numbers each k _ _ _ names name i) c.row_at.result c.in_ok-told.told.content
+          (λ i name. published_is lines a t ready numbers each k _ _ _ names name i) c.row_at.result
+          c.in_ok-told.told.content
           (c.in_ok-take_set.ensures lines a k is stands h.sets)
           (ap (λ l. l.made) told)
           (c.in_ok-unpublished.ensures.publics ∙ ap (λ ns. c.args.contents.now.publics ++ publics_among of ns)

@@ -10,6 +10,7 @@ use proofs.Common.{is_whole, publics_in, segment_of, segment_number}
 use Rattle.m51_cells.proofs.NameLaws.{name_written}
 use Rattle.m51_module.specs.declared.symbol.External.{External}
 use Rattle.m51_module.specs.Validity.{Differ, IsPublicBase, IsPublicValid}
+use specs.Definitions.{definition_of}
 use specs.Naming.{module_name}
 use specs.Parts.{externals_by, name_by, publics_by, publics_before}
 use proofs.Written.{file_named}

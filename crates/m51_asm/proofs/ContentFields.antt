@@ -3,7 +3,8 @@
 use Rattle.m51_asm.proofs
 use proofs.Common.{nat_le, ◌≡◌, ◌⊎◌, inl, inr, ℕ, ◌+◌, ◌<◌, ◌≤◌, Bool, true, ◌&&◌, ◌||◌, List, [], ◌∷◌, Option, Some}
 use Rattle.std.proofs.lemmas.Option.{same_Some}
-use proofs.Common.{None, refl, sym, ◌∙◌, ap, arith, Instr, Field, row_length, suc, length, Ok, Err, subst, field_len, Part, Value}
+use proofs.Common.{sym, ◌∙◌}
+use proofs.Common.{None, refl, ap, arith, Instr, Field, row_length, suc, length, Ok, Err, subst, field_len, Part, Value}
 use proofs.Common.{Tree, Valued, Meanings, FieldValue, Number, Linked, Reference, Answer, linked_is, ReferenceAt}
 use proofs.Common.{EmittedContent}
 use Rattle.std.specs.List.{list_all}

@@ -3,7 +3,7 @@ import bisect
 import re
 
 from facts import STEPS, Facts, bodies, called, narrower, rewrites
-from lemmas import RELATION, Unread, arguments, declarations, flat, imports, named, words
+from lemmas import RELATION, Unread, arguments, declarations, depths, flat, imports, named, words
 from trees import Reader
 
 # A shorter text is looked for where at least so many characters stand, and it must save as many as this.
@@ -81,14 +81,31 @@ def of_clause(declaration, text, clause, local):
             yield from of_clause(declaration, text, other, local)
 
 
+def binders(signature):
+    """The names of the arguments in a statement, in their order; None for one that it does not name."""
+    found, start = [], signature.index(' : ') + 3
+    for depth, token, begin, end in depths(signature, start, len(signature)):
+        if depth == 0 and token == '→':
+            groups = arguments(signature[start:begin])
+            named_groups = [re.match(r'[({]([^(){}:]+) : ', group) for group in groups]
+            for group, match in zip(groups, named_groups) if all(named_groups) else [('(', None)]:
+                found += (match[1].split() if match else [None]) if group[0] == '(' else []
+            start = end
+    return found
+
+
 def joined(declaration, text, local):
-    """All clauses as one: a pattern that they share stays, and others are names."""
+    """All clauses as one: a pattern that they share stays, and others are names, those of the statement if there."""
     clauses = declaration.clauses(text)
     heads = [arguments(text[clause.start:clause.head_end])[1:] for clause in clauses]
     if len(clauses) < max(2, len(declaration.places)) or len(set(map(len, heads))) != 1:
         return
-    patterns = [column[0] if len(set(column)) == 1 else f'h{at}' for at, column in enumerate(zip(*heads))]
-    lost = words(' '.join(sum(heads, []))) - words(' '.join(patterns))
+    shared = words(' '.join(column[0] for column in zip(*heads) if len(set(column)) == 1))
+    names = dict(enumerate(binders(declaration.signature)))
+    names = {at: name for at, name in names.items() if name and name not in shared}
+    patterns = [column[0] if len(set(column)) == 1 else names.get(at, f'h{at}')
+                for at, column in enumerate(zip(*heads))]
+    lost = words(' '.join(sum(heads, []))) - shared
     facts = []
     for clause in clauses:
         try:

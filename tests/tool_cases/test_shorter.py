@@ -116,10 +116,17 @@ class Shorter(Folder):
         self.assertIn('grind (arith, helped)', news)
         self.assertIn('grind (arith, common_steps, helped m, helped n)', news)
         self.assertIn(('let other : sum m zero ≡ m = helped m in', ''), self.of('right'))
-        self.assertIn('helped h0 = grind arith', {new for _, new in self.of('helped')})
+        self.assertIn('helped n = grind arith', {new for _, new in self.of('helped')})
         self.assertEqual(self.of('one'), set())
         names = {plant.declaration.name for plant in plants.plants(SUMS, {'one', 'helped'})}
         self.assertEqual(names, {'right'}, 'a statement may name what looks like a lemma')
+
+    def test_binders(self):
+        """The names of arguments that patterns match."""
+        for signature, names in (
+                ('a : (n m : ℕ) {k : ℕ} → n ≤ m → (low : (i : ℕ) → i ≤ n) → ℕ', ['n', 'm', None, 'low']),
+                ('a : ((i : ℕ) → ℕ) → (n + n) ≤ n → ⊥', [None, None]), ('a : ⊥', [])):
+            self.assertEqual(plants.binders(signature), names)
 
     def test_planted(self):
         """All of the old text stays; each plant is a lemma of its own that cites itself where the old one did."""

@@ -40,7 +40,7 @@ def of_files(name, old, new, stated):
             faults.append(f'{name}: {lemma} is not the same')
     faults += [f'{name}: {lemma} is new' for lemma in after if lemma not in before]
     # A statement means what its names mean: those of the parameters round it, and those that are imported.
-    parameters = [re.findall(r'^ *module [^\n]*(?:\n +[^\n]*)*? where$', text, re.M) for text in (old, new)]
+    parameters = [re.findall(r'^ *module (?:.|\n)*? where$', text, re.M) for text in (old, new)]
     if parameters[0] != parameters[1]:
         faults.append(f'{name}: the parameters of its modules are not the same')
     before, after = imported(old), imported(new)

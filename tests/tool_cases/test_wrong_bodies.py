@@ -27,7 +27,7 @@ class WrongBodies(Folder):
         self.tries = self.path('top', 'tests', 'wrong-bodies', 'try')
         for name in ('top/tests/wrong-bodies/sum', 'top/crates/sum/src', 'top/crates/sum/must-fail', 'bin'):
             os.makedirs(self.path(name))
-        for name in ('try', 'edits.py'):
+        for name in ('try', 'edits.py', 'copies.py'):
             shutil.copy(TOP / 'tests' / 'wrong-bodies' / name, self.path('top', 'tests', 'wrong-bodies', name))
         self.keep('top/crates.txt', 'sum:')
         self.keep('top/HANDLES', 'Handles allowed: none.')

@@ -2,10 +2,9 @@
 import pathlib
 import re
 import shutil
-import subprocess
 import tempfile
 
-from running import PROGRAM, SECONDS, TESTS, run_in_folder
+from running import PROGRAM, TESTS, ended, run_in_folder
 
 TOP = TESTS.parent
 EXAMPLES = TOP / 'examples'
@@ -30,7 +29,7 @@ def rows_differ():
     with tempfile.TemporaryDirectory() as room:
         folder = copied(EXAMPLES, room)
         for words, wanted in rows:
-            ran = subprocess.run([PROGRAM, *words.split()], cwd=folder, capture_output=True, text=True, timeout=SECONDS)
+            ran = ended([PROGRAM, *words.split()], cwd=folder, text=True)
             last = (ran.stdout.splitlines() or [''])[-1].strip()
             if (ran.returncode, last) != (1 if 'EVENT' in wanted else 0, wanted):
                 return f'{words}: {ran.returncode} {last!r}'
@@ -43,7 +42,7 @@ def project_differs(name):
         return 'make is not on the path'
     with tempfile.TemporaryDirectory() as room:
         words = ['make', '-s', '-C', copied(EXAMPLES / name, room), 'test', f'M51={TOP / "m51"}']
-        ran = subprocess.run(words, capture_output=True, text=True, timeout=10 * SECONDS)
+        ran = ended(words, text=True)
     if ran.returncode:
         return f'{ran.stdout[-600:]}{ran.stderr[-600:]}'
     shown = {line.strip() for line in (EXAMPLES / name / 'README.md').read_text().splitlines()}

@@ -20,7 +20,7 @@ import subprocess
 import tempfile
 
 import markdown
-from running import SECONDS, TESTS
+from running import TESTS, NoAnswer, ended
 
 TOP = TESTS.parent
 PAGES = ('README.md', *(f'docs/{name}.md' for name in 'TUTORIAL PROJECT PORTING COMMAND LINKER SIMULATOR'.split()))
@@ -70,10 +70,9 @@ class Reader:
         settings = {**os.environ, 'PATH': f'{self.room / "bin"}:{os.environ["PATH"]}', 'LC_ALL': 'C'}
         script = f"trap 'pwd > {where}' EXIT\n{lines}\n"
         try:
-            ran = subprocess.run(['sh', '-c', script], cwd=self.folder, env=settings, stdin=subprocess.DEVNULL,
-                                 capture_output=True, timeout=5 * SECONDS)
-        except subprocess.TimeoutExpired:
-            self.said, self.status = f'(nothing in {5 * SECONDS} seconds)', 1
+            ran = ended(['sh', '-c', script], cwd=self.folder, env=settings, stdin=subprocess.DEVNULL)
+        except NoAnswer as why:
+            self.said, self.status = f'({why})', 1
             return
         self.folder = pathlib.Path(where.read_text().strip())
         self.said, self.status = ran.stdout.decode(), ran.returncode

@@ -7,8 +7,8 @@ lines are those of the cases of m51_rows: what is answered, ` = `, and what goes
 - `write 3`: the third write to standard output fails, and only that; `room 10`: it has room for 10 bytes
 - `short`: each read gives one byte; `memory`: each growth of memory by itself is refused with all later ones
 
-The answer is `same`, a refusal with its status as `8 READ FAULT a.a51`, `9 after 19 lines`: the first lines of `stdout`,
-and nothing after them, or `9 cut`: as many bytes of it as there is room for. In no run is a file changed.
+The answer is `same`, a refusal with its status as `8 READ FAULT a.a51`, `9 after 19 lines`: the first lines of
+`stdout`, and nothing after them, or `9 cut`: as many bytes of it as there is room for. In no run is a file changed.
 
 The calls fail by failing.c, which is loaded before the program, so these need a C compiler; `room` needs prlimit. They
 are left out over the unproved program, which takes half a second for each.
@@ -21,7 +21,7 @@ import subprocess
 import tempfile
 import threading
 
-from running import IS_UNPROVED, SECONDS, TESTS, files_of
+from running import IS_UNPROVED, TESTS, ended, files_of
 
 FOLDER = TESTS / 'traces'
 PROGRAM = TESTS.parent / 'crates' / 'm51_trace' / 'out' / ('m51_trace-unproved' if IS_UNPROVED else 'm51_trace')
@@ -58,9 +58,8 @@ def run(case, environment=None, before=()):
             (folder / file).write_bytes(content)
         with tempfile.TemporaryFile() as out:
             # The signal of a limit on files, which Python ignores, is ignored by the program too.
-            ran = subprocess.run([*before, PROGRAM, *words], cwd=folder, env={**os.environ, **(environment or {})},
-                                 stdin=subprocess.DEVNULL, stdout=out, stderr=subprocess.STDOUT, timeout=SECONDS,
-                                 restore_signals=False)
+            ran = ended([*before, PROGRAM, *words], cwd=folder, env={**os.environ, **(environment or {})},
+                        stdin=subprocess.DEVNULL, stdout=out, stderr=subprocess.STDOUT, restore_signals=False)
             out.seek(0)
             text = out.read()
         left = files_of(folder)
@@ -112,8 +111,12 @@ def failing_differs(job):
     return None if numbers else f'{what}: there is no such call'
 
 
+def cases():
+    """Each test, if m51-trace is built: its name, the function that says what is wrong, and the case that it gets."""
+    return list(all_cases()) if PROGRAM.is_file() else []
+
+
 def all_cases():
-    """Each test: its name, the function that says what is wrong, and the case that it gets."""
     for case in sorted(FOLDER.iterdir()):
         yield f'trace {case.name}', run_differs, case
         rows = (case / 'fails').read_text().splitlines() if (case / 'fails').is_file() else []
@@ -128,6 +131,3 @@ def left_out():
         yield 'left out: the runs of m51-trace, which is not built'
     elif IS_UNPROVED or not COMPILER or not PRLIMIT:
         yield 'left out: runs of m51-trace in which calls fail (the proved program, a C compiler and prlimit have them)'
-
-
-CASES = list(all_cases()) if PROGRAM.is_file() else []

@@ -89,7 +89,8 @@ class Expansion(Run):
                     raise Wrong('NAME', f'{name}: there is no such macro to purge')
                 del self.macros[name]
         elif word != 'EXITM':
-            raise Wrong('LONE', 'ENDM outside a macro' if word == 'ENDM' else f'{word} that is not the first of a macro')
+            why = 'ENDM outside a macro' if word == 'ENDM' else f'{word} that is not the first of a macro'
+            raise Wrong('LONE', why)
         elif self.frames[-1].kind != 'macro':
             raise Wrong('LONE', 'EXITM outside a macro')
         else:
@@ -195,8 +196,8 @@ class Expansion(Run):
         rows = self.read_body(f'MACRO {name}')
         known = self.macros.get(name)
         if known and not self.place[2] and known.place != self.place:
-            raise Wrong(
-                'NAME', f'the macro {name} is defined twice, first in {known.place[0]}({known.place[1]}): PURGE {name} comes between')
+            first = f'{known.place[0]}({known.place[1]})'
+            raise Wrong('NAME', f'the macro {name} is defined twice, first in {first}: PURGE {name} comes between')
         self.macros[name] = macros.Macro(name, self.place, parameters, rows)
 
     def arguments(self, text):

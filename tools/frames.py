@@ -1,4 +1,5 @@
-"""Where the lines of an expansion come from and go to: files and bodies in each other, and what is written with its places.
+"""Where the lines of an expansion come from and go to: files and bodies in each other, and what is written with its
+places.
 
 A fault of a line is `Wrong`, and the run goes on with the next line; a limit of the whole run is `Fault`, and ends it.
 """

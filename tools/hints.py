@@ -104,7 +104,8 @@ def say_unkept(words):
 
 
 def say_one_file(words):
-    """That the file which is kept is the one that standard output goes to, so that both are written from its beginning."""
+    """That the file which is kept is the one that standard output goes to, so that both are written from its
+    beginning."""
     for name in arguments.kept(words):
         if os.path.exists(name) and os.path.samestat(os.stat(name), os.fstat(1)):
             say(f'{arguments.shown(name)} is the file that standard output goes to: what is kept and the text are '

@@ -29,7 +29,8 @@ def name_field(name):
 
 
 def record(kind, content):
-    """A record: its type, the length of what follows, the content, and the checksum, with which all bytes add up to 0."""
+    """A record: its type, the length of what follows, the content, and the checksum, with which all bytes add up to
+    0."""
     data = bytes([kind]) + word(len(content) + 1) + content
     return data + bytes([-sum(data) & 0xFF])
 

@@ -56,8 +56,8 @@ def quoted(text):
 
 
 def short_name(name):
-    """A name of at most 31 characters. Of a longer one these are its first 24, and six digits that are of the whole name,
-    so that it is the same in each source."""
+    """A name of at most 31 characters. Of a longer one these are its first 24, and six digits that are of the whole
+    name, so that it is the same in each source."""
     if len(name) <= MOST_OF_NAME:
         return name
     return f'{name[:BEGIN_OF_NAME]}_{zlib.crc32(name.upper().encode()) & 0xFFFFFF:06X}'

@@ -1,4 +1,5 @@
-"""Sources with macros and conditions, what `expand` must write of them, and what it must refuse; ` / ` is between lines."""
+"""Sources with macros and conditions, what `expand` must write of them, and what it must refuse; ` / ` is between
+lines."""
 DELAY = 'DELAY MACRO N, REG / LOCAL L / L: MOV REG,#N / DJNZ REG,L / ENDM'
 # What a source is written out as; comments of calls are left out.
 WRITTEN = (
@@ -66,7 +67,8 @@ WRITTEN = (
     ("N EQU 'AB' / IF N = 4142H AND HIGH N = 41H / DB 1 / ENDIF", "N EQU 'AB' / DB 1"),
     ('X DATA 30H / Y BIT X.1 / Z SET X+1 / IF X+Z = 97 / NOP / ENDIF / IFDEF Y / NOP / ENDIF',
      'X DATA 30H / Y BIT X.1 / Z SET X+1 / NOP / NOP'),
-    ('IF 0 / ELSEIFN 0 / DB 1 / ENDIF / IF 0 / ELSEIFDEF N / ELSEIFND N / DB 2 / ENDIF / IF 0 / ELSEIFNB <> / ELSEIFB <> / '
+    ('IF 0 / ELSEIFN 0 / DB 1 / ENDIF / IF 0 / ELSEIFDEF N / ELSEIFND N / DB 2 / ENDIF / '
+     'IF 0 / ELSEIFNB <> / ELSEIFB <> / '
      'DB 3 / ENDIF / IF 0 / ELSEIFNDEF N / DB 4 / ENDIF', 'DB 1 / DB 2 / DB 3 / DB 4'),
     ('IF 0 / REPT 2 / ENDIF / ENDM / IRP X,1 / ENDIF / ENDM / ENDIF / NOP', 'NOP'),
     ('  $ IF (1) ; c / NOP / $ endif', 'NOP'),
@@ -124,7 +126,8 @@ REFUSED = (
     ('$INCLUDE(a.asm)', 1, 'LIMIT: includes are more than 8 deep'),
     ('M MACRO X / DB X,X,X / ENDM / M <' + 99 * '1' + '>', 2,
      'LIMIT: this becomes a line of 302 bytes; the most are 255'),
-    ('M MACRO X / X&X: NOP / ENDM / M ' + 16 * 'N', 2, f'LIMIT: {32 * "N"} becomes a name of 32 characters; the most are 31'),
+    ('M MACRO X / X&X: NOP / ENDM / M ' + 16 * 'N', 2,
+     f'LIMIT: {32 * "N"} becomes a name of 32 characters; the most are 31'),
     ('IRP X / ENDM', 1, 'FORM: IRP is written IRP NAME, <..>'),
     ('IF ' + 60 * '(' + '1' + 60 * ')' + ' / ENDIF', 1, 'VALUE: this expression is too long'),
 )

@@ -234,8 +234,18 @@ class Command(StandIn):
             status, text, said = self.call(*words.split())
             self.assertEqual((status, text), (70, ''), words)
             self.assertIn(', and would be overwritten; nothing was done\n', said)
+        said = self.call('asm', '--out', 'link.obj', 'a.a51')[2]
+        self.assertIn('m51: a.a51 is read by the same call, and would be', said)
         for words in NOT_OVERWRITTEN:
             self.assertEqual(self.call(*words.split())[0], 0, words)
+
+    def await_sleep(self, process):
+        """Until a process waits for another: on a busy machine a program may have begun before its script goes on."""
+        for _ in range(600):
+            with open(f'/proc/{process}/stat') as file:
+                if file.read().rpartition(') ')[2].startswith('S'):
+                    return
+            time.sleep(0.1)
 
     def test_signals(self):
         for number, word, status in (
@@ -246,6 +256,7 @@ class Command(StandIn):
                 [self.script_path, word], stdout=subprocess.PIPE, stderr=subprocess.DEVNULL, start_new_session=True,
                 preexec_fn=lambda: signal.signal(signal.SIGHUP, signal.SIG_DFL))
             self.assertEqual(job.stdout.readline(), b'started\n')
+            self.await_sleep(job.pid)
             if number == signal.SIGINT:
                 # As a terminal does.
                 os.killpg(job.pid, number)

@@ -157,7 +157,8 @@ class Expand(Folder):
         """A fault in line 3 of a macro that line 40 of an include calls: the hint, explain, where and vim name both."""
         macro = ['DELAY MACRO N, REG', ' NOP', ' MOV REG,#N', ' DJNZ REG,$', ' ENDM']
         self.keep('d.inc', '\n'.join([*macro, *['; ..'] * 33, 'PAUSE:', ' DELAY 555,R7', ' RET']))
-        self.keep('m.m51', ' CSEG AT 0 / LCALL PAUSE / SJMP $ / ?PR?P SEGMENT CODE / RSEG ?PR?P / $INCLUDE(d.inc) / END')
+        self.keep(
+            'm.m51', ' CSEG AT 0 / LCALL PAUSE / SJMP $ / ?PR?P SEGMENT CODE / RSEG ?PR?P / $INCLUDE(d.inc) / END')
         tool('expand', '--out', 'm.a51', 'm.m51', folder=self.folder)
         done = subprocess.run([TOP / 'm51', 'build', '--steps', '1', 'm.a51'], cwd=self.folder, stdout=subprocess.PIPE,
                               stderr=subprocess.PIPE)

@@ -1,5 +1,10 @@
 """explain: the table, and answers. .ci/documents holds the table against docs/WHERE.md."""
-from support import PROGRAM, SHARED, Folder, build, ran, tool
+import os
+import re
+import shutil
+import subprocess
+
+from support import PROGRAM, SHARED, TOP, Folder, build, ran, tool
 
 import guesses
 import numbers_table
@@ -92,6 +97,16 @@ class Explain(Folder):
         for line in ('    | FOO 1\n    FOO in column 1 is no', '    | BAR 2\n    BAR in column 1 is no'):
             self.assertIn(line, said)
         self.assertTrue(said.endswith('\nm51: a.a51(3): E11\n'))
+
+    def test_cure_of_letters_with_accents(self):
+        """What E18 tells to type works on UTF-8, the usual coding, where no language is set, as in make."""
+        cure = re.search(r'iconv -f \S+ -t [^\s,]+', dict(numbers_table.entries())['E18'])[0]
+        page = (TOP / 'docs' / 'PORTING.md').read_text()
+        self.assertIn(f'`{cure}`', page)
+        if shutil.which('iconv'):
+            done = subprocess.run(['sh', '-c', cure], input='; Zähler\n'.encode(), stdout=subprocess.PIPE,
+                                  env={**os.environ, 'LC_ALL': 'C'})
+            self.assertEqual((done.returncode, done.stdout.isascii()), (0, True))
 
     def test_statuses(self):
         self.assertEqual(tool('explain', '3'), 'status 3  a source has faults: E1 to E19\n')

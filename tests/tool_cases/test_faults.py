@@ -1,5 +1,7 @@
-"""The faults that tests/broken plants: each can be planted, and names tests that are there."""
+"""The faults that tests/broken plants: each can be planted, and names tests that are there. No test hides another."""
+import collections
 import pathlib
+import re
 import unittest
 
 from support import TOP
@@ -27,3 +29,12 @@ class Faults(unittest.TestCase):
                 self.assertTrue(tests)
                 for name in tests:
                     self.assertTrue(any(name in it for it in names), name)
+
+    def test_no_test_hides_another(self):
+        """Of two tests of one name in a class, and of two classes in a file, Python would keep the second alone."""
+        for path in sorted(CASES.glob('test_*.py')):
+            of_class, found = '', []
+            for kind, name in re.findall(r'^(class|    def) (\w+)', path.read_text(), re.M):
+                of_class = name if kind == 'class' else of_class
+                found.append(name if kind == 'class' else f'{of_class}.{name}')
+            self.assertEqual([name for name, count in collections.Counter(found).items() if count > 1], [], path.name)

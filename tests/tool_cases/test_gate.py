@@ -161,6 +161,15 @@ class Gate(Folder):
         self.write('crates/m51_sum/specs/Sum.antt', 'add : Nat')
         self.assert_ends('docs/WHERE.md: m51_sum/specs/Sum.antt does not define sum')
 
+    def test_a_wide_line(self):
+        for name in 'crates/m51_sum/src/sum.rt', 'docs/COMMAND.md', 'tools/tool.py', 'tests/more':
+            before = FILES.get(name, '#!/usr/bin/env python3')
+            self.write(name, f'{before} / # {118 * "w"}')
+            self.assertEqual(self.gate()[0], 0, name)
+            self.write(name, f'{before} / # {119 * "w"}')
+            self.assert_ends(f'{name}:{before.count(" / ") + 2}: over 120 characters')
+            self.write(name, before)
+
     def test_a_word_of_the_list(self):
         self.write('crates/m51_sum/README.md', 'It stands there.')
         self.assert_ends('crates/m51_sum/README.md:1: "stands" is in the list of words')

@@ -116,7 +116,8 @@ class Cycles(Folder):
 
     def test_a_routine_that_only_a_call_shows(self):
         """A call that did not run makes a routine of where it leads, which has no public label and begins no unit."""
-        self.keep('n.a51', 'CSEG AT 0 / SJMP $ / ?PR?N SEGMENT CODE / RSEG ?PR?N / NEVER: LCALL DEEP / RET / DEEP: RET / END')
+        never = '?PR?N SEGMENT CODE / RSEG ?PR?N / NEVER: LCALL DEEP / RET / DEEP: RET'
+        self.keep('n.a51', f'CSEG AT 0 / SJMP $ / {never} / END')
         text = tool('cover', '--steps', '1', 'n.a51', folder=self.folder)
         self.assertIn('1 of 3 routines ran, not these:\n', text)
         self.assertIn(' DEEP (?PR?N, n.a51(7))\n', text)

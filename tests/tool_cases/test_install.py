@@ -53,7 +53,8 @@ class Install(StandIn):
         self.assertIn(f'the proved program {os.path.realpath(self.prefix)}/lib', said)
         self.assertIn(f'\nsha256 {sum_of(self.fake)}, that of the certificate\ncommit abc\ngate 9 passed, 0 failed\n',
                       said)
-        trace, sum_of_trace = self.path('usr', 'lib', 'm51', 'trace-program'), sum_of(self.path('m51-0', 'trace-program'))
+        trace = self.path('usr', 'lib', 'm51', 'trace-program')
+        sum_of_trace = sum_of(self.path('m51-0', 'trace-program'))
         self.assertIn(f'\nm51-trace: the proved program {os.path.realpath(trace)}\n'
                       f'm51-trace: sha256 {sum_of_trace}, that of the certificate\nverbs: ', said)
         self.assertEqual(self.call('gen', command=command, M51_UNPROVED='1')[0], 70)

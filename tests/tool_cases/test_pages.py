@@ -1,5 +1,6 @@
 """What the pages show of the tools is what they write, and the pictures are those that are made."""
 import os
+import re
 import shutil
 
 import arguments
@@ -8,6 +9,12 @@ from support import PROGRAM, TOP, Folder, ran
 from typed import differences
 
 PICTURES = TOP / 'docs' / 'pictures'
+# What docs/PROJECT.md tells to change in the Makefile of a copy, here for the program of the tutorial.
+CHANGES = (
+    ('NAME   = shell\n', 'NAME   = show\n'), ('INC    = board.inc\n', 'INC    =\n'),
+    ('OBJ    = main.obj uart.obj cmd.obj led.obj\n', 'OBJ    = main.obj tick.obj scale.obj\n'),
+    ('STEPS ?= 35000\n', 'STEPS ?= 300\n'), ('LIB    = util.lib\n', ''),
+    ('util.lib: num.obj text.obj hex.obj\n\t@echo "lib   $@"\n\t@$(M51) lib build $@ $^\n', ''))
 
 
 class Pages(Folder):
@@ -19,6 +26,36 @@ class Pages(Folder):
         environment = {**os.environ, 'PATH': f'{self.path("bin")}:{os.environ["PATH"]}'}
         page = (TOP / 'docs' / 'TOOLS.md').read_text()
         self.assertEqual(list(differences(page, self.path('examples', 'tutorial'), environment)), [])
+
+    def test_a_project_of_its_own(self):
+        """A copy of the shell's Makefile, changed as docs/PROJECT.md says, links and tests another program."""
+        changed = re.search(r'\*\*What a project of your own changes\*\* in the Makefile: (.*?)\n\n',
+                            (TOP / 'docs' / 'PROJECT.md').read_text(), re.S)[1]
+        for words in ('NAME, INC and OBJ; LIB and its rule', 'STEPS.', 'NAME.ctl may be empty', 'NAME.txt,'):
+            self.assertIn(words, ' '.join(changed.split()))
+        text = (TOP / 'examples' / 'shell' / 'Makefile').read_text()
+        for old, new in CHANGES:
+            self.assertEqual(text.count(old), 1, old)
+            text = text.replace(old, new)
+        with open(self.path('Makefile'), 'w') as file:
+            file.write(text)
+        for name in ('main', 'tick', 'scale'):
+            shutil.copy(TOP / 'examples' / 'tutorial' / f'{name}.a51', self.folder)
+        for name in ('show.ctl', 'show.txt'):
+            open(self.path(name), 'w').close()
+        make = ['make', '-s', f'M51={TOP / "m51"}']
+        self.assertTrue(ran(make, folder=self.folder).endswith('link  show.hex\n'))
+        self.assertIn('  D:09.0 is LAST of ?DT?SHOW, main.a51(18)', ran([*make, 'test'], folder=self.folder, status=2))
+        self.keep('show.ctl', 'NOOVERLAY(?PR?SHOW)')
+        ran([*make, 'test'], folder=self.folder, status=2)
+        self.keep('show.want', ran(['sed', '-n', '/^RUN/,$p', 'test.log'], folder=self.folder).rstrip('\n'))
+        ran([*make, 'test'], folder=self.folder)
+
+    def test_cost_of_the_unproved_program(self):
+        """The pages that offer it say what a link and a step cost."""
+        for name in ('README.md', 'docs/TUTORIAL.md', 'docs/COMMAND.md'):
+            text = ' '.join((TOP / name).read_text().split())
+            self.assertRegex(text, 'a link [a-z ]*takes half a second, and a run some 5,000 steps a second', name)
 
     def test_pictures(self):
         ran([PICTURES / 'make', self.folder], env={**os.environ, 'M51': str(TOP / 'm51')})

@@ -12,7 +12,8 @@ EDITS = (
     ('as31', '.equ X,0x1f', 'X EQU 01FH'), ('as31', ' .flag F,0x90.1', ' F BIT 090H.1'),
     ('as31', 'L: .db "It\'s",0 ; "x" 0x5', "L: DB 'It''s',0 ; \"x\" 0x5"), ('as31', ' .byte "a\\n"', " DB 'a',10"),
     ('as31', ' .word 5', ' DW 5'), ('as31', ' .skip 4', ' DS 4'), ('as31', ' mov a,#(X >> 8) & 255', ' mov a,#HIGH(X)'),
-    ('as31', ' mov a,#X & 255', ' mov a,#LOW(X)'), ('as31', ' sjmp *', ' sjmp $'), ('as31', ' mov a,#0b101', ' mov a,#101B'),
+    ('as31', ' mov a,#X & 255', ' mov a,#LOW(X)'), ('as31', ' sjmp *', ' sjmp $'),
+    ('as31', ' mov a,#0b101', ' mov a,#101B'),
     ('sdas', ' mov a,#0x1F', ' mov a,#01FH'), ('sdas', 'f::', 'f:'), ('sdas', ' .ds 2', ' DS 2'),
     ('sdas', ' mov a,#(f >> 8)', ' mov a,#HIGH(f)'), ('sdas', 'x = 5', 'x EQU 5'), ('sdas', 'ar7 = 0x07', ''),
     ('sdas', '00001$:', 'L0_00001:'), ('sdas', ' .globl f', ''),
@@ -37,7 +38,8 @@ EDITS = (
     ('asem', 31 * 'n' + f": DB '{32 * 'n'}' ; {32 * 'n'}", 31 * 'n' + f": DB '{32 * 'n'}' ; {32 * 'n'}"),
     ('asem', f'$INCLUDE({32 * "n"}.inc)', f'$INCLUDE({32 * "n"}.inc)'))
 LEFT = (
-    ('as31', ' .org 0\n .org 5', None), ('asem', ' ORG 0\n ORG 5', '2 ORG'), ('asem', ' MOV A,#X >> 8', 'a sign for an op'),
+    ('as31', ' .org 0\n .org 5', None), ('asem', ' ORG 0\n ORG 5', '2 ORG'),
+    ('asem', ' MOV A,#X >> 8', 'a sign for an op'),
     ('asem', 'UNIT: NOP', 'UNIT is a word of the language'), ('asem', '$INCLUDE(a.inc)', 'the include is an argument'),
     ('asem', ' DB 1\n ORG 0', 'the lines above have these addresses too'), ('asem', ' DSEG AT 8\n DS 1\n ORG 0', None),
     ('asem', ' DB 1\n ORG 0100H', None), ('asem', 'X EQU 1\n ORG 0000h ; reset', None),
@@ -78,23 +80,27 @@ class Port(Folder):
     def test_left(self):
         for dialect, text, why in LEFT:
             left = dialects.ported(dialect, text).left
-            self.assertEqual([it[1].startswith(why) or why in it[1] for it in left], [True] if why else [], (text, left))
+            found = [it[1].startswith(why) or why in it[1] for it in left]
+            self.assertEqual(found, [True] if why else [], (text, left))
 
     def test_registers(self):
         port = dialects.ported('asem', "CNT EQU R7\nP EQU @R0\n MOV CNT,#5 ; CNT\n MOV A,P\n DB 'CNT'\n END")
-        self.assertEqual(port.lines, ['; CNT EQU R7', '; P EQU @R0', ' MOV R7,#5 ; CNT', ' MOV A,@R0', " DB 'CNT'", ' END'])
+        self.assertEqual(port.lines, [
+            '; CNT EQU R7', '; P EQU @R0', ' MOV R7,#5 ; CNT', ' MOV A,@R0', " DB 'CNT'", ' END'])
 
     def test_areas(self):
         port = dialects.ported('sdas', ' .area DSEG (DATA)\nx: .ds 1\n .area CSEG (CODE)\n_f::\n mov x,_g\n ret')
-        self.assertEqual(port.lines[:4], ['AREA_DSEG SEGMENT DATA', 'AREA_CSEG SEGMENT CODE', '        EXTRN NUMBER (_g)',
-                                          '        PUBLIC _f'])
+        self.assertEqual(port.lines[:4], [
+            'AREA_DSEG SEGMENT DATA', 'AREA_CSEG SEGMENT CODE', '        EXTRN NUMBER (_g)', '        PUBLIC _f'])
         self.assertEqual(port.before, 4)
         port = dialects.ported('sdas', ' .area CSEG (CODE)\nxy: nop\nxY: nop')
         self.assertEqual([(at, port.lines[at - 1]) for at, _ in port.left], [(4, 'xY: nop')])
 
     def test_kinds_of_areas(self):
-        """Areas without content and those of names only are left out; bits are counted; globals of other modules stay so."""
-        text = (' .area BSEG (BIT)\nb: .ds 2\n .area XSEG (XDATA)\nx: .ds 300\n .area ISEG (DATA)\ni: .ds 1\n .area EMPTY (CODE)\n'
+        """Areas without content and those of names only are left out; bits are counted; globals of other modules stay
+        so."""
+        text = (' .area BSEG (BIT)\nb: .ds 2\n .area XSEG (XDATA)\nx: .ds 300\n .area ISEG (DATA)\ni: .ds 1\n'
+                ' .area EMPTY (CODE)\n'
                 ' .area REG_BANK_0 (REL,OVR,DATA)\n .ds 8\n .globl b\n .globl other\n')
         port = dialects.ported('sdas', text)
         lines = [line.strip() for line in port.lines if line.strip()]
@@ -114,7 +120,8 @@ class Port(Folder):
         self.keep('o.a51', '\n'.join(line for line in port.lines if 'JMP @A' not in line))
         ran([PROGRAM, 'build', '--hex', 'o.hex', '--steps', '1', 'o.a51'], folder=self.folder)
         self.assertEqual(image.read_hex(self.path('o.hex')), dict(enumerate(b'\x80\xfe\x01\x0a')))
-        for text in ('X EQU 5\n ORG 0\n SJMP $', 'M MACRO\n NOP\n ENDM\n ORG 0', ' CSEG AT 8\n NOP\n ORG 0\n SJMP $', ' NOP'):
+        for text in ('X EQU 5\n ORG 0\n SJMP $', 'M MACRO\n NOP\n ENDM\n ORG 0',
+                     ' CSEG AT 8\n NOP\n ORG 0\n SJMP $', ' NOP'):
             self.assertEqual(dialects.ported('mcu8051ide', text).before, 0, text)
 
     def test_tool(self):

@@ -72,7 +72,7 @@ class Ram(Folder):
         tool('ram', text='LINK L8\n', status=2)
         tool('ram', 'nosuch', status=2)
 
-    def test_colours(self):
+    def test_colours_of_a_terminal(self):
         """On a terminal, but not where somebody asks for none."""
         self.keep('m.map', SHARED)
         words = [TOOLS / 'ram', self.path('m.map')]

@@ -14,7 +14,8 @@ from support import PROGRAM, TOP, ran, sources, sum_of
 sys.path.insert(0, str(TOP / 'tests'))
 import pages  # noqa: E402
 
-PASSED = 'm51 proved / 12 passed, 0 failed'
+# Of two crates and an edit.
+PASSED = 'm51 proved / 3 passed, 0 failed'
 PACKED = (
     'README.md', 'CHANGELOG.md', 'SECURITY.md', 'LICENSE', 'install', 'docs', 'examples', 'completions', 'editors')
 WRITE_STAMP = (
@@ -22,8 +23,8 @@ WRITE_STAMP = (
     'sources.write_stamp(sources.stamp_of(sources.checksum(), sources.toolchain_command()), time.time_ns())')
 # Where nothing of the toolchain is.
 CLEAN_PATH = '/usr/bin:/bin'
-# A root of its own, in which only what the system has in /usr is there, and nothing in /usr/local: unpacks the release $2,
-# installs it, and types a page of it by the tests in $3.
+# A root of its own, in which only what the system has in /usr is there, and nothing in /usr/local: unpacks the release
+# $2, installs it, and types a page of it by the tests in $3.
 OWN_ROOT = """set -e
 mount -t tmpfs none "$1"
 cd "$1"
@@ -97,7 +98,9 @@ class Release(Checkout):
     def setUp(self):
         super().setUp()
         self.fill()
-        self.keep('top/crates.txt', 'm51: / m51_trace: m51')
+        self.keep('top/crates.txt', '# Programs / m51: /  / m51_trace: m51')
+        os.makedirs(self.path('top', 'crates', 'm51', 'must-fail'))
+        self.keep('top/crates/m51/must-fail/a.edit', 'file: src/main.rt')
         self.commit()
         os.makedirs(self.path('top', 'crates', 'm51_trace', 'out'))
         self.proved = self.script('top/crates/m51/out/m51', '#!/bin/sh\n')
@@ -113,7 +116,7 @@ class Release(Checkout):
         self.pack_proved('b.tar')
         self.assertEqual(sum_of(self.path('a.tar')), sum_of(self.path('b.tar')))
         self.assertTrue(said.startswith(sum_of(self.path('a.tar'))))
-        self.assertIn('\ngate 12 passed, 0 failed\n', said)
+        self.assertIn('\ngate 3 passed, 0 failed\n', said)
         folder = self.unpack('a.tar')
         ran(['sha256sum', '--quiet', '--strict', '-c', 'CERTIFICATE'], folder=folder)
         with open(os.path.join(folder, 'CERTIFICATE')) as file:
@@ -154,13 +157,14 @@ class Release(Checkout):
         """Of the log of .ci/run the last line of `rt ci` is taken, and that of tests/run beside it."""
         rest = ' / over the proved program, crates/m51/out/m51 / 900 passed, {} failed'
         self.keep('log', PASSED + rest.format(0))
-        self.assertIn('\ngate 12 passed, 0 failed\ntests 900 passed, 0 failed\n', self.pack_proved('a.tar'))
-        for text in (PASSED + rest.format(2), '11 passed, 1 failed' + rest.format(0), 'm51 proved' + rest.format(0)):
+        self.assertIn('\ngate 3 passed, 0 failed\ntests 900 passed, 0 failed\n', self.pack_proved('a.tar'))
+        for text in (PASSED + rest.format(2), '2 passed, 1 failed' + rest.format(0), 'm51 proved' + rest.format(0)):
             self.keep('log', text)
             self.pack_proved('b.tar', status=1)
 
     def test_refused(self):
-        for text in ('11 passed, 1 failed', '', '0 passed, 0 failed', 'm51 proved'):
+        for text in ('2 passed, 1 failed', '', '0 passed, 0 failed', 'm51 proved', '2 passed, 0 failed',
+                     '4 passed, 0 failed', '3 passed, 1 failed'):
             self.keep('log', text)
             self.pack_proved('a.tar', status=1)
         self.keep('log', PASSED)
@@ -199,7 +203,7 @@ class CleanMachine(Checkout):
         os.makedirs(self.path('top', 'crates', 'm51_trace', 'out'))
         shutil.copy(PROGRAM, os.path.join(self.out, 'm51'))
         shutil.copy(trace, self.path('top', 'crates', 'm51_trace', 'out', 'm51_trace'))
-        self.keep('log', PASSED)
+        self.keep('log', '1 passed, 0 failed')
         return self.pack(name, '--log', self.path('log'))
 
     def test_an_unproved_release_says_so(self):

@@ -90,7 +90,8 @@ class Symbols(Folder):
             files = self.link(file.read().rstrip('\n'))
         lines = self.symbols('lst', files).splitlines()
         for line in ('FILE m.inc', '    6   0000 00     1  NOP', 'FILE m0.asm', '    2+1 0001 7401   1  MOV A,#1',
-                     '    6   0004           HERE: ; W', '    2+2 0004 7402   1  MOV A,#2', '    7   0007 80FE   2  SJMP $'):
+                     '    6   0004           HERE: ; W', '    2+2 0004 7402   1  MOV A,#2',
+                     '    7   0007 80FE   2  SJMP $'):
             self.assertIn(line, lines)
         read = self.kept_omf(files)
         self.assertEqual(read.blocks[0].lines, [(1, 2), (3, 2), (4, 6), (6, 6), (7, 7)])

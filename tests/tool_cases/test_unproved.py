@@ -2,6 +2,7 @@
 import os
 import signal
 import subprocess
+import sys
 import time
 
 from stand_in import TOOLCHAIN, StandIn
@@ -61,8 +62,8 @@ class Unproved(StandIn):
         self.assertEqual(self.compiled(), 4, 'a source less')
 
     def test_another_kit(self):
-        """A kit of another logic than that of VERSION compiles nothing, and one line says what to do; what the right one
-        compiled stays right beside it."""
+        """A kit of another logic than that of VERSION compiles nothing, and one line says what to do; what the right
+        one compiled stays right beside it."""
         for kit in ('kit 9', 'kit 9 logic 9', self.kit() + '9', self.kit().partition(' ')[0], 'kit logic '):
             why = (f'm51: {self.path("bin", "rt")} is {kit.strip()}, and these sources need one with the logic of '
                    f'{self.kit()}: put its rt first on the path, or try this one by '
@@ -105,7 +106,7 @@ class Unproved(StandIn):
             self.script('bin/rt', TOOLCHAIN + '# a third one\n')
 
     def test_another_kit_that_is_tried(self):
-        """A kit that is asked for by hand compiles, and its program is right until a kit of the right logic is there."""
+        """A kit that is asked for by hand compiles; its program is right until a kit of the right logic is there."""
         unproved = self.path('top', 'tools', 'unproved')
         status, _, said = self.call('--any-kit', command=unproved, VERSION='kit 9')
         self.assertEqual((status, self.compiled()), (0, 1))
@@ -123,6 +124,16 @@ class Unproved(StandIn):
             status, text, said = self.call(*GEN)
             self.assertEqual((status, text, said.count('\n')), (70, '', 1))
             self.assertIn('/bin/rt is no rattle-kit, and these sources need one with the logic of ', said)
+
+    def test_no_toolchain(self):
+        """What is kept needs none; a program of other sources does."""
+        unproved, path = self.path('top', 'tools', 'unproved'), os.path.dirname(sys.executable) + ':/usr/bin:/bin'
+        self.call(*GEN)
+        self.assertEqual(self.call(command=unproved, PATH=path), (0, '', ''))
+        self.assertEqual(self.call(*GEN, PATH=path)[0], 0)
+        self.change_source('fn other')
+        status, _, said = self.call(command=unproved, PATH=path)
+        self.assertEqual((status, said), (1, "m51: no program came:\nthe toolchain's command rt is not on the path\n"))
 
     def test_beside_a_proved_program(self):
         self.prove()

@@ -1,7 +1,8 @@
 """where: labels, addresses, events."""
+import os
 import re
 
-from support import PROGRAM, TOOLS, TUTORIAL, Folder, build, ran, tool
+from support import PROGRAM, TOOLS, TUTORIAL, Folder, build, ran, sources, tool
 
 FILES = ['main.a51', 'tick.a51', 'scale.a51']
 ZEROS = 'DB 0' + ',0' * 99 + ' / '
@@ -68,6 +69,18 @@ class Where(Folder):
             tool('where', '-m', self.path('m.map'), f'--address={address}', *FILES, status=2)
         for text, file in (('SEGMENTS\n', 'nosuch.obj'), ('LINK L8\n', 'main.a51'), ('SEGMENTS\n', 'main.c')):
             self.assertEqual(tool('where', file, text=text, folder=TUTORIAL, status=2), '')
+
+    def test_the_environment(self):
+        """M51, which Makefiles export, names the script of a project; the program of the tools is M51_PROGRAM alone."""
+        self.keep('m.map', build('--steps', '1', *FILES))
+        words, environment = ['-m', self.path('m.map'), *FILES], {**os.environ, 'M51': '/bin/false'}
+        for name in ('where', 'foreign'):
+            tool(name, *words, env={**environment, 'M51_PROGRAM': '/bin/false'}, status=2)
+        del environment['M51_PROGRAM']
+        if not sources.proved() and not sources.is_current():
+            self.skipTest('no program is built here')
+        for name in ('where', 'foreign'):
+            tool(name, *words, env=environment)
 
     def test_a_label_alone(self):
         """A line with a label and nothing else does not hide the statement below it, in any tool."""

@@ -10,7 +10,10 @@ PROVER = """#!/bin/sh
 echo "$1" >> "$CALLS"
 case $1 in
     version) echo kit ;;
-    check) ls -d ../*/src ../*/out/* > "$CALLS.copied"; cat src/sum.rt > "$CALLS.text"; grep -rnw wrong src && { echo "src/sum.rt:1:1: error: not proved"; exit 1; } ;;
+    check)
+        ls -d ../*/src ../*/out/* > "$CALLS.copied"
+        cat src/sum.rt > "$CALLS.text"
+        grep -rnw wrong src && { echo "src/sum.rt:1:1: error: not proved"; exit 1; } ;;
     must-fail) echo "rt: must-fail sum/carry.edit: refused, as it must be: ${PLACE:-src/sum.rt:2:5}: not proved" ;;
 esac
 exit 0
@@ -24,7 +27,7 @@ class WrongBodies(Folder):
         self.tries = self.path('top', 'tests', 'wrong-bodies', 'try')
         for name in ('top/tests/wrong-bodies/sum', 'top/crates/sum/src', 'top/crates/sum/must-fail', 'bin'):
             os.makedirs(self.path(name))
-        for name in ('try', 'edits.py'):
+        for name in ('try', 'edits.py', 'copies.py'):
             shutil.copy(TOP / 'tests' / 'wrong-bodies' / name, self.path('top', 'tests', 'wrong-bodies', name))
         self.keep('top/crates.txt', 'sum:')
         self.keep('top/HANDLES', 'Handles allowed: none.')
@@ -52,7 +55,8 @@ class WrongBodies(Folder):
             return file.read().split().count('check')
 
     def test_a_twin_writes_the_line_of_another(self):
-        """Each `old:` text is looked for in the crate's own text: what one twin writes is nothing that another changes."""
+        """Each `old:` text is looked for in the crate's own text: what one twin writes is nothing that another
+        changes."""
         self.pair('carry', 'first + second', 'first + second + 1', 'second + first + 0 * (sum > 255)')
         self.pair('limit', 'sum > 255', 'sum > 256', '255 < sum')
         status, said = self.call('--twins')

@@ -81,8 +81,8 @@ def is_named(whole, name):
 
 
 def refused_elsewhere(crate, name, text):
-    """The function that a line of `rt` on an edit is about, if it is another than this: a message is at a line of a source, or in
-    the proofs of a function, whose folder has its name."""
+    """The function that a line of `rt` on an edit is about, if it is another than this: a message is at a line of a
+    source, or in the proofs of a function, whose folder has its name."""
     place = re.search(r'(?:^|\s)(?:\./)?(src|proofs)/([\w/]+)\.(?:rt|antt):(\d+):\d+: ', text)
     if not place:
         return None
@@ -109,8 +109,8 @@ def changes(path):
 
 
 def places(folder, path):
-    """What an edit changes in the crate in a folder: for each pair of lines the file, where the old text begins and ends
-    there, and the new text. ValueError says why it does not apply."""
+    """What an edit changes in the crate in a folder: for each pair of lines the file, where the old text begins and
+    ends there, and the new text. ValueError says why it does not apply."""
     found = []
     for file, old, new in changes(path):
         source = folder / file
@@ -135,8 +135,9 @@ def meet(some, others):
 
 
 def changed(folder, *paths):
-    """The files of the crate in a folder that these edits change together, with their new texts. Each old text is looked
-    for in the crate's own text, not in what another edit writes there. ValueError says why one does not apply."""
+    """The files of the crate in a folder that these edits change together, with their new texts. Each old text is
+    looked for in the crate's own text, not in what another edit writes there. ValueError says why one does not
+    apply."""
     texts = {}
     # From the end of a file to its beginning, so that the places before a change stay what they are.
     for file, start, end, new in sorted((place for path in paths for place in places(folder, path)), reverse=True):

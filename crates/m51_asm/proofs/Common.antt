@@ -30,12 +30,12 @@ pub use Rattle.m51_asm.specs.GivenValues.{expression_given, given_or}
 pub use Rattle.m51_expr.specs.Located.{located_value}
 pub use Rattle.m51_asm.specs.Naming.{with_front}
 pub use Rattle.m51_asm.specs.Numbering.{number_at}
-pub use Rattle.m51_asm.specs.ObjectNames.{AreNamesAt, IsAssignedText}
 pub use Rattle.m51_asm.specs.ObjectSegments.{Kept, declared_or, from_one, kept_by, object_segments, index_in}
 pub use Rattle.m51_asm.specs.ObjectSegments.{segment_number, segment_of, size_of}
 pub use Rattle.m51_asm.specs.OpenSegments.{text_segment}
 pub use Rattle.m51_asm.specs.Parts.{external, externals, name_in}
 pub use Rattle.m51_asm.specs.Passing.{ArePlaces, IsPassedTo}
+pub use Rattle.m51_asm.specs.PlacedText.{IsAssignedText}
 pub use Rattle.m51_asm.specs.Pieces.{Run, fixups, if_bytes, offset_at, pieces, pieces_of_run}
 pub use Rattle.m51_asm.specs.PlacedFaults.{is_misplaced, kind_end, operand_fault}
 pub use Rattle.m51_asm.specs.Placing.{AreLineFacts, IsAt, IsPlaceOf, here_of}
@@ -47,7 +47,7 @@ pub use Rattle.m51_asm.specs.ValuesAbove.{defined_value, or_kept}
 pub use Rattle.m51_asm.specs.ValuesAt.{IsSetAt}
 pub use Rattle.m51_asm.specs.declared.giving.Giving.{Giving}
 pub use Rattle.m51_asm.specs.declared.names.FirstDefinition.{FirstDefinition}
-pub use Rattle.m51_asm.specs.declared.object_names.PlacedText.{PlacedText}
+pub use Rattle.m51_asm.specs.declared.numbering.PlacedText.{PlacedText}
 pub use Rattle.m51_asm.specs.declared.placing.PassOneState.{PassOneState}
 pub use Rattle.m51_asm.specs.declared.stepping.LinePlace.{LinePlace}
 pub use Rattle.m51_expr.specs.declared.located.Located.{Located}

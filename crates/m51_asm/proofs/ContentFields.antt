@@ -2,6 +2,8 @@
 -- content lie in its bytes, one after another, and each is what a value leaves to the linker.
 use Rattle.m51_asm.proofs
 use proofs.Common.{nat_le, ◌≡◌, ◌⊎◌, inl, inr, ℕ, ◌+◌, ◌<◌, ◌≤◌, Bool, true, ◌&&◌, ◌||◌, List, [], ◌∷◌, Option, Some}
+use Rattle.std.proofs.lemmas.Option.{same_Some}
+use proofs.Common.{sym, ◌∙◌}
 use proofs.Common.{None, refl, ap, arith, Instr, Field, row_length, suc, length, Ok, Err, subst, field_len, Part, Value}
 use proofs.Common.{Tree, Valued, Meanings, FieldValue, Number, Linked, Reference, Answer, linked_is, ReferenceAt}
 use proofs.Common.{EmittedContent}
@@ -140,7 +142,14 @@ module _ (names : Meanings) (row : Instr) (next : ℕ) where
         → Links (and_then (or_out_of_range o) (λ held. Ok (held_at slot.byte held)))
     by_field e v is (Some (Number n)) from = grind arith
     by_field e v is None from = tt
-    by_field e v is (Some (Linked q)) from = grind (arith, linked_is)
+    by_field e v is (Some (Linked q)) from = λ r same. subst (IsAtByte slot.byte) (same_Some q r same) (record {
+      slot = slot;
+      there = there;
+      byte_is = refl;
+      form_is = ap (λ (x : Reference). field_len x.form) (sym (linked_is names slot.field next v q from))
+          ∙ form_width slot.field v.part;
+      by = record { tree = e; value = v; is = is; at = slot.field; next = next; from = from };
+    })
 
     by_value : (e : Tree) (w : Valued Value) → value_of names e ≡ w → Links (valued names next slot.field slot.byte w)
     by_value e (Ok v) is = by_field e v is _ refl

@@ -24,7 +24,7 @@ use proofs.ItemContents.{one_fixup, fixes, AreFine, IsGiven, AreMade, made, byte
 use Rattle.m51_encode.proofs.FormRows.{forms_have_rows}
 use specs.Assignment.{above}
 use specs.Fitting.{size_at}
-use specs.ObjectMeanings.{final}
+use specs.ObjectSegments.{final}
 use specs.ContentFaults.{line_outcomes_by, line_outcomes, made_before, content_fault}
 use specs.Pieces.{content_at}
 use proofs.GoodLines.{IsGood, IsFreeText, IsClean, free}

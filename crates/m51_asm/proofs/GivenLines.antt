@@ -10,7 +10,7 @@ use Rattle.m51_emit.specs.declared.content.EmittedContent.{EmittedContent}
 use Rattle.m51_emit.specs.Content.{outcomes_by, content_by}
 use Rattle.m51_emit.specs.PublicNames.{Published, public_outcome}
 use specs.declared.contents.Contents.{Contents}
-use specs.ObjectMeanings.{final}
+use specs.ObjectSegments.{final}
 use specs.ContentFaults.{line_outcomes_by, line_outcomes, made_before, content_fault}
 use specs.Pieces.{content_at}
 use specs.PublicNames.{published, publics_of}

@@ -10,11 +10,12 @@ use proofs.Common.{Reloc, kind_same, Segment, size_of, kept_by, declared_or, seg
 use specs.Fitting.{segment_behind, size_at, filled, declared_in}
 use proofs.GoodLines.{IsFreeText, free, IsDeclared, IsGood}
 use proofs.KnownSegments.{known, last_or_below, Declares, two_more}
-use Rattle.std.proofs.lemmas.Option.{slice_get-map}
+use Rattle.std.proofs.lemmas.Option.{slice_get-map, slice_get_cases}
+use borrow.Author.Count.{below_more}
 use specs.ObjectSegments.{number_in, relocatable, absolute_of, if_filled, kept_before, kept}
-use Rattle.m51_cells.proofs.Members.{In, Pairs, every_in, every_of, pairs_append}
+use Rattle.m51_cells.proofs.Members.{In, Pairs, every_in, every_of, in_left, in_right, pairs_append}
 use proofs.Members.{in_both, pairs_within}
-use Rattle.m51_cells.specs.Kinds.{allows, largest, may_overlay}
+use Rattle.m51_cells.specs.Kinds.{allows, is_absolute, largest, may_overlay}
 use Rattle.m51_cells.specs.Fits.{Fits as FitsIn'}
 use Rattle.m51_module.specs.Validity.{IsSegmentValid}
 use specs.Assignment.{reloc_by}
@@ -111,6 +112,11 @@ leads_to xs h s i = grind (arith, stands, slice_get-map)
 abbrev pub IsNumbered : List Kept → ℕ → Type 0
 IsNumbered xs id = (s : Kept) × In s xs × (s.id ≡ id)
     × (numbered (map (λ k. k.segment) xs) (number_in xs id) ≡ Some s.segment)
+
+-- a segment of the module has a number other than 0
+is_numbered : (xs : List Kept) → Ascend xs → (s : Kept) → In s xs → number_in xs s.id ≢ 0
+unfolding number_in
+is_numbered xs h s i e = let some = ap from_one (stands xs h s i).1 in omega arith
 
 still_none : (o : Option ℕ) → from_one o ≡ 0 → from_one (option_map (λ n. suc n) o) ≡ 0
 still_none o e = grind arith
@@ -251,3 +257,36 @@ module _ (lines : List LineTree) (a : Assignment) (c : IsFreeText lines a) where
   pub all_kept : AreKept (length lines) (kept lines a)
   unfolding kept
   all_kept = are_kept (length lines)
+
+  -- a segment of this id is one of those of the first n lines
+  abbrev IsAmong : ℕ → ℕ → Type 0
+  IsAmong n id = (s : Kept) × In s (kept_before lines a n) × (s.id ≡ id)
+
+  -- the type of what a line declares
+  abbrev declares_absolute : ℕ → Bool
+  declares_absolute k = is_absolute (reloc_by (body_at lines k))
+
+  declared_by_line : (k : ℕ) (b : BodyTree) → is_absolute (reloc_by b) ≡ false
+      → (s : Kept) × In s (kept_by lines a k b) × (s.id ≡ k + 2)
+  declared_by_line k (body.Segment name j r overlayable) h = (_, inl refl, refl)
+  declared_by_line k b h = absurd (cc h)
+
+  declared_above : (n k : ℕ) → k < n → declares_absolute k ≡ false → IsAmong n (k + 2)
+  unfolding kept_before
+  declared_above zero k less = absurd (omega arith)
+  declared_above (suc n) k less =
+      below_more (λ k. declares_absolute k ≡ false → IsAmong (suc n) (k + 2)) n
+      (λ j l h. let r = declared_above n j l h in (r.0, in_left _ _ _ r.1, r.2))
+      (λ h. let r = declared_by_line n (body_at lines n) h in (r.0, in_right _ _ _ r.1, r.2)) k (omega arith)
+
+  declared_inside : (k : ℕ) → declares_absolute k ≡ false → k < length lines
+  declared_inside k h = grind (arith, slice_get_cases)
+
+  -- the module has each relocatable segment
+  pub relocatable_numbered : (id : ℕ) → is_absolute (segment_reloc lines id) ≡ false → number_in (kept lines a) id ≢ 0
+  unfolding kept
+  relocatable_numbered zero h = absurd (cc h)
+  relocatable_numbered (suc zero) h = absurd (cc h)
+  relocatable_numbered (suc (suc k)) h =
+      let r = declared_above (length lines) k (declared_inside k h) h in
+      λ e. is_numbered _ all_kept.order r.0 r.1 (ap (number_in (kept lines a)) (r.2 ∙ two_more k) ∙ e)

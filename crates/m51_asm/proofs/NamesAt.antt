@@ -78,6 +78,7 @@ means lines a f k segments table values predefines bank here s =
       here = s.place i;
       fixed = λ id. is_absolute (s.types id i);
       bitaddressable = λ id. is_bitaddressable (s.types id i);
+      number = λ id. 0;
     }
   where
     value_is : (name : List ℕ)

@@ -2,77 +2,56 @@
 use Rattle.m51_asm.proofs
 use Rattle.m51_asm.specs
 use proofs.Common.{◌≡◌, ℕ, List, [], ◌∷◌, map, Option, Some, None, option_map, Ok, Err, refl, ◌∙◌, Base, Value}
-use proofs.Common.{LineTree, or_next, PlacedText, Definition, Label, SegmentOf, EquOf, SetOf, AddressOf, ExternOf}
-use proofs.Common.{Assignment, first_definition, segment_number, segment_of, IsAssignedText, AreNamesAt, fault_among}
+use proofs.Common.{LineTree, or_next, PlacedText, Definition, arith}
+use proofs.Common.{Assignment, first_definition, segment_number, segment_of, IsAssignedText, fault_among, number_at}
 use proofs.Common.{Valuation, Located}
 use Rattle.m51_cells.specs.declared.kind.Base.TheVariants as base
 use Rattle.m51_emit.specs.Outcomes.{leftmost_fault}
-use Rattle.m51_emit.specs.PublicNames.{Published, public_outcome}
-use Rattle.m51_emit.specs.PublicNames as content
+use Rattle.m51_emit.specs.PublicNames.{Published, public_by, public_outcome}
+use Rattle.m51_emit.specs.declared.publics.PublicSegment.{PublicSegment}
 use specs.Definitions.{definition_of}
-use specs.ObjectMeanings.{final, object_base, object_value}
-use specs.PublicNames.{public_of_value, public_valued, public_by, published}
-use specs.Publishing.{definer_of, counted_from, counted_by, published_from, published_by, fault_of_public}
+use specs.ObjectSegments.{final}
+use specs.NamesAt.{names_at}
+use specs.PublicNames.{definer_by, numbered_as, base_segment, counted_from, published}
+use specs.Publishing.{definer_of, published_by, fault_of_public}
 use specs.SegmentTable.{segment_in}
 use proofs.BasedNames.{IfSomeBased, IsDeclaredBase, name_good}
 use proofs.ToldLines.{names_of}
 use proofs.SegmentsAt.{segment_is}
 
--- the public of a value over the numbers of the module
-module _ (lines : List LineTree) (a : Assignment) (name : List ℕ) where
-  of_base : (v : Value) (b : Base)
-      → content.public_of_value name (object_value (segment_number lines a) v)
-      (counted_from (segment_of lines a) b).kind
-      (counted_from (segment_of lines a) b).base (object_base (segment_number lines a) b)
-      ≡ public_of_value lines a name v b
-  of_base v base.None = refl
-  of_base v (base.External external) = refl
-  of_base v (base.Segment id) = refl
+-- what defines a name, by its first definition
+definer_is : (o : Option (ℕ × Definition)) → definer_of (option_map first_definition o) ≡ definer_by o
+definer_is b = grind arith
 
-  of_value : (value : Option Value)
-      → content.public_valued name (counted_by (segment_of lines a) value).kind
-      (counted_by (segment_of lines a) value).base
-      (option_map (object_value (segment_number lines a)) value)
-      ≡ public_valued lines a name value
-  of_value (Some v) = of_base v v.base
-  of_value None = refl
+module _ (lines : List LineTree) (a : Assignment) (t : PlacedText) (h : IsAssignedText lines a t)
+    (numbers : List ℕ) (each : (id : ℕ) → number_at numbers id ≡ segment_number lines a id) where
+  abbrev segments : ℕ → PublicSegment
+  segments id = numbered_as (segment_of lines a id) (segment_number lines a id)
 
-  by_definition : (value : Option Value) (d : Option (ℕ × Definition))
-      → published_from name (definer_of (option_map first_definition d)) (counted_by (segment_of lines a) value)
-      (option_map (object_value (segment_number lines a)) value)
-      ≡ public_by lines a name value d
-  by_definition value (Some (line, Label)) = of_value value
-  by_definition value (Some (line, SegmentOf kind)) = refl
-  by_definition value (Some (line, EquOf e)) = of_value value
-  by_definition value (Some (line, SetOf e)) = refl
-  by_definition value (Some (line, AddressOf kind e)) = of_value value
-  by_definition value (Some (line, ExternOf kind number)) = refl
-  by_definition value None = of_value value
+  abbrev kept_segments : ℕ → PublicSegment
+  kept_segments id = numbered_as (segment_in t.end.now.segments.table id) (number_at numbers id)
 
-module _ (lines : List LineTree) (a : Assignment) (t : PlacedText) (h : IsAssignedText lines a t) where
   counted_is : (o : Option Value) → IfSomeBased (IsDeclaredBase lines a) o
-      → counted_by (segment_in t.end.now.segments.table) o ≡ counted_by (segment_of lines a) o
+      → counted_from kept_segments o ≡ counted_from segments o
   counted_is None based = refl
   counted_is (Some v) based = from v.base (based.holds v refl).base_is
     where
-      from : (b : Base) → IsDeclaredBase lines a b
-          → counted_from (segment_in t.end.now.segments.table) b ≡ counted_from (segment_of lines a) b
-      from (base.Segment id) is = segment_is lines a h.fits _ h.placed.at.segments.table id is
+      from : (b : Base) → IsDeclaredBase lines a b → base_segment kept_segments b ≡ base_segment segments b
+      from (base.Segment id) is =
+          λ i. numbered_as (segment_is lines a h.fits _ h.placed.at.segments.table id is i) (each id i)
       from base.None is = refl
       from (base.External external) is = refl
 
   -- what PUBLIC makes of a name
   pub published_is : (k : ℕ) (set : Valuation) (bank : ℕ) (here : Located ℕ)
-      → AreNamesAt lines a k (names_of t set bank here) → (name : List ℕ)
-      → published_by (names_of t set bank here) name ≡ published lines a k name
+      → names_at (names_of t set bank here numbers) ≡ final lines a k → (name : List ℕ)
+      → published_by (names_of t set bank here numbers) name ≡ published lines a k name
   unfolding published final
-  published_is k set bank here g name =
-      (λ i. published_from name (definer_of (h.names name i))
-      (counted_by (segment_in t.end.now.segments.table) (g.values name i)) ((g.meanings i).value name))
-      ∙ cc (
-        counted_is (a.value k name) (name_good lines a h.fits k name),
-        by_definition lines a name (a.value k name) (definition_of lines name),
-      )
+  published_is k set bank here means name =
+      (λ i. public_by name (definer_of (h.names name i)) (counted_from kept_segments ((means i).value name))
+      ((means i).value name))
+      ∙ λ i. public_by name (definer_is (definition_of lines name) i)
+      (counted_is (a.value k name) (name_good lines a h.fits k name) i) (a.value k name)
 
 module _ (lines : List LineTree) (a : Assignment) (k made : ℕ) where
   one_fault : (p : Published) (names : List (List ℕ))

@@ -9,8 +9,8 @@ use proofs.Common.{slice_get, Whole, PassOneState, Located, body_of, here_at, mo
 use proofs.Common.{Jump, located_value, size_in, expression_given, IsAt, AreLineFacts, here_of, [], ◌∷◌, ◌++◌, length}
 use proofs.Common.{Defined, list_any, is_set, or_parts, take_all, bytes_eq-Decides, bytes_eq, Tree, LinePlace, Label}
 use proofs.Common.{SetOf, externals_from, defined_by, label_defined, found_in, set_by, named_value, defined_value}
-use proofs.Common.{Valuation, value_in, IsPlaceOf, IsSetAt, PlacedText, IsAssignedText, AreNamesAt}
-use specs.Assignment.{above, value_or_none}
+use proofs.Common.{Valuation, value_in, IsPlaceOf, IsSetAt, PlacedText, IsAssignedText, number_at, segment_number}
+use specs.Assignment.{above, value_or_none, is_bitaddressable}
 use specs.Fitting.{bank_before, last_absolute, declared, declared_by, segment_behind, size_at, filled, last_set}
 use specs.Fitting.{undefined_value}
 use specs.Parts.{is_selected}
@@ -24,7 +24,7 @@ use proofs.KnownSegments.{declares}
 use Rattle.m51_cells.specs.declared.kind.Base.TheVariants as base
 use specs.declared.told.LineFacts.{LineFacts}
 use specs.Repeats.{is_repeated}
-use specs.NamesAt.{kept_meanings, with_label}
+use specs.NamesAt.{kept_meanings, with_label, names_at}
 use specs.Operands.{operand_number, IsOperand}
 use specs.Placing.{IsTableOf, AreFactsFrom}
 use proofs.NamesAt.{means, form_told}
@@ -32,8 +32,9 @@ use proofs.SegmentsAt.{current_is, latest_is}
 use Rattle.m51_expr.specs.Evaluation.{value_of}
 use specs.ValuesAbove.{value_above}
 use specs.ValuesAt.{value_by_first, value_at, if_put, PutsIf, set_in, IsKnownAt}
-use specs.declared.object_names.ObjectNames.{ObjectNames}
-use specs.ObjectMeanings.{object_meanings, final}
+use specs.declared.names_at.NamesAt.{NamesAt}
+use specs.ObjectSegments.{final}
+use Rattle.m51_cells.specs.Kinds.{is_absolute}
 use Rattle.std.proofs.lemmas.Option.{slice_get_within}
 
 -- whether a bank is selected, with one more line
@@ -230,31 +231,33 @@ pub place_is : (lines : List LineTree) (a : Assignment) (k : ℕ) (line : LineTr
 place_is lines a k line is t h p place = grind (arith, slice_get_within)
 
 -- the names at a line of a text whose lines are placed; where the references point does not matter
-abbrev pub names_of : PlacedText → Valuation → ℕ → Located ℕ → ObjectNames
-names_of t set bank here = record {
-  names = record {
-    text = t.text;
-    segments = record { ref_ptr = (0, 0); now = t.end.now.segments.table };
-    kept = record { ref_ptr = (0, 0); now = t.end.now.values };
-    set = record { ref_ptr = (0, 0); now = set };
-    bank = bank;
-    here = here;
-    label = None;
-  };
-  numbering = t.numbering;
+abbrev pub names_of : PlacedText → Valuation → ℕ → Located ℕ → List ℕ → NamesAt
+names_of t set bank here numbers = record {
+  text = t.text;
+  segments = record { ref_ptr = (0, 0); now = t.end.now.segments.table };
+  kept = record { ref_ptr = (0, 0); now = t.end.now.values };
+  set = record { ref_ptr = (0, 0); now = set };
+  bank = bank;
+  here = here;
+  numbers = record { ref_ptr = (0, 0); now = numbers };
+  label = None;
 }
 
 -- by the state at a line, what names mean there
-pub object_names_are : (lines : List LineTree) (a : Assignment) (k : ℕ) (t : PlacedText) → IsAssignedText lines a t
+pub names_mean : (lines : List LineTree) (a : Assignment) (k : ℕ) (t : PlacedText) → IsAssignedText lines a t
     → (set : Valuation) → IsSetAt lines a k set
     → (p : LinePlace) → IsPlaceOf lines a k p → (here : Located ℕ) → located_value here ≡ here_at a k
-    → AreNamesAt lines a k (names_of t set p.bank here)
+    → (numbers : List ℕ) → ((id : ℕ) → number_at numbers id ≡ segment_number lines a id)
+    → names_at (names_of t set p.bank here numbers) ≡ final lines a k
 unfolding final
-object_names_are lines a k t h set sets p stands here at = record {
-  values = value;
-  meanings =
-      λ i. object_meanings (λ name. value name i) (at i) (λ id. h.numbered.each id i) (h.numbered.segments i);
-}
+names_mean lines a k t h set sets p stands here at numbers each =
+    λ i. record {
+      value = λ name. value name i;
+      here = at i;
+      fixed = λ id. is_absolute (h.placed.at.segments.table.types id i);
+      bitaddressable = λ id. is_bitaddressable (h.placed.at.segments.table.types id i);
+      number = λ id. each id i;
+    }
   where
     value : (name : List ℕ)
         → value_at t.text.names.now t.end.now.values set t.text.mod51 p.bank name ≡ a.value k name

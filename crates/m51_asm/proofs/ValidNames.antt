@@ -6,10 +6,11 @@ use proofs.Common.{◌≡◌, ◌≢◌, inl, inr, ℕ, suc, ◌+◌, ◌<◌, �
 use proofs.Common.{flat_map, range_with_len, Kind, IsWritten, BodyTree, Each, LineTree, SegmentOf, ExternOf}
 use proofs.Common.{externals_from, defined_by, Assignment, body_at, Kept, object_segments, externals, name_in, kept}
 use proofs.Common.{cases_Bool, cases_eq, zero, Option, Ok, Err, ap, eq-eqb, ne_eqb, Base, same_kind, kind_same, Value}
-use proofs.Common.{is_whole, Definition, publics_in, segment_of, segment_number}
+use proofs.Common.{is_whole, publics_in, segment_of, segment_number}
 use Rattle.m51_cells.proofs.NameLaws.{name_written}
 use Rattle.m51_module.specs.declared.symbol.External.{External}
 use Rattle.m51_module.specs.Validity.{Differ, IsPublicBase, IsPublicValid}
+use specs.Definitions.{definition_of}
 use specs.Naming.{module_name}
 use specs.Parts.{externals_by, name_by, publics_by, publics_before}
 use proofs.Written.{file_named}
@@ -22,7 +23,11 @@ use proofs.FewSegments.{IsRest, all_lines}
 use proofs.DefinedOnce.{Apart, IsOnce, once, publics_once}
 use Rattle.m51_stmt.specs.Statement as body
 use Rattle.m51_module.specs.declared.symbol.Public.{Public}
-use specs.PublicNames.{Published, public_of_value, public_valued, public_by, published, if_public, publics_of}
+use Rattle.m51_emit.specs.PublicNames.{public_of_value, public_valued}
+use Rattle.m51_emit.specs.declared.publics.Definer.{Definer}
+use Rattle.m51_emit.specs.declared.publics.PublicSegment.{PublicSegment}
+use specs.PublicNames.{Published, public_by, published, if_public, publics_of, definer_by, numbered_as, base_segment}
+use specs.PublicNames.{counted_from}
 use Rattle.m51_cells.specs.declared.kind.Base.TheVariants as base
 
 -- the name that a file gives is written
@@ -143,7 +148,10 @@ module _ (lines : List LineTree) (a : Assignment) (c : IsClean lines a) where
   Makes name (Ok p) = IsMade name p
   Makes name (Err n) = Unit {0}
 
-  of_base : (name : List ℕ) (v : Value) (b : Base) → Makes name (public_of_value lines a name v b)
+  abbrev segments : ℕ → PublicSegment
+  segments id = numbered_as (segment_of lines a id) (segment_number lines a id)
+
+  of_base : (name : List ℕ) (v : Value) (b : Base) → Makes name (public_of_value name v (base_segment segments b) b)
   of_base name v base.None = record { name_is = refl; counts = tt }
   of_base name v (base.External external) = tt
   of_base name v (base.Segment id) = elim (cases_Bool (is_whole v.part)) [
@@ -167,16 +175,16 @@ module _ (lines : List LineTree) (a : Assignment) (c : IsClean lines a) where
     ])
   ]
 
-  of_value : (name : List ℕ) (v : Option Value) → Makes name (public_valued lines a name v)
+  of_value : (name : List ℕ) (v : Option Value) → Makes name (public_valued name (counted_from segments v) v)
   of_value name b = grind (arith, of_base)
 
-  of_definition : (name : List ℕ) (v : Option Value) (d : Option (ℕ × Definition))
-      → Makes name (public_by lines a name v d)
-  of_definition name v d = grind (arith, of_value)
+  of_definer : (name : List ℕ) (v : Option Value) (d : Definer)
+      → Makes name (public_by name d (counted_from segments v) v)
+  of_definer name v d = grind (arith, of_value)
 
   made : (k : ℕ) (name : List ℕ) → Makes name (published lines a k name)
   unfolding published
-  made k name = grind (arith, of_definition)
+  made k name = of_definer name (a.value k name) (definer_by (definition_of lines name))
 
   -- a public of one of these names
   abbrev IsAmong : List (List ℕ) → Public → Type 0

@@ -1,26 +1,26 @@
 -- The module that a text without faults gives is valid, and so is that of each answer.
 use Rattle.m51_asm.proofs
 use Rattle.m51_asm.specs
-use proofs.Common.{kept, cases_eq, ◌≡◌, ◌⊎◌, inl, inr, ℕ, zero, suc, ◌≤◌, true, List, length, Option, Some, None}
-use proofs.Common.{option_map, refl, subst, arith, Base, Field, Segment, numbered, Value, Meanings, Linked, Reference}
-use proofs.Common.{linked_is, LineTree, Assignment, here_at, object_segments, segment_number, externals, pieces, fixups}
+use proofs.Common.{kept, ◌≡◌, inl, inr, ℕ, zero, suc, ◌≤◌, true, List, length, Option, Some, None}
+use proofs.Common.{refl, subst, arith, Base, Field, Segment, numbered, Value, Meanings, Linked, Reference}
+use proofs.Common.{linked_is, LineTree, Assignment, object_segments, externals, pieces, fixups}
 use proofs.Common.{◌+◌, ◌%◌, ◌<◌, Bool, cond, [], ◌∷◌, list_any, length-map, IsValid, SourceFile, Lines, text_of}
 use proofs.Common.{AreFree, Fits, Fixup, content_faults, Kept, min, sym, Fault, Row, rows_from, first_fault}
-use proofs.Common.{content_or_faults}
+use proofs.Common.{content_or_faults, eq-eqb, not, ◌&&◌, ◌||◌, false}
 use Rattle.std.proofs.lemmas.Option.{slice_get_cases}
 use Rattle.m51_module.specs.declared.symbol.External.{External}
 use Rattle.m51_module.specs.Validity.{IsTarget, IsFixupValid, IsVersion, IsSegmentValid}
-use Rattle.m51_encode.specs.Bases.{is_linked}
+use Rattle.m51_encode.specs.Bases.{object_base, is_linked}
 use Rattle.m51_encode.specs.FieldValues.{field_of}
 use Rattle.m51_encode.proofs.BitNumbers.{references_have_bits}
-use specs.ObjectMeanings.{final, object_base, object_value}
+use specs.ObjectSegments.{final}
 use Rattle.m51_cells.proofs.Members.{In, in_map, pairs_all}
 use proofs.Members.{all_in}
 use proofs.GoodLines.{IsClean, free_text, clean_where, clean}
-use proofs.KeptSegments.{all_kept, has_number}
+use proofs.KeptSegments.{all_kept, has_number, relocatable_numbered}
 use proofs.FewSegments.{externals_count, few_segments, few_externals}
 use proofs.GivenContents.{given}
-use proofs.BasedNames.{IsBased, IfSomeBased, AreBased, value_based, IsDeclaredBase, name_good, place_good}
+use proofs.BasedNames.{AreBased, value_based, IsDeclaredBase, name_good, place_good}
 use proofs.ValidPieces.{of_text, held, fixups_ordered, few_fixups, pieces_valid, pieces_ordered}
 use Rattle.m51_cells.specs.declared.kind.Base.TheVariants as base
 use Rattle.std.proofs.lemmas.Bool.{or_right}
@@ -46,6 +46,10 @@ field_linked : (names : Meanings) (at : Field) (next : ℕ) (v : Value) (r : Ref
 unfolding field_of
 field_linked names at next v r h = grind arith
 
+-- a base without a number that the linker adds is relocatable
+unfixed : (fixed none current : Bool) → (not fixed || (not none && not current)) ≡ true → none ≡ true → fixed ≡ false
+unfixed fixed none current l e = grind arith
+
 -- an external of that number
 numbered_there : (es : List External) (e : ℕ) → 1 ≤ e → e ≤ length es → (x : External) × (numbered es e ≡ Some x)
 numbered_there es zero some most = absurd (omega arith)
@@ -56,43 +60,22 @@ module _ (lines : List LineTree) (a : Assignment) (c : IsClean lines a) where
   abbrev targets : List Segment
   targets = object_segments lines a
 
-  abbrev number : ℕ → ℕ
-  number id = segment_number lines a id
-
-  -- a base of an object: the segment exists, or has the number 0
-  abbrev IsThere : Base → Type 0
-  IsThere base.None = Unit {0}
-  IsThere (base.Segment n) = (n ≡ 0) ⊎ IsTarget targets (externals lines) (base.Segment n)
-  IsThere (base.External e) = IsTarget targets (externals lines) (base.External e)
-
-  base_there : (b : Base) → IsDeclaredBase lines a b → IsThere (object_base number b)
-  base_there base.None h = tt
-  base_there (base.Segment id) h = elim (cases_eq (number id) 0) [
-    | inl e ↦ inl e
-    | inr ne ↦
-        let n = has_number (kept lines a) (all_kept lines a (free_text lines a c)).order id ne in
-        inr (n.0.segment, n.3)
-  ]
-  base_there (base.External e) h = numbered_there _ e h.0 (omega (arith, externals_count lines))
-
-  object_there : (v : Value) → IsBased (IsDeclaredBase lines a) v → IsBased IsThere (object_value number v)
-  object_there v h = record { base_is = base_there v.base h.base_is; bit_is = h.bit_is }
-
-  option_there : (o : Option Value) → IfSomeBased (IsDeclaredBase lines a) o
-      → IfSomeBased IsThere (option_map (object_value number) o)
-  option_there b h = grind (arith, object_there)
-
-  final_there : (k : ℕ) → AreBased IsThere (final lines a k)
+  -- a base that the linker adds is a target in the object
+  target_there : (k : ℕ) (b : Base) → IsDeclaredBase lines a b → is_linked (final lines a k) b ≡ true
+      → IsTarget targets (externals lines) (object_base (final lines a k) b)
   unfolding final
-  final_there k = record {
-    value = λ name. option_there (a.value k name) (name_good lines a c.fits k name);
-    here = object_there (here_at a k) (place_good lines a c.fits k);
-  }
+  target_there k base.None h l = absurd (cc l)
+  target_there k (base.Segment id) h l =
+      let free = free_text lines a c in
+      let n = has_number (kept lines a) (all_kept lines a free).order id
+      (λ e. relocatable_numbered lines a free id (unfixed _ _ _ l (eq-eqb _ _ e)) e) in
+      (n.0.segment, n.3)
+  target_there k (base.External e) h l = numbered_there _ e h.0 (omega (arith, externals_count lines))
 
-  linked_there : (k : ℕ) (b : Base) → IsThere b → is_linked (final lines a k) b ≡ true
-      → IsTarget targets (externals lines) b
+  final_good : (k : ℕ) → AreBased (IsDeclaredBase lines a) (final lines a k)
   unfolding final
-  linked_there k b h l = grind arith
+  final_good k =
+      record { value = λ name. name_good lines a c.fits k name; here = place_good lines a c.fits k }
 
   pub fixups_valid : (f : Fixup) → In f (fixups lines a)
       → IsFixupValid targets (externals lines) (pieces lines a) f
@@ -101,12 +84,13 @@ module _ (lines : List LineTree) (a : Assignment) (c : IsClean lines a) where
       let line = t.2.0 in
       let o = t.2.2 in
       let l = (given lines a c line o.below).content.linked o.reference o.there in
-      let based = (value_based IsThere tt (final lines a line) (final_there line) l.tree).holds l.value l.is in
+      let names = final lines a line in
+      let based = (value_based (IsDeclaredBase lines a) tt names (final_good line) l.tree).holds l.value l.is in
       record {
         bit = rw (← o.is) (references_have_bits _ _ _ _ _ based.bit_is l.from);
         target = rw (← o.is)
             (subst (λ (x : Reference). IsTarget targets (externals lines) x.base) (linked_is _ _ _ _ _ l.from)
-            (linked_there line l.value.base based.base_is (field_linked _ _ _ _ _ l.from)));
+            (target_there line l.value.base based.base_is (field_linked _ _ _ _ _ l.from)));
         held = held lines a c f t;
       }
 

@@ -4,7 +4,7 @@ use Rattle.m51_stmt.specs.Statement.{BodyTree, Public}
 use Rattle.m51_module.specs.declared.source.Fault.{Fault}
 use Rattle.m51_text.specs.Answer.{LineTree}
 use Rattle.m51_asm.specs.Assignment.{Assignment, body_at}
-use Rattle.m51_asm.specs.ObjectMeanings.{final}
+use Rattle.m51_asm.specs.ObjectSegments.{final}
 use Rattle.m51_encode.specs.declared.outcome.OperandOutcome.{OperandOutcome}
 use Rattle.m51_asm.specs.Outcomes.{made_with_all, leftmost_fault}
 use Rattle.m51_asm.specs.Content.{outcomes_by}

@@ -9,7 +9,6 @@ pub mod Table
 pub mod Defining
 pub mod Renumbering
 pub mod ObjectSegments
-pub mod ObjectMeanings
 pub mod Outcomes
 pub mod Content
 pub mod PublicNames
@@ -33,7 +32,7 @@ pub mod FirstFault
 pub mod ValidTexts
 pub mod Passing
 pub mod Numbering
-pub mod ObjectNames
+pub mod PlacedText
 pub mod Banks
 pub mod Publishing
 pub mod Contents

@@ -2,8 +2,6 @@
 use Rattle.std.specs.Prelude.{◌≡◌, ℕ, Bool, false, if◌then◌else◌, List, Option, Some, slice_get, option_map}
 use Rattle.m51_cells.specs.Kinds.{is_absolute}
 use Rattle.m51_expr.specs.declared.located.Located.{Located}
-use Rattle.m51_expr.specs.declared.located.Origin.TheVariants as origin
-use Rattle.m51_expr.specs.declared.value.Part.TheVariants.{Whole}
 use Rattle.m51_expr.specs.declared.value.Value.{Value}
 use Rattle.m51_expr.specs.Located.{located_value}
 use Rattle.m51_expr.specs.Meanings.{Meanings}
@@ -13,16 +11,13 @@ use Rattle.m51_asm.specs.declared.segment_table.SegmentEntry.{SegmentEntry}
 use Rattle.m51_asm.specs.Definitions.{definition_of}
 use Rattle.m51_asm.specs.Assignment.{Assignment, is_bitaddressable, segment_reloc, here_at, above}
 use Rattle.m51_asm.specs.Fitting.{mod51, bank_before, form_by, Fits}
+use Rattle.m51_asm.specs.Numbering.{number_at}
 use Rattle.m51_asm.specs.Repeats.{is_repeated}
 use Rattle.m51_asm.specs.SegmentTable.{entry_in}
 use Rattle.m51_asm.specs.Table.{Table, first_in, first_definition}
 use Rattle.m51_asm.specs.Values.{Valuation, value_in}
 use Rattle.m51_asm.specs.ValuesAbove.{value_above}
 use Rattle.m51_asm.specs.ValuesAt.{is_label, value_at}
-
--- a number without a base
-abbrev pub plain_located : Value → Located ℕ
-plain_located v = record { number = v.number; class = v.class; origin = origin.None; part = Whole }
 
 -- a name that is the label means the place of the line
 abbrev pub or_label : Meanings → Option (List ℕ) → List ℕ → Option Value
@@ -35,6 +30,7 @@ with_label names label = record {
   here = names.here;
   fixed = names.fixed;
   bitaddressable = names.bitaddressable;
+  number = names.number;
 }
 
 -- what names and the place of a line mean, by the values that are kept of names and of those that SET defines
@@ -44,13 +40,19 @@ kept_meanings segments table kept set mod51 bank here = record {
   here = located_value here;
   fixed = λ id. is_absolute (entry_in segments id).reloc;
   bitaddressable = λ id. is_bitaddressable (entry_in segments id).reloc;
+  number = λ id. 0;
 }
+
+-- the same with these numbers of segments
+abbrev pub with_numbers : Meanings → List ℕ → Meanings
+with_numbers names numbers = record names { number = number_at numbers }
 
 -- what names and the place of a line mean to the code, in both passes
 abbrev pub names_at : NamesAt → Meanings
 names_at n =
     with_label
-    (kept_meanings n.segments.now n.text.names.now n.kept.now n.set.now n.text.mod51 n.bank n.here)
+    (with_numbers (kept_meanings n.segments.now n.text.names.now n.kept.now n.set.now n.text.mod51 n.bank n.here)
+    n.numbers.now)
     n.label
 
 -- what is kept is what the lines above line k give under the assignment

@@ -6,9 +6,10 @@ use Rattle.m51_cells.specs.declared.kind.Reloc.{Reloc}
 use Rattle.m51_cells.specs.declared.kind.Reloc.TheVariants.{Abs}
 use Rattle.m51_module.specs.declared.segment.Segment.{Segment}
 use Rattle.m51_module.specs.Arguments.{marked}
+use Rattle.m51_expr.specs.Meanings.{Meanings}
 use Rattle.m51_stmt.specs.Statement.{BodyTree, Segment as Declares}
 use Rattle.m51_text.specs.Answer.{LineTree}
-use Rattle.m51_asm.specs.Assignment.{TextSegment, Assignment, opening, body_at}
+use Rattle.m51_asm.specs.Assignment.{TextSegment, Assignment, opening, body_at, everywhere}
 use Rattle.m51_asm.specs.Fitting.{filled, declared_in}
 
 -- a segment of the module, with the id that it has in the text
@@ -103,3 +104,7 @@ declared_or lines k after body = after
 abbrev pub segment_of : List LineTree → Assignment → ℕ → TextSegment
 segment_of lines a (suc (suc k)) = declared_or lines k (a.segment (suc k)) (body_at lines k)
 segment_of lines a id = opening
+
+-- what names and the place of line k mean where content is made: all names of the text, and the numbers of segments
+unfoldable pub final : List LineTree → Assignment → ℕ → Meanings
+final lines a k = record (everywhere lines a k) { number = segment_number lines a }

@@ -9,8 +9,7 @@ use Rattle.m51_emit.specs.declared.content.EmittedContent.{EmittedContent}
 use Rattle.m51_emit.specs.Content.{content_by}
 use Rattle.m51_asm.specs.Assignment.{Assignment, body_at}
 use Rattle.m51_asm.specs.Fitting.{filled}
-use Rattle.m51_asm.specs.ObjectSegments.{Kept, kept, object_segments, segment_number}
-use Rattle.m51_asm.specs.ObjectMeanings.{final}
+use Rattle.m51_asm.specs.ObjectSegments.{Kept, kept, object_segments, segment_number, final}
 
 -- the bytes and references of line k
 unfoldable pub content_at : List LineTree → Assignment → ℕ → EmittedContent

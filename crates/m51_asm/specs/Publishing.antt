@@ -1,22 +1,19 @@
 -- What PUBLIC makes of names, by what is kept for pass 2.
-use Rattle.std.specs.Prelude.{ℕ, List, [], ◌∷◌, option_map, Option, Some, None, Ok, Err}
-use Rattle.m51_cells.specs.declared.kind.Base.{Base}
-use Rattle.m51_cells.specs.declared.kind.Base.TheVariants as base
+use Rattle.std.specs.Prelude.{ℕ, List, [], ◌∷◌, Option, Some, None, Ok, Err}
 use Rattle.m51_module.specs.declared.symbol.Public.{Public}
-use Rattle.m51_expr.specs.declared.value.Value.{Value}
 use Rattle.m51_emit.specs.declared.publics.Definer.{Definer}
 use Rattle.m51_emit.specs.declared.publics.Definer.TheVariants as by
+use Rattle.m51_emit.specs.declared.publics.PublicSegment.{PublicSegment}
 use Rattle.m51_emit.specs.Outcomes.{or_next}
 use Rattle.m51_emit.specs.PublicNames.{Published, public_by, if_public}
 use Rattle.m51_asm.specs.declared.definitions.How.{How}
 use Rattle.m51_asm.specs.declared.definitions.How.TheVariants as how
 use Rattle.m51_asm.specs.declared.names.FirstDefinition.{FirstDefinition}
-use Rattle.m51_asm.specs.declared.object_names.ObjectNames.{ObjectNames}
-use Rattle.m51_asm.specs.Assignment.{TextSegment, opening}
-use Rattle.m51_asm.specs.ObjectMeanings.{object_value}
+use Rattle.m51_asm.specs.declared.names_at.NamesAt.{NamesAt}
 use Rattle.m51_asm.specs.Table.{first_in}
 use Rattle.m51_asm.specs.Numbering.{number_at}
 use Rattle.m51_asm.specs.NamesAt.{names_at}
+use Rattle.m51_asm.specs.PublicNames.{numbered_as, counted_from}
 use Rattle.m51_asm.specs.SegmentTable.{segment_in}
 
 abbrev pub definer_how : How → Definer
@@ -30,25 +27,15 @@ abbrev pub definer_of : Option FirstDefinition → Definer
 definer_of (Some first) = definer_how first.how
 definer_of None = by.Other
 
-abbrev pub counted_from : (ℕ → TextSegment) → Base → TextSegment
-counted_from segments (base.Segment id) = segments id
-counted_from segments b = opening
-
--- the segment that a value counts from, and the opening one where it counts from none
-abbrev pub counted_by : (ℕ → TextSegment) → Option Value → TextSegment
-counted_by segments (Some v) = counted_from segments v.base
-counted_by segments None = opening
-
--- what a name becomes, whose value counts from this segment
-abbrev pub published_from : List ℕ → Definer → TextSegment → Option Value → Published
-published_from name definer s value = public_by name definer s.kind s.base value
+-- a segment with its number in the module
+abbrev pub segment_kept : NamesAt → ℕ → PublicSegment
+segment_kept n id = numbered_as (segment_in n.segments.now id) (number_at n.numbers.now id)
 
 -- what a name of PUBLIC becomes
-abbrev pub published_by : ObjectNames → List ℕ → Published
+abbrev pub published_by : NamesAt → List ℕ → Published
 published_by n name =
-    published_from name (definer_of (first_in n.names.text.names.now name))
-    (counted_by (segment_in n.names.segments.now) ((names_at n.names).value name))
-    (option_map (object_value (number_at n.numbering.now.numbers)) ((names_at n.names).value name))
+    public_by name (definer_of (first_in n.text.names.now name))
+    (counted_from (segment_kept n) ((names_at n).value name)) ((names_at n).value name)
 
 -- the publics of these names
 abbrev pub publics_among : (List ℕ → Published) → List (List ℕ) → List Public

@@ -6,7 +6,7 @@ ghost use Rattle.m51_asm.specs.ContentFaults.{if_fault};
 ghost use Rattle.m51_asm.specs.Fitting.{Fits};
 ghost use Rattle.m51_asm.specs.Placing.{IsPlaceOf};
 ghost use Rattle.m51_asm.specs.AnswerRows.{listing_row, place_of};
-ghost use Rattle.m51_asm.specs.ObjectNames.{IsAssignedText};
+ghost use Rattle.m51_asm.specs.PlacedText.{IsAssignedText};
 ghost use Rattle.m51_asm.specs.Pieces.{content_at};
 ghost use Rattle.m51_asm.specs.Contents.{nothing_given, IsGivenTo};
 ghost use Rattle.m51_asm.specs.Gathering.{IsText, gathered_before};
@@ -14,7 +14,7 @@ ghost use Rattle.m51_asm.specs.Gathering.{IsText, gathered_before};
 use crate::gathering::{gather_line, nothing_gathered};
 use crate::instruction_rows::row_of_code;
 use crate::names_at::NamesAt;
-use crate::object_names::{ObjectNames, PlacedText};
+use crate::numbering::PlacedText;
 use crate::outcome::fault_of_line;
 use crate::placing::here_of;
 use crate::publishing::{or_next, publish};
@@ -96,18 +96,15 @@ fn give_line(
 {
     let segments = &text.end.segments.table;
     let here = here_of(segments.segment(place.segment), place.offset);
-    let names_at = NamesAt {
+    let names = NamesAt {
         text: text.text,
         segments,
         kept: &text.end.values,
         set: &contents.set,
         bank: place.bank,
         here,
+        numbers: text.numbering.numbers.as_slice(),
         label: None,
-    };
-    let names = ObjectNames {
-        names: names_at,
-        numbering: text.numbering,
     };
     let body = &line.stmt.body;
     let row = row_of_code(place.code);

@@ -5,7 +5,7 @@ ghost use Rattle.m51_stmt.specs.Statement.{body_tree};
 ghost use Rattle.m51_asm.specs.Fitting.{verb_of, form_to, form_by};
 
 use m51_cells::Name;
-use m51_encode::located_jump_form;
+use m51_encode::jump_form;
 use m51_expr::{Expr, Operand, Places, located_value_of};
 use m51_isa::{Jump, Verb};
 use m51_stmt::Body;
@@ -28,7 +28,7 @@ fn form_to<P: Places<u32>>(names: &P, verb: Option<Verb>, target: &Expr) -> Jump
     ensures { result ≡ form_to (P.meanings names.now) verb (tree_of target.now) }
 {
     match verb {
-        Some(verb) => located_jump_form(names, verb, located_value_of(target, names)),
+        Some(verb) => jump_form(names, verb, located_value_of(target, names)),
         None => Jump::Long,
     }
 }

@@ -5,8 +5,7 @@ ghost use Rattle.m51_emit.specs.Within.{LieInside};
 ghost use Rattle.m51_asm.specs.Gathering.{nothing_gathered, changed_element};
 ghost use Rattle.m51_asm.specs.Numbering.{number_at};
 
-use crate::numbering::number_at;
-use crate::object_names::PlacedText;
+use crate::numbering::{PlacedText, number_at};
 use crate::stepping::LinePlace;
 use m51_cells::NoMemory;
 use m51_emit::{EmittedContent, SegmentContent};

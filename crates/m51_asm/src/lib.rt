@@ -18,7 +18,6 @@ mod names_at;
 mod naming;
 mod naming_lines;
 mod numbering;
-mod object_names;
 mod operands;
 mod outcome;
 mod passing;

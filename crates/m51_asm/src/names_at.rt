@@ -3,17 +3,18 @@ ghost use Rattle.std.specs.Prelude.{◌≡◌, option_map, if◌then◌else◌};
 ghost use Rattle.m51_predefined.specs.Predefined.{absolute_register_of};
 ghost use Rattle.m51_asm.specs.Fitting.{register_or_predefined};
 ghost use Rattle.m51_expr.specs.Located.{located_value};
-ghost use Rattle.m51_asm.specs.NamesAt.{plain_located, names_at};
 ghost use Rattle.m51_asm.specs.Table.{sets};
 ghost use Rattle.m51_asm.specs.Values.{value_in};
 ghost use Rattle.m51_asm.specs.ValuesAt.{is_label, value_at};
 
 use crate::names::{FirstDefinition, TextNames, sets};
+use crate::numbering::number_at;
 use crate::segment_table::SegmentTable;
 use crate::segments::is_bitaddressable;
 use crate::valuation::Values;
 use m51_cells::{Name, is_absolute};
-use m51_expr::{Located, Origin, Part, Places, Value};
+use m51_encode::Numbered;
+use m51_expr::{Located, Places};
 use m51_predefined::{absolute_register, predefined, register_value};
 use m51_text::Line;
 
@@ -38,20 +39,10 @@ pub(crate) struct NamesAt<'a> {
     pub(crate) bank: u8,
     /// The place of the line.
     pub(crate) here: Located<u32>,
+    /// The numbers of the segments in the module, by id; pass 1 has none.
+    pub(crate) numbers: &'a [u8],
     /// The label of the line, where that means its place although no value of it is kept.
     pub(crate) label: Option<Name>,
-}
-
-// A predefined value, which counts from nothing.
-fn located(value: Value) -> Located<u32>
-    ensures { result ≡ plain_located value }
-{
-    Located {
-        number: value.number,
-        class: value.class,
-        origin: Origin::None,
-        part: Part::Whole,
-    }
 }
 
 // The value of a name that the text does not define: a register of the bank, or a predefined one.
@@ -60,17 +51,9 @@ fn undefined_value(mod51: bool, bank: u8, name: &Name) -> Option<Located<u32>>
         ≡ register_or_predefined mod51 bank name.now (absolute_register_of name.now) }
 {
     match absolute_register(name) {
-        Some(register) => Some(located(register_value(bank, register))),
-        None => {
-            if mod51 {
-                match predefined(name) {
-                    Some(value) => Some(located(value)),
-                    None => None,
-                }
-            } else {
-                None
-            }
-        }
+        Some(register) => Some(register_value(bank, register)),
+        None if mod51 => predefined(name),
+        None => None,
     }
 }
 
@@ -107,17 +90,6 @@ impl<'a> NamesAt<'a> {
             None => undefined_value(self.text.mod51, self.bank, name),
         }
     }
-
-    /// The value of a name at the line, if it has one.
-    pub(crate) fn of(&self, name: &Name) -> Option<Located<u32>>
-        ensures { option_map located_value result ≡ (names_at self.now).value name.now }
-    {
-        if is_label(&self.label, name) {
-            Some(self.here)
-        } else {
-            self.other_value(name)
-        }
-    }
 }
 
 impl<'a> Places<u32> for NamesAt<'a> {
@@ -126,7 +98,11 @@ impl<'a> Places<u32> for NamesAt<'a> {
     ghost meanings = { names_at };
 
     fn value(&self, name: &Name) -> Option<Located<u32>> {
-        self.of(name)
+        if is_label(&self.label, name) {
+            Some(self.here)
+        } else {
+            self.other_value(name)
+        }
     }
 
     fn here(&self) -> Located<u32> {
@@ -139,5 +115,11 @@ impl<'a> Places<u32> for NamesAt<'a> {
 
     fn bitaddressable(&self, id: u32) -> bool {
         is_bitaddressable(self.segments.reloc(id))
+    }
+}
+
+impl<'a> Numbered for NamesAt<'a> {
+    fn number(&self, id: u32) -> u8 {
+        number_at(self.numbers, id)
     }
 }

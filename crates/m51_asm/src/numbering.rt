@@ -11,8 +11,11 @@ ghost use Rattle.m51_asm.specs.Gathering.{IsText};
 ghost use Rattle.m51_asm.specs.Placing.{IsSegmentTableAt};
 ghost use Rattle.m51_asm.specs.Numbering.{number_at, segment_filled, segment_added, as_list, next_number, IsNumbering};
 
+use crate::names_at::NamedText;
+use crate::placing::PassOneState;
 use crate::segment_table::SegmentTable;
 use crate::segments::{OPENING, OpenSegment};
+use crate::stepping::LinePlace;
 use m51_cells::{Bytes, Kind, ListOf, Name, NoMemory, Reloc, same_kind};
 use m51_module::{Segment, Segments, is_argument_name};
 use m51_stmt::Body;
@@ -27,7 +30,18 @@ pub(crate) struct Numbering {
     pub(crate) numbers: Bytes,
 }
 
-// The number of an id, 0 where the module does not have its segment.
+/// A text whose lines are placed and whose segments have numbers.
+#[derive(Clone, Copy)]
+pub(crate) struct PlacedText<'a> {
+    pub(crate) text: NamedText<'a>,
+    /// Where each line is.
+    pub(crate) places: &'a [LinePlace],
+    /// What is kept of all lines.
+    pub(crate) end: &'a PassOneState,
+    pub(crate) numbering: &'a Numbering,
+}
+
+/// The number of an id, 0 where the module does not have its segment.
 pub(crate) fn number_at(numbers: &[u8], id: u32) -> u8
     ensures { result ≡ number_at numbers.now id }
 {

@@ -15,7 +15,7 @@ ghost use Rattle.m51_asm.specs.Operands.{operand_number, IsOperand};
 
 use crate::counting::numbered;
 use m51_cells::{Kind, OUT_OF_RANGE, UNKNOWN_NAME, same_kind};
-use m51_expr::{ExprError, Located, Places, is_unplaced_origin, located_value_of, part_value};
+use m51_expr::{ExprError, Located, Places, counted, is_unplaced_origin, located_value_of};
 use m51_stmt::Body;
 
 /// What the operand of a directive is, by the names defined above its line.
@@ -116,8 +116,7 @@ fn is_address<P: Places<u32>>(names: &P, kind: Kind, value: Located<u32>) -> boo
     ensures { result ≡ is_address (P.meanings names.now) kind (located_value value) }
 {
     has_class(value, kind)
-        && (is_unplaced_origin(names, value.origin)
-            || !is_large(kind, part_value(value.number, value.part)))
+        && (is_unplaced_origin(names, value.origin) || !is_large(kind, counted(value)))
 }
 
 fn value_operand(value: Result<Located<u32>, ExprError>) -> Evaluated

@@ -74,6 +74,7 @@ pub(crate) fn told_of(
         set: &placing.values,
         bank: placing.bank,
         here,
+        numbers: &[],
         label: None,
     };
     let labelled = NamesAt {

@@ -2,20 +2,18 @@
 ghost use Rattle.std.specs.Prelude.{◌≡◌, ◌++◌, [], option_map, OnOk, IfOk};
 ghost use Rattle.m51_emit.specs.Outcomes.{or_next};
 ghost use Rattle.m51_emit.specs.PublicNames.{if_public};
-ghost use Rattle.m51_expr.specs.Located.{located_value};
-ghost use Rattle.m51_asm.specs.OpenSegments.{text_segment};
-ghost use Rattle.m51_asm.specs.Publishing.{definer_of, counted_by, published_from, published_by, publics_among};
-ghost use Rattle.m51_asm.specs.Publishing.{fault_of_public, fault_among};
-ghost use Rattle.m51_asm.specs.SegmentTable.{segment_in};
+ghost use Rattle.m51_expr.specs.Located.{origin_base, located_value};
+ghost use Rattle.m51_asm.specs.PublicNames.{base_segment, counted_from};
+ghost use Rattle.m51_asm.specs.Publishing.{definer_of, segment_kept, published_by, publics_among, fault_of_public};
+ghost use Rattle.m51_asm.specs.Publishing.{fault_among};
 
 use crate::definitions::How;
 use crate::names::FirstDefinition;
-use crate::object_names::{ObjectNames, object_value_of};
-use crate::segment_table::SegmentTable;
-use crate::segments::{OPENING, OpenSegment};
-use m51_cells::{Name, NoMemory};
-use m51_emit::{Definer, public_of};
-use m51_expr::{Located, Origin, Value};
+use crate::names_at::NamesAt;
+use crate::numbering::number_at;
+use m51_cells::{Kind, Name, NoMemory};
+use m51_emit::{Definer, PublicSegment, public_of};
+use m51_expr::{Located, Origin, Places};
 use m51_module::{Public, Publics};
 
 // What defines a name of this first definition, as far as PUBLIC asks.
@@ -33,41 +31,44 @@ fn definer_of(first: Option<FirstDefinition>) -> Definer
     }
 }
 
-// The segment that a value counts from, and the opening one where it counts from none.
-fn counted_by(segments: &SegmentTable, value: Option<Located<u32>>) -> OpenSegment
-    ensures { text_segment result ≡ counted_by (segment_in segments.now) (option_map located_value value) }
+// The segment of the text that an origin is.
+fn base_segment(names: &NamesAt<'_>, origin: Origin<u32>) -> PublicSegment
+    ensures { result ≡ base_segment (segment_kept names.now) (origin_base origin) }
 {
-    match value {
-        Some(value) => match value.origin {
-            Origin::Segment(id) => segments.segment(id),
-            Origin::None | Origin::External(_) => OPENING,
+    match origin {
+        Origin::Segment(id) => {
+            let segment = names.segments.segment(id);
+            PublicSegment {
+                kind: segment.kind,
+                base: segment.base,
+                number: number_at(names.numbers, id),
+            }
+        }
+        Origin::None | Origin::External(_) => PublicSegment {
+            kind: Kind::Code,
+            base: 0,
+            number: 0,
         },
-        None => OPENING,
     }
 }
 
-// What a name becomes, whose value counts from this segment.
-fn published_from(
-    name: &Name,
-    definer: Definer,
-    segment: OpenSegment,
-    value: Option<Value>,
-) -> Result<Public, u8>
-    ensures { result ≡ published_from name.now definer (text_segment segment) value }
+// The segment that a value counts from; where it counts from none, this does not matter.
+fn counted_from(names: &NamesAt<'_>, value: Option<Located<u32>>) -> PublicSegment
+    ensures { result ≡ counted_from (segment_kept names.now) (option_map located_value value) }
 {
-    public_of(*name, definer, segment.kind, segment.base, value)
+    match value {
+        Some(value) => base_segment(names, value.origin),
+        None => base_segment(names, Origin::None),
+    }
 }
 
 // What a name of PUBLIC becomes.
-fn published_by(names: &ObjectNames<'_>, name: &Name) -> Result<Public, u8>
+fn published_by(names: &NamesAt<'_>, name: &Name) -> Result<Public, u8>
     ensures { result ≡ published_by names.now name.now }
 {
-    let values = &names.names;
-    let located = values.of(name);
-    let segment = counted_by(values.segments, located);
-    let definer = definer_of(values.text.names.first(name));
-    let value = object_value_of(names.numbering.numbers.as_slice(), located);
-    published_from(name, definer, segment, value)
+    let value = names.value(name);
+    let definer = definer_of(names.text.names.first(name));
+    public_of(*name, definer, counted_from(names, value), value)
 }
 
 /// The fault that comes first.
@@ -96,7 +97,7 @@ fn push_or_fault(publics: &mut Publics, public: Result<Public, u8>) -> Result<Op
 
 /// Takes in the publics of names, and gives the fault of the first that has one. The only error is out of memory.
 pub(crate) fn publish(
-    names: &ObjectNames<'_>,
+    names: &NamesAt<'_>,
     publics: &mut Publics,
     list: &[Name],
 ) -> Result<Option<u8>, NoMemory>

@@ -15,9 +15,9 @@ use Rattle.m51_chain.specs.Told.{IsTold}
 use Rattle.m51_jobs.specs.declared.job.Job.{Job}
 use Rattle.m51_jobs.specs.Files.{file_count, name_kept, names_read}
 use Rattle.m51_shelf.specs.Shelf.{Files}
-use Rattle.m51_verbs.specs.declared.status.Status.{Status}
-use Rattle.m51_verbs.specs.Outcome.{Answer, long_answer, many_answer, named_answer, unread_answer, usage_answer}
-use Rattle.m51_verbs.specs.Reading.{Absent, Reading, TooLong, Whole, read_of, read_one, with_file}
+use Rattle.m51_chain.specs.declared.status.Status.{Status}
+use Rattle.m51_chain.specs.Outcome.{Answer, long_answer, many_answer, named_answer, unread_answer, usage_answer}
+use Rattle.m51_chain.specs.Reading.{Absent, Reading, TooLong, Whole, read_of, read_one, with_file}
 use Rattle.m51_build_proof.specs.Answers.{IsOnlyAnswer}
 use Rattle.m51_build_proof.proofs.Existing.{one_of_job}
 use Rattle.m51_build_proof.proofs.Keeping.{outcome_keeps}

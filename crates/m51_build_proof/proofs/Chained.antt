@@ -6,13 +6,13 @@ use Rattle.m51_cells.specs.declared.limits.TheConstants.{MOST_FILE_BYTES}
 use Rattle.m51_jobs.specs.declared.job.Job.{Job}
 use Rattle.m51_jobs.specs.Files.{names_read}
 use Rattle.m51_args.specs.Jobs.{job_of}
-use Rattle.m51_verbs.specs.declared.status.Status.{Status}
-use Rattle.m51_verbs.specs.declared.status.Status.TheVariants as status
-use Rattle.m51_verbs.specs.Carried.{Cut, Unkept, UnkeptCut, Whole as WholeEnd}
+use Rattle.m51_chain.specs.declared.status.Status.{Status}
+use Rattle.m51_chain.specs.declared.status.Status.TheVariants as status
+use Rattle.m51_chain.specs.Carried.{Cut, Unkept, UnkeptCut, Whole as WholeEnd}
 use Rattle.m51_chain.specs.Expected.{Faulty, HasOutcome, IsAnswer, LongFile, Many, NoFile, Worked}
-use Rattle.m51_verbs.specs.Outcome.{Answer, long_answer, many_answer, unread_answer}
+use Rattle.m51_chain.specs.Outcome.{Answer, long_answer, many_answer, unread_answer}
 use Rattle.m51_chain.specs.Outside.{Change}
-use Rattle.m51_verbs.specs.Reading.{Absent, Reading, TooLong, Whole, read_of, read_one, with_file}
+use Rattle.m51_chain.specs.Reading.{Absent, Reading, TooLong, Whole, read_of, read_one, with_file}
 use Rattle.m51_shelf.specs.Shelf.{Files}
 use Rattle.m51_chain.specs.Told.{Ended, IsTold, IsUnread, Written}
 use Rattle.m51_build_proof.specs.Builds.{IsByteList}

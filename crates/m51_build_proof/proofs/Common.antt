@@ -66,5 +66,5 @@ pub use Rattle.m51_script.specs.declared.script.Script.{Script}
 pub use Rattle.m51_stmt.proofs.PrintedTrees.{IsTree}
 pub use Rattle.m51_stmt.specs.Statement.{BodyTree}
 pub use Rattle.m51_text.specs.Answer.{LineTree}
-pub use Rattle.m51_verbs.specs.LinkRefusals.{link_outcome}
-pub use Rattle.m51_verbs.specs.Outcome.{Outcome, status_by}
+pub use Rattle.m51_chain.specs.LinkRefusals.{link_outcome}
+pub use Rattle.m51_chain.specs.Outcome.{Outcome, status_by}

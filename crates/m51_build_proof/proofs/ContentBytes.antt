@@ -101,14 +101,14 @@ addr11_small next target =
 relative_small : (names : Meanings) (next : ℕ) (v : Value) → IfField (relative_of names next v)
 relative_small names next v =
     field_cond (is_current names v.base) (rel_of next (counted v)) _ (rel_small next (counted v))
-    (field_cond (is_linked names v.base) (Some (Linked (reference_of field.Rel v))) _
-    (field_linked (reference_of field.Rel v))
+    (field_cond (is_linked names v.base) (Some (Linked (reference_of names field.Rel v))) _
+    (field_linked (reference_of names field.Rel v))
     (field_cond (stands_absolute names) (rel_of next (counted v)) None (rel_small next (counted v)) field_none))
 
 block_small : (names : Meanings) (next : ℕ) (v : Value) → IfField (block_of names next v)
 block_small names next v =
-    field_cond (is_linked names v.base) (Some (Linked (reference_of field.Addr11 v))) _
-    (field_linked (reference_of field.Addr11 v))
+    field_cond (is_linked names v.base) (Some (Linked (reference_of names field.Addr11 v))) _
+    (field_linked (reference_of names field.Addr11 v))
     (field_cond (stands_absolute names) (addr11_of next (counted v)) None (addr11_small next (counted v)) field_none)
 
 held_small : (at : Field) (n : ℕ) → n < 65536 → held_of at n < 65536
@@ -126,7 +126,7 @@ stored_by false r n h = field_number n h
 
 stored_small : (names : Meanings) (at : Field) (v : Value) → IsSmall v → IfField (Some (stored_of names at v))
 stored_small names at v h =
-    stored_by (is_linked names v.base) (reference_of at v) (held_of at (counted v))
+    stored_by (is_linked names v.base) (reference_of names at v) (held_of at (counted v))
     (held_small at (counted v) (counted_small v h))
 
 taken_small : (names : Meanings) (at : Field) (next : ℕ) (v : Value) → IsSmall v → IfField (taken_of names at next v)

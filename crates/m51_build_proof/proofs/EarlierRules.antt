@@ -27,7 +27,7 @@ use Rattle.m51_graph.specs.Units.{unit_titles}
 use Rattle.m51_inputs.specs.declared.error.InputError.TheVariants as input
 use Rattle.m51_script.specs.declared.error.ScriptError.TheVariants as script
 use Rattle.m51_sim.specs.Report.{report_of}
-use Rattle.m51_verbs.specs.declared.status.Status.TheVariants.{Link}
+use Rattle.m51_chain.specs.declared.status.Status.TheVariants.{Link}
 use Rattle.m51_build_proof.specs.Overlay.{ComesToPlacing, L12OnlyAtPlacing}
 use Rattle.m51_build_proof.proofs.Outcomes.{not_link}
 use Rattle.m51_build_proof.proofs.RefusalLines.{line_of_l12}

@@ -23,7 +23,7 @@ use Rattle.m51_linker.specs.Image.{IsFilled, fields_of, fixup_field, module_cont
 use Rattle.m51_linker.specs.Image.{module_fields, placed_field, placed_piece}
 use Rattle.m51_linker.specs.Runs.{AreRuns, IsInRun}
 use Rattle.m51_linker.specs.Stretches.{Stretch, byte_in, stretch_at}
-use Rattle.m51_linker.specs.Targets.{address_of, segment_address}
+use Rattle.m51_linker.specs.Targets.{address_of}
 use Rattle.m51_linker.proofs.RunsGrow.{ends_below}
 use Rattle.m51_module.specs.declared.content.Fixup.{Fixup}
 use Rattle.m51_module.specs.declared.content.Form.{Form}
@@ -153,7 +153,7 @@ module _ (modules : List ModuleParts) (placing : Placing) (address : ℕ) where
   -- a piece that holds the byte is placed at it
   piece_at : (m segment offset : ℕ) (pieces : List Piece) (p : Piece) → Contains pieces p → p.segment ≡ segment
       → p.offset ≤ offset → offset < p.offset + length p.bytes
-      → address ≡ segment_address modules placing m segment + offset
+      → address ≡ address_of modules placing m segment offset
       → HasAt (map (placed_piece modules placing m) pieces) address
   unfolding HasAt
   piece_at m segment offset [] p there same from below at = absurd (none_in_empty p there)
@@ -161,8 +161,8 @@ module _ (modules : List ModuleParts) (placing : Placing) (address : ℕ) where
       elim (first_or_after q pieces p there) as
       (λ _. HasAt (map (placed_piece modules placing m) (q ∷ pieces)) address) [
         | inl is ↦
-            let start : segment_address modules placing m q.segment ≡ segment_address modules placing m segment =
-            ap (segment_address modules placing m) (ap (λ (x : Piece). x.segment) is ∙ same) in
+            let start : address_of modules placing m q.segment 0 ≡ address_of modules placing m segment 0 =
+            ap (λ (s : ℕ). address_of modules placing m s 0) (ap (λ (x : Piece). x.segment) is ∙ same) in
             let front : q.offset ≡ p.offset = ap (λ (x : Piece). x.offset) is in
             let len : length q.bytes ≡ length p.bytes = ap (λ (x : Piece). length x.bytes) is in
             inl (record {

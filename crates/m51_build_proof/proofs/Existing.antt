@@ -49,17 +49,17 @@ use Rattle.m51_module.specs.declared.source.SourceFile.{SourceFile}
 use Rattle.m51_script.specs.declared.error.ScriptError.{ScriptError}
 use Rattle.m51_script.specs.declared.script.Script.{Script}
 use Rattle.m51_text.specs.Answer.{text_of}
-use Rattle.m51_verbs.specs.Analyses.{IsBounded, IsDisassembled, bound_outcome, text_outcome}
-use Rattle.m51_verbs.specs.Counts.{summary_outcome}
-use Rattle.m51_verbs.specs.declared.work.Reason.TheVariants as reason
-use Rattle.m51_verbs.specs.FaultLines.{fault_lines}
-use Rattle.m51_verbs.specs.FlatRuns.{IsFlatOutcome, IsFlatWork, IsScripted, flat_report, script_in}
-use Rattle.m51_verbs.specs.FlatRuns as flats
-use Rattle.m51_verbs.specs.LinkRefusals.{link_outcome}
-use Rattle.m51_verbs.specs.Optional.{content_if}
-use Rattle.m51_verbs.specs.Outcome.{Outcome, refused}
-use Rattle.m51_verbs.specs.Refusals.{hex_outcome}
-use Rattle.m51_verbs.specs.ScriptRefusals.{script_outcome}
+use Rattle.m51_chain.specs.Analyses.{IsBounded, IsDisassembled, bound_outcome, text_outcome}
+use Rattle.m51_chain.specs.Generates.{summary_outcome}
+use Rattle.m51_chain.specs.declared.work.Reason.TheVariants as reason
+use Rattle.m51_chain.specs.FaultLines.{fault_lines}
+use Rattle.m51_chain.specs.FlatRuns.{IsFlatOutcome, IsFlatWork, IsScripted, flat_report, script_in}
+use Rattle.m51_chain.specs.FlatRuns as flats
+use Rattle.m51_chain.specs.LinkRefusals.{link_outcome}
+use Rattle.m51_chain.specs.Optional.{content_if}
+use Rattle.m51_chain.specs.Outcome.{Outcome, refused}
+use Rattle.m51_chain.specs.Refusals.{hex_outcome}
+use Rattle.m51_chain.specs.ScriptRefusals.{script_outcome}
 use Rattle.m51_build_proof.specs.Answers.{IsReady}
 use Rattle.m51_hex.proofs.LowRecords.{image_length, image_of, image_read}
 

@@ -21,12 +21,12 @@ use Rattle.m51_linker.specs.declared.linked.Linked.{Linked}
 use Rattle.m51_linker.specs.Link.{Program}
 use Rattle.m51_module.specs.declared.linked.Refusal.{Refusal}
 use Rattle.m51_module.specs.declared.source.SourceFile.{SourceFile}
-use Rattle.m51_verbs.specs.Analyses.{bound_outcome}
-use Rattle.m51_verbs.specs.FlatRuns.{IsFlatOutcome, IsFlatWork, IsScripted}
-use Rattle.m51_verbs.specs.FlatRuns as flats
-use Rattle.m51_verbs.specs.LinkRefusals.{link_outcome}
-use Rattle.m51_verbs.specs.Outcome.{Outcome}
-use Rattle.m51_verbs.specs.ScriptRefusals.{script_outcome}
+use Rattle.m51_chain.specs.Analyses.{bound_outcome}
+use Rattle.m51_chain.specs.FlatRuns.{IsFlatOutcome, IsFlatWork, IsScripted}
+use Rattle.m51_chain.specs.FlatRuns as flats
+use Rattle.m51_chain.specs.LinkRefusals.{link_outcome}
+use Rattle.m51_chain.specs.Outcome.{Outcome}
+use Rattle.m51_chain.specs.ScriptRefusals.{script_outcome}
 use Rattle.m51_build_proof.proofs.LibraryWork.{library_keeps}
 use Rattle.m51_build_proof.proofs.Refusing.{Keeps, bound_keeps, event_keeps, input_keeps, link_keeps, party_keeps}
 use Rattle.m51_build_proof.proofs.Refusing.{script_keeps, text_keeps}

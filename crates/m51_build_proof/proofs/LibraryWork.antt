@@ -7,11 +7,11 @@ use Rattle.m51_library.specs.Reading.{library_of, module_in}
 use Rattle.m51_module.specs.declared.library_error.LibError.{LibError}
 use Rattle.m51_module.specs.declared.parts.ModuleParts.{ModuleParts}
 use Rattle.m51_module.specs.Library.{extracted}
-use Rattle.m51_verbs.specs.Edits.{edited_each, edits_of, object_edit, object_edits, object_in, with_first}
-use Rattle.m51_verbs.specs.Libraries.{edited_library, either, kept_library, kept_module, library_in, library_outcome_of}
-use Rattle.m51_verbs.specs.Libraries.{library_work, operated, with_library}
-use Rattle.m51_verbs.specs.Outcome.{Outcome, or_refused, then_do}
-use Rattle.m51_verbs.specs.Refusals.{edit_outcome, library_outcome, object_outcome}
+use Rattle.m51_chain.specs.Edits.{edited_each, edits_of, object_edit, object_edits, object_in, with_first}
+use Rattle.m51_chain.specs.Libraries.{edited_library, either, kept_library, kept_module, library_in, library_outcome_of}
+use Rattle.m51_chain.specs.Libraries.{library_work, operated, with_library}
+use Rattle.m51_chain.specs.Outcome.{Outcome, or_refused, then_do}
+use Rattle.m51_chain.specs.Refusals.{edit_outcome, library_outcome, object_outcome}
 use Rattle.m51_build_proof.proofs.Refusing.{Keeps, edit_keeps, lib_keeps}
 
 -- a refusal keeps nothing

@@ -12,9 +12,9 @@ use Rattle.m51_module.specs.declared.linked.Refusal.TheVariants as refusal
 use Rattle.m51_linker.specs.declared.checking.Spot.{Spot}
 use Rattle.m51_linker.specs.Broken.{broken_at, broken_of, broken_rule, least_of}
 use Rattle.m51_linker.specs.Link.{checked_of}
-use Rattle.m51_verbs.specs.declared.status.Status.TheVariants.{Event, Link, Ran}
-use Rattle.m51_verbs.specs.LinkRefusals.{reason_of}
-use Rattle.m51_verbs.specs.Outcome.{status_of}
+use Rattle.m51_chain.specs.declared.status.Status.TheVariants.{Event, Link, Ran}
+use Rattle.m51_chain.specs.LinkRefusals.{reason_of}
+use Rattle.m51_chain.specs.Outcome.{status_of}
 use Rattle.m51_build_proof.specs.Overlay.{ReachesPlacing}
 
 -- where the files of a build give these inputs, its outcome is one for them

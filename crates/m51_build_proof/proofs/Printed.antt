@@ -2,11 +2,10 @@
 use Rattle.m51_build_proof.proofs.Common.{◌≡◌, ℕ, zero, suc, ◌+◌, Bool, cond, ◌&&◌, ◌||◌, List, [], ◌∷◌, ◌++◌, refl, ap}
 use Rattle.m51_build_proof.proofs.Common.{◌∙◌, arith, list_any, decimal, Kind, LayoutParts, overlaid_bytes}
 use Rattle.std.proofs.Math.Bool.{and_assoc}
+use Rattle.std.proofs.lemmas.Grind.{common_steps}
 use Rattle.std.specs.Prelude.{codes, nat_le, nat_lt}
-use Rattle.m51_cells.specs.declared.kind.Kind.TheVariants.{Code, Xdata, Direct, Idata, Bits, Number}
 use Rattle.m51_cells.specs.declared.kind.Reloc.TheVariants.{Unit as UnitType}
 use Rattle.m51_module.specs.declared.placed.Mark.{Mark}
-use Rattle.m51_module.specs.declared.placed.Mark.TheVariants.{Absolute, Bank, Overlaid, Plain, Reserve}
 use Rattle.m51_module.specs.declared.placed.Placed.{Placed}
 use Rattle.m51_module.specs.Chains.{is_overlaid_data}
 use Rattle.m51_place.specs.Bound.{count_below, overlays_byte}
@@ -18,36 +17,7 @@ use Rattle.m51_build_proof.specs.Laws.{PrintedFigureIsWeight}
 
 -- both ask for overlaid DATA
 same_mark : (mark : Mark) (kind : Kind) → is_overlaid_in_data mark kind ≡ is_overlaid_data kind UnitType mark
-same_mark Overlaid Direct = refl
-same_mark Overlaid Code = refl
-same_mark Overlaid Xdata = refl
-same_mark Overlaid Idata = refl
-same_mark Overlaid Bits = refl
-same_mark Overlaid Number = refl
-same_mark Bank Direct = refl
-same_mark Bank Code = refl
-same_mark Bank Xdata = refl
-same_mark Bank Idata = refl
-same_mark Bank Bits = refl
-same_mark Bank Number = refl
-same_mark Reserve Direct = refl
-same_mark Reserve Code = refl
-same_mark Reserve Xdata = refl
-same_mark Reserve Idata = refl
-same_mark Reserve Bits = refl
-same_mark Reserve Number = refl
-same_mark Absolute Direct = refl
-same_mark Absolute Code = refl
-same_mark Absolute Xdata = refl
-same_mark Absolute Idata = refl
-same_mark Absolute Bits = refl
-same_mark Absolute Number = refl
-same_mark Plain Direct = refl
-same_mark Plain Code = refl
-same_mark Plain Xdata = refl
-same_mark Plain Idata = refl
-same_mark Plain Bits = refl
-same_mark Plain Number = refl
+same_mark mark kind = grind (arith, common_steps)
 
 -- both ask for three things
 same_byte : (byte : ℕ) (p : Placed) → overlays byte p ≡ overlays_byte byte p

@@ -3,7 +3,7 @@ use Rattle.std.proofs.Common.{ℕ, Bool, true, false, List, Option, Some, None, 
 use Rattle.m51_cells.specs.declared.event.Event.{Event}
 use Rattle.m51_chain.specs.Expected.{MayKeep}
 use Rattle.m51_chain.specs.InputRefusals.{input_outcome}
-use Rattle.m51_chain.specs.Parties.{status_if}
+use Rattle.m51_chain.specs.Outcome.{status_if}
 use Rattle.m51_control.specs.declared.error.ControlError.{ControlError}
 use Rattle.m51_control.specs.declared.error.ControlError.TheVariants as control
 use Rattle.m51_inputs.specs.declared.error.InputError.{InputError}
@@ -19,14 +19,14 @@ use Rattle.m51_print.specs.Refusals.{refusal_text}
 use Rattle.m51_print.specs.Stack.{stack_refusal}
 use Rattle.m51_script.specs.declared.error.ScriptError.{ScriptError}
 use Rattle.m51_script.specs.declared.error.ScriptError.TheVariants as script
-use Rattle.m51_verbs.specs.Analyses.{bound_outcome, text_outcome}
-use Rattle.m51_verbs.specs.Analyses as analyses
-use Rattle.m51_verbs.specs.declared.work.Reason.{Reason}
-use Rattle.m51_verbs.specs.declared.work.Reason.TheVariants as reason
-use Rattle.m51_verbs.specs.LinkRefusals.{link_outcome, reason_of}
-use Rattle.m51_verbs.specs.Outcome.{Outcome, refused, status_by}
-use Rattle.m51_verbs.specs.Refusals.{edit_outcome, library_outcome}
-use Rattle.m51_verbs.specs.ScriptRefusals.{control_outcome, script_outcome}
+use Rattle.m51_chain.specs.Analyses.{bound_outcome, text_outcome}
+use Rattle.m51_chain.specs.Analyses as analyses
+use Rattle.m51_chain.specs.declared.work.Reason.{Reason}
+use Rattle.m51_chain.specs.declared.work.Reason.TheVariants as reason
+use Rattle.m51_chain.specs.LinkRefusals.{link_outcome, reason_of}
+use Rattle.m51_chain.specs.Outcome.{Outcome, refused, status_by}
+use Rattle.m51_chain.specs.Refusals.{edit_outcome, library_outcome}
+use Rattle.m51_chain.specs.ScriptRefusals.{control_outcome, script_outcome}
 
 -- what an outcome keeps fits its status
 abbrev pub Keeps : Outcome → Type 0

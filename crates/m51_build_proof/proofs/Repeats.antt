@@ -28,9 +28,9 @@ use Rattle.m51_script.specs.declared.error.ScriptError.{ScriptError}
 use Rattle.m51_script.specs.Reading.{plain_script, script_of}
 use Rattle.m51_jobs.specs.declared.job.FlatJob.{FlatJob}
 use Rattle.m51_jobs.specs.declared.job.Job.TheVariants.{Flat}
-use Rattle.m51_verbs.specs.FlatRuns as flats
-use Rattle.m51_verbs.specs.FlatRuns.{HexRead, Ran, flat_report}
-use Rattle.m51_verbs.specs.Optional.{content_if}
+use Rattle.m51_chain.specs.FlatRuns as flats
+use Rattle.m51_chain.specs.FlatRuns.{HexRead, Ran, flat_report}
+use Rattle.m51_chain.specs.Optional.{content_if}
 use Rattle.m51_chain.specs.Verbs.{IsOutcome}
 use Rattle.m51_chain.proofs.Accepted.{ok_same, on_value}
 use Rattle.m51_chain.proofs.OneOutcome.{one_outcome}

@@ -23,8 +23,7 @@ use Rattle.m51_asm.specs.Assignment.{above, numbered, value_or_none}
 use Rattle.m51_asm.specs.Fitting.{set_by, last_set, mod51, bank_by, bank_before, register_or_predefined}
 use Rattle.m51_asm.specs.Fitting.{undefined_value, externals_before, with_class, segment_value, external_value}
 use Rattle.m51_asm.specs.Fitting.{value_by, named_value}
-use Rattle.m51_asm.specs.ObjectMeanings.{final, object_value}
-use Rattle.m51_asm.specs.ObjectSegments.{segment_number}
+use Rattle.m51_asm.specs.ObjectSegments.{final}
 use Rattle.m51_asm.specs.PlacedFaults.{bank_fault, operand_fault}
 use Rattle.m51_asm.proofs.GoodLines.{IsClean, free}
 use Rattle.m51_asm.proofs.KnownSegments.{found_if, later_is}
@@ -263,17 +262,12 @@ module _ (lines : List LineTree) (a : Assignment) (c : IsClean lines a) (all : A
   named_small k name (Some d) is =
       defined_small k name d.0 d.1 (definition_small name d.0 d.1 is) (all_above k) (above_by d.0 (all_above d.0))
 
-  renumbered : (number : ℕ → ℕ) (o : Option Value) → IfSomeSmall o → IfSomeSmall (option_map (object_value number) o)
-  renumbered number None h = none_small
-  renumbered number (Some v) h = some_small (object_value number v) (record { number = (h.holds v refl).number })
-
-  -- each name has such a value over the segments of the module
+  -- each name has such a value where content is made
   pub final_small : (k : ℕ) → AreSmall (final lines a k)
   unfolding final
   final_small k = record {
-    value = λ name. renumbered (segment_number lines a) (a.value k name)
-        (subst IfSomeSmall (sym (c.fits.values k name)) (named_small k name (definition_of lines name) refl));
-    here = record { number = (here_small k).number };
+    value = λ name. subst IfSomeSmall (sym (c.fits.values k name)) (named_small k name (definition_of lines name) refl);
+    here = here_small k;
   }
 
   pub body_small : (k : ℕ) → IsSmallBody (body_at lines k)

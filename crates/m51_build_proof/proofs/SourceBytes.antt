@@ -11,7 +11,7 @@ use Rattle.m51_asm.specs.Answer.{IsAnswerOf, answer_of_lines, content_or_faults}
 use Rattle.m51_asm.specs.Answer.{first_fault, placed_or_fault}
 use Rattle.m51_asm.specs.Assignment.{Assignment, body_at}
 use Rattle.m51_asm.specs.ContentFaults.{content_faults}
-use Rattle.m51_asm.specs.ObjectMeanings.{final}
+use Rattle.m51_asm.specs.ObjectSegments.{final}
 use Rattle.m51_asm.specs.ObjectSegments.{kept, segment_number}
 use Rattle.m51_asm.specs.Parts.{parts}
 use Rattle.m51_asm.specs.Pieces.{Run, content_at, if_bytes, offset_at, piece_at, pieces, pieces_of_run, runs_from}

@@ -19,8 +19,8 @@ use Rattle.m51_module.specs.declared.linked.Refusal.TheVariants as refusal
 use Rattle.m51_script.specs.declared.error.ScriptError.{ScriptError}
 use Rattle.m51_script.specs.declared.error.ScriptError.TheVariants as script
 use Rattle.m51_sim.specs.Report.{report_of}
-use Rattle.m51_verbs.specs.declared.status.Status.{Status}
-use Rattle.m51_verbs.specs.declared.status.Status.TheVariants as status
+use Rattle.m51_chain.specs.declared.status.Status.{Status}
+use Rattle.m51_chain.specs.declared.status.Status.TheVariants as status
 use Rattle.m51_chain.proofs.Accepted.{ok_same}
 use Rattle.m51_chain.proofs.OneOutcome.{err_same, one_linked}
 use Rattle.m51_build_proof.specs.Builds.{MeetsRules}

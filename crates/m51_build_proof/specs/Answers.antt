@@ -3,8 +3,8 @@ use Rattle.std.specs.Prelude.{◌≡◌, ℕ, List, length}
 use Rattle.m51_jobs.specs.declared.job.Job.{Job}
 use Rattle.m51_jobs.specs.Files.{names_read}
 use Rattle.m51_shelf.specs.Shelf.{Files}
-use Rattle.m51_verbs.specs.declared.status.Status.{Status}
-use Rattle.m51_verbs.specs.Outcome.{Answer, Outcome}
+use Rattle.m51_chain.specs.declared.status.Status.{Status}
+use Rattle.m51_chain.specs.Outcome.{Answer, Outcome}
 use Rattle.m51_chain.specs.Asked.{IsFit}
 use Rattle.m51_chain.specs.Complete.{IsComplete}
 use Rattle.m51_chain.specs.Expected.{IsAnswer}

@@ -15,9 +15,9 @@ use Rattle.m51_sim.specs.FlatMachine.{flat_machine, reset_with}
 use Rattle.m51_sim.specs.Runs.{Record, record_of}
 use Rattle.m51_sim.specs.SeparateMachine.{Separate, separate_machine, separate_start}
 use Rattle.m51_jobs.specs.declared.job.BuildJob.{BuildJob}
-use Rattle.m51_verbs.specs.declared.status.Status.TheVariants.{Event, Ran}
+use Rattle.m51_chain.specs.declared.status.Status.TheVariants.{Event, Ran}
 use Rattle.m51_chain.specs.Builds.{build_files}
-use Rattle.m51_verbs.specs.Outcome.{Outcome}
+use Rattle.m51_chain.specs.Outcome.{Outcome}
 use Rattle.m51_chain.specs.ProgramFiles.{AreAnswered}
 
 -- No rule of the link fails, and this is the program that the rules give: the modules that are chosen, their graph, and

@@ -4,11 +4,11 @@ use Rattle.m51_jobs.specs.declared.job.BuildJob.{BuildJob}
 use Rattle.m51_jobs.specs.declared.job.Job.TheVariants.{Build}
 use Rattle.m51_jobs.specs.Files.{name_kept, names_read}
 use Rattle.m51_args.specs.Jobs.{job_of}
-use Rattle.m51_verbs.specs.declared.status.Status.{Status}
-use Rattle.m51_verbs.specs.declared.status.Status.TheVariants.{Event, Ran}
-use Rattle.m51_verbs.specs.Outcome.{Outcome, named_answer}
+use Rattle.m51_chain.specs.declared.status.Status.{Status}
+use Rattle.m51_chain.specs.declared.status.Status.TheVariants.{Event, Ran}
+use Rattle.m51_chain.specs.Outcome.{Outcome, named_answer}
 use Rattle.m51_chain.specs.Outside.{Change}
-use Rattle.m51_verbs.specs.Reading.{Whole, read_of}
+use Rattle.m51_chain.specs.Reading.{Whole, read_of}
 use Rattle.m51_shelf.specs.Shelf.{Files}
 use Rattle.m51_chain.specs.Told.{IsTold, Written}
 use Rattle.m51_chain.specs.Verbs.{IsOutcome}

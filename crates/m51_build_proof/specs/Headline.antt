@@ -24,10 +24,10 @@ use Rattle.m51_jobs.specs.declared.job.Job.{Job}
 use Rattle.m51_jobs.specs.declared.job.Job.TheVariants.{Build, Flat}
 use Rattle.m51_chain.specs.Builds.{build_files}
 use Rattle.m51_chain.specs.InputRefusals.{input_outcome}
-use Rattle.m51_verbs.specs.LinkRefusals.{link_outcome}
+use Rattle.m51_chain.specs.LinkRefusals.{link_outcome}
 use Rattle.m51_chain.specs.Linking.{program_in}
-use Rattle.m51_verbs.specs.Optional.{content_if}
-use Rattle.m51_verbs.specs.Outcome.{Outcome, status_by}
+use Rattle.m51_chain.specs.Optional.{content_if}
+use Rattle.m51_chain.specs.Outcome.{Outcome, status_by}
 use Rattle.m51_chain.specs.ProgramFiles.{AreAnswered, script_content}
 use Rattle.m51_chain.specs.Programs.{hex_kept, map_and_run}
 use Rattle.m51_chain.specs.Verbs.{IsOutcome}

@@ -24,9 +24,9 @@ use Rattle.m51_print.specs.Refusals.{refusal_text}
 use Rattle.m51_inputs.specs.Inputs.{InputsTree}
 use Rattle.m51_jobs.specs.declared.job.BuildJob.{BuildJob}
 use Rattle.m51_jobs.specs.declared.job.Job.TheVariants.{Build}
-use Rattle.m51_verbs.specs.declared.status.Status.TheVariants.{Link}
+use Rattle.m51_chain.specs.declared.status.Status.TheVariants.{Link}
 use Rattle.m51_chain.specs.Builds.{build_files}
-use Rattle.m51_verbs.specs.Outcome.{Outcome}
+use Rattle.m51_chain.specs.Outcome.{Outcome}
 use Rattle.m51_chain.specs.ProgramFiles.{AreAnswered}
 use Rattle.m51_chain.specs.Verbs.{IsOutcome}
 use Rattle.m51_build_proof.specs.Builds.{AreOfBytes, IsRun}

@@ -1,4 +1,8 @@
 pub mod Counted
+mod OneUnitSound
+mod SampleLayout
+mod SampleModule
+mod SamplePublic
 pub mod Sound
 pub mod SoundTests
 pub mod ThreeRoots

@@ -164,6 +164,18 @@ owners_are (own ∷ other ∷ []) h = record {
 }
 owners_are (own ∷ other ∷ third ∷ more) h = cc h
 
+-- the unit of number 0 is the root at the reset's vector
+pub reset_root : (l : LayoutParts) (p : Placed) → slice_get l.units 0 ≡ Some 0 → IsPlaced l 0 p → p.kind ≡ Code
+    → p.mark ≡ Absolute → p.base ≡ 0 → IsRootAt l 0 0
+reset_root l p unit placed kind mark base = record {
+  vector_is = (0, omega arith, refl);
+  is = p;
+  unit_is = record { segment = 0; unit_is = unit; placed = placed };
+  code = kind;
+  absolute = mark;
+  base = base;
+}
+
 module _ (l : LayoutParts) (vectors : List ℕ) (root : IsRootAt l 0 0)
     (few_units : length l.units ≤ 1000) (few_placed : length l.placed < 65536)
     (fitting : each_below (length l.placed) (λ s. extent_meets fits (slice_get l.placed s)) ≡ true)

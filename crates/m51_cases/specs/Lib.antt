@@ -1,2 +1,4 @@
 pub mod Layouts
+pub mod OneUnit
+pub mod Sample
 pub mod Taken

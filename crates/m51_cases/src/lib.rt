@@ -1,9 +1,20 @@
-//! Tests of what no verb reaches of devices and of the monitor: devices by the tables of the manual, moves and
-//! transfers. It is no part of the product.
+//! Tests of what no verb reaches, or only by what a run shows of it: of modules, layouts, images and libraries, of the
+//! text of generated programs, of devices, of the choice among interrupts, of the monitor and of boards. It is no part
+//! of the product.
 #![tactic(auto)]
 
 #[cfg(test)]
+mod boards;
+#[cfg(test)]
 mod devices;
+#[cfg(test)]
+mod generator;
+#[cfg(test)]
+mod irq;
+#[cfg(test)]
+mod library_edits;
+#[cfg(test)]
+mod module;
 #[cfg(test)]
 mod monitor_layout;
 #[cfg(test)]
@@ -12,3 +23,7 @@ mod monitor_moves;
 mod monitor_run;
 #[cfg(test)]
 mod monitor_table;
+#[cfg(test)]
+mod sample;
+#[cfg(test)]
+mod sim;

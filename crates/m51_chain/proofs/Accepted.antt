@@ -1,10 +1,9 @@
 -- What files of sources give, where they are accepted: a module for each.
 use Rattle.m51_chain.proofs.Common.{◌≡◌, ℕ, suc, ◌+◌, ◌≤◌, true, List, [], ◌∷◌, length, Option, Some, None}
 use Rattle.m51_chain.proofs.Common.{Result, Ok, Err, refl, sym, ap, ◌∙◌, subst, arith, AnswerTree, Gives, InputError}
-use Rattle.m51_chain.proofs.Common.{InputsTree, ModuleParts, SourceFile, Script, names_read}
+use Rattle.m51_chain.proofs.Common.{InputsTree, ModuleParts, SourceFile, Script}
 use Rattle.m51_chain.proofs.Common.{party_files, AreAnswered}
-use Rattle.std.proofs.Common.{take, length-append}
-use Rattle.std.specs.Prelude.{option_to_list}
+use Rattle.std.proofs.Common.{take}
 use Rattle.std.specs.List.{list_all}
 use Rattle.std.proofs.lemmas.Bool.{and_parts, leb-true}
 use Rattle.std.proofs.lemmas.List.{length-take-le}
@@ -19,9 +18,8 @@ use Rattle.m51_inputs.specs.Sources.{AreAnswers, faults_in, modules_in, unless_f
 use Rattle.m51_jobs.specs.declared.endings.Ending.{Ending}
 use Rattle.m51_jobs.specs.declared.endings.Ending.TheVariants as ending
 use Rattle.m51_jobs.specs.Endings.{are_boards, ending_of, is_a_source, is_source}
-use Rattle.m51_jobs.specs.declared.job.Job.TheVariants.{Party}
 use Rattle.m51_jobs.specs.declared.job.PartyJob.{PartyJob}
-use Rattle.m51_chain.specs.ProgramFiles.{script_content}
+use Rattle.m51_chain.specs.ProgramFiles.{HasParts, script_content}
 
 -- the value with which a step continues
 pub on_value : {A B E : Type 0} (r : Result A E) (go : A → Result B E) (y : B) (P : Type 0)
@@ -163,14 +161,12 @@ pub record AreGiven (job : PartyJob) (contents : List (List ℕ)) (inputs : Inpu
   pub most : length inputs.modules ≤ 8
 
 pub party_given : (job : PartyJob) (contents : List (List ℕ)) (inputs : InputsTree) → are_boards job.files ≡ true
-    → length contents ≡ length (names_read (Party job)) → AreAnswered (party_files job) contents (Ok inputs)
+    → HasParts (party_files job) contents → AreAnswered (party_files job) contents (Ok inputs)
     → AreGiven job contents inputs
-party_given job contents inputs fit count has =
+party_given job contents inputs fit parts has =
     let files : AreBoards job.files = boards_are job.files fit in
-    let all : length contents ≡ length job.files + length (option_to_list job.script) =
-    count ∙ length-append job.files (option_to_list job.script) in
     let words : length (take (length job.files) contents) ≡ length job.files =
-    length-take-le (length job.files) contents (omega (arith, all)) in
+    length-take-le (length job.files) contents (omega (arith, parts.count)) in
     let given = sources_give job.files (take (length job.files) contents) None
     (script_content (party_files job) contents) inputs files.sources words has in
     record { least = omega (arith, files.least, given); most = omega (arith, files.most, given) }

@@ -9,8 +9,8 @@ use Rattle.m51_records.specs.Spelling.{bytes_of}
 use Rattle.m51_sim.specs.Report.{report_of}
 use Rattle.m51_chain.specs.Assembles.{assembled_outcome}
 use Rattle.m51_chain.specs.Programs.{IsMap, hex_kept}
-use Rattle.m51_verbs.specs.declared.work.Finish.TheVariants.{Ran, Run}
-use Rattle.m51_verbs.specs.Outcome.{outcome_of, status_at, text_at}
+use Rattle.m51_chain.specs.declared.work.Finish.TheVariants.{Ran, Run}
+use Rattle.m51_chain.specs.Outcome.{outcome_of, status_at, text_at}
 
 -- the report of a linked program, by the board that is made of it
 pub report_is : (linked : Linked) (hex : Option (List ℕ)) (script : Script) (steps : ℕ) (board : BoardState)

@@ -2,13 +2,13 @@
 use Rattle.m51_chain.proofs.Common.{◌≡◌, ℕ, List, Option, Some, None, refl, sym, ap, ◌∙◌, subst, inl, inr, arith, Job}
 use Rattle.m51_chain.proofs.Common.{name_kept, names_read, Status, Files, ReadAt, Change, Answer, MayKeep, IsDue, Ended}
 use Rattle.std.specs.Prelude.{option_map}
-use Rattle.m51_verbs.specs.declared.status.Status.TheVariants as status
+use Rattle.m51_chain.specs.declared.status.Status.TheVariants as status
 use Rattle.m51_shelf.specs.Shelf.{File}
-use Rattle.m51_verbs.specs.Outcome.{under, usage_answer, many_answer, long_answer, unread_answer}
+use Rattle.m51_chain.specs.Outcome.{under, usage_answer, many_answer, long_answer, unread_answer}
 use Rattle.m51_shelf.specs.Reading.{IsLong}
-use Rattle.m51_verbs.specs.Reading.{AreRead, IsFileReached}
-use Rattle.m51_verbs.specs.Carried as carried
-use Rattle.m51_verbs.specs.Carried.{IsUnkept}
+use Rattle.m51_chain.specs.Reading.{AreRead, IsFileReached}
+use Rattle.m51_chain.specs.Carried as carried
+use Rattle.m51_chain.specs.Carried.{IsUnkept}
 use Rattle.m51_chain.specs.Due as due
 use Rattle.m51_chain.specs.Due.{IsWorkFor, IsAtFor, IsDueFor}
 use Rattle.m51_chain.specs.Told.{Written, IsSaid, IsWorked, IsKeepFault, IsCaused}

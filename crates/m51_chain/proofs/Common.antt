@@ -12,7 +12,7 @@ pub use Rattle.m51_chain.specs.Generates.{IsCounted}
 pub use Rattle.m51_chain.specs.Linking.{Follows, IsInputsOutcome, IsLinkedOr, IsProgramOutcome, Unlinked, program_in}
 pub use Rattle.m51_chain.specs.Linking.{sole_program}
 pub use Rattle.m51_chain.specs.Outside.{Change}
-pub use Rattle.m51_chain.specs.Parties.{IsPartyWork, party_files, status_if}
+pub use Rattle.m51_chain.specs.Parties.{IsPartyWork, party_files}
 pub use Rattle.m51_chain.specs.ProgramFiles.{AreAnswered, Given, IsFilesOutcome, Nothing, ProgramFiles, Refused}
 pub use Rattle.m51_chain.specs.Programs.{IsReport}
 pub use Rattle.m51_chain.specs.Told.{Ended}
@@ -33,7 +33,7 @@ pub use Rattle.m51_script.specs.declared.script.Script.{Script}
 pub use Rattle.m51_shelf.specs.Shelf.{Files}
 pub use Rattle.m51_shelf.specs.States.{ReadAt}
 pub use Rattle.m51_sim.specs.Boards.{BoardState, IsStarted}
-pub use Rattle.m51_verbs.specs.FlatRuns.{script_in}
-pub use Rattle.m51_verbs.specs.Outcome.{Answer, Outcome}
-pub use Rattle.m51_verbs.specs.declared.status.Status.{Status}
-pub use Rattle.m51_verbs.specs.declared.work.Stop.{Stop}
+pub use Rattle.m51_chain.specs.FlatRuns.{script_in}
+pub use Rattle.m51_chain.specs.Outcome.{Answer, Outcome, status_if}
+pub use Rattle.m51_chain.specs.declared.status.Status.{Status}
+pub use Rattle.m51_chain.specs.declared.work.Stop.{Stop}

@@ -3,14 +3,14 @@ use Rattle.m51_chain.proofs.Common.{◌≡◌, ◌⊎◌, ℕ, ◌<◌, ◌≤�
 use Rattle.m51_chain.proofs.Common.{inl, inr, Job, name_kept, names_read, Status, Answer, Change, Files, Ended}
 use Rattle.m51_cells.specs.declared.limits.TheConstants.{MOST_FILES}
 use Rattle.m51_jobs.specs.Files.{file_count}
-use Rattle.m51_verbs.specs.declared.status.Status.TheVariants as status
+use Rattle.m51_chain.specs.declared.status.Status.TheVariants as status
 use Rattle.m51_args.specs.Jobs.{job_of}
-use Rattle.m51_verbs.specs.Carried as carried
+use Rattle.m51_chain.specs.Carried as carried
 use Rattle.m51_chain.specs.Complete.{Completed, IsComplete, IsUnfailed}
 use Rattle.m51_chain.specs.Expected as answers
 use Rattle.m51_chain.specs.Expected.{HasOutcome, IsAnswer}
-use Rattle.m51_verbs.specs.Outcome.{long_answer, many_answer, named_answer, unread_answer, usage_answer}
-use Rattle.m51_verbs.specs.Reading.{Absent, Reading, TooLong, Whole, read_of}
+use Rattle.m51_chain.specs.Outcome.{long_answer, many_answer, named_answer, unread_answer, usage_answer}
+use Rattle.m51_chain.specs.Reading.{Absent, Reading, TooLong, Whole, read_of}
 use Rattle.m51_chain.specs.Told.{IsTold, IsUnread, Written}
 use Rattle.m51_chain.proofs.OneOutcome.{one_outcome}
 

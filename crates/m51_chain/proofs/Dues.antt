@@ -1,13 +1,13 @@
 -- What an answer that is due says of the status.
 use Rattle.m51_chain.proofs.Common.{◌≡◌, ◌⊎◌, ℕ, List, Option, Some, subst, inl, inr, names_read, Status, Files, ReadAt}
 use Rattle.m51_chain.proofs.Common.{Change, Answer, MayKeep, IsDue, Ended}
-use Rattle.m51_verbs.specs.declared.status.Status.TheVariants as status
-use Rattle.m51_verbs.specs.Carried as carried
+use Rattle.m51_chain.specs.declared.status.Status.TheVariants as status
+use Rattle.m51_chain.specs.Carried as carried
 use Rattle.m51_chain.specs.Expected as answers
 use Rattle.m51_chain.specs.Expected.{IsAnswer}
 use Rattle.m51_chain.specs.Due as due
 use Rattle.m51_chain.specs.Told.{IsUnread, IsTold}
-use Rattle.m51_verbs.proofs.Readings.{long_after}
+use Rattle.m51_chain.proofs.Readings.{long_after}
 
 -- If the files of the shelf are visible, an answer that is due is that of arguments and files, or a call on the shelf
 -- failed.

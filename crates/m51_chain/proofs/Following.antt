@@ -7,9 +7,9 @@ use Rattle.std.specs.Prelude.{IfSome, IsErrAnd}
 use Rattle.m51_chain.specs.declared.linking.LinkedFiles.{LinkedFiles}
 use Rattle.m51_chain.specs.Linking.{AreLinked, AreRefused, IsLinkedOutcome}
 use Rattle.m51_chain.specs.ProgramFiles.{IsGivenOutcome}
-use Rattle.m51_verbs.specs.declared.work.Finished.{Finished}
-use Rattle.m51_verbs.specs.Outcome.{Comes, stopped}
-use Rattle.m51_verbs.proofs.Ends.{comes_weaker}
+use Rattle.m51_chain.specs.declared.work.Finished.{Finished}
+use Rattle.m51_chain.specs.Outcome.{Comes, stopped}
+use Rattle.m51_chain.proofs.Ends.{comes_weaker}
 
 -- what the exit of a `?` returns, where the error stays
 pub came : {T : Type 0} (result : Result T Stop) (why : Stop) → IsErrAnd result (λ e. e ≡ why) → result ≡ Err why

@@ -3,7 +3,7 @@ use Rattle.m51_chain.proofs.Common.{◌≡◌, inl, inr, ℕ, List, Option, Some
 use Rattle.m51_chain.proofs.Common.{Files, ReadAt, Answer, IsDue}
 use Rattle.m51_shelf.specs.Shelf.{File}
 use Rattle.m51_chain.specs.Due as due
-use Rattle.m51_verbs.specs.Carried.{HoldsBut}
+use Rattle.m51_chain.specs.Carried.{HoldsBut}
 use Rattle.m51_chain.specs.Told.{HoldsButKept, IsKeptName}
 use Rattle.m51_chain.proofs.Causes.{under_name}
 

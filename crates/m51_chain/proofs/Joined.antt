@@ -2,32 +2,24 @@
 use Rattle.m51_chain.proofs.Common.{◌≡◌, ℕ, suc, List, [], ◌∷◌, ◌++◌, length, drop, Result, Ok, Err, refl, sym, ap, ◌∙◌}
 use Rattle.m51_chain.proofs.Common.{subst, arith, All-cons, All-nil, IfSome_then, InputsTree, Linked, Program, Refusal}
 use Rattle.m51_chain.proofs.Common.{ModuleParts, LayoutParts, Script, BoardState, IsStarted, Stop, Follows}
-use Rattle.m51_chain.proofs.Common.{IsLinkedOr, IsProgramOutcome, Unlinked, sole_program, Outcome, status_if}
+use Rattle.m51_chain.proofs.Common.{IsLinkedOr, IsProgramOutcome, Unlinked, sole_program, Outcome}
 use Rattle.m51_chain.proofs.Common.{IsPartyWork, party_files, AreAnswered, Given, Nothing}
 use Rattle.std.proofs.Common.{append-nil}
 use Rattle.std.specs.Prelude.{All, Vec}
 use Rattle.std.specs.declared.alloc.Global.{Global}
 use Rattle.m51_cells.specs.Outcome.{and_then}
-use Rattle.m51_cells.specs.Outside.{Rose}
-use Rattle.m51_party.specs.declared.party.PartyEnd.{PartyEnd}
-use Rattle.m51_party.specs.declared.party.PartyEnd.TheVariants as ends
 use Rattle.m51_party.specs.Family.{IsFresh}
-use Rattle.m51_party.specs.Report.{IsPartyReport, has_event}
 use Rattle.m51_party.specs.Rounds.{family_of}
-use Rattle.m51_party.specs.Text.{party_text}
 use Rattle.m51_party.proofs.One.{only_family}
 use Rattle.m51_jobs.specs.declared.job.PartyJob.{PartyJob}
 use Rattle.m51_sim.specs.Cycles.{inputs_of}
 use Rattle.m51_sim.specs.FlatMachine.{reset_with}
 use Rattle.m51_sim.specs.SeparateMachine.{separate_start}
-use Rattle.m51_shelf.specs.Writing.{SinkState}
-use Rattle.m51_verbs.specs.Carried.{IsTextWritten}
-use Rattle.m51_verbs.specs.Outcome.{stopped}
-use Rattle.m51_chain.specs.Parties.{party_status}
+use Rattle.m51_chain.specs.Outcome.{stopped}
 use Rattle.m51_chain.specs.Parties as parties
 use Rattle.m51_chain.specs.Parties.{AreBoardsFor, AreBoardsOf, AreBoardsOr, AreJoinedOr, IsBoardOf, IsBoardOr}
 use Rattle.m51_chain.specs.Parties.{IsUnlinked, each_of, programs_of}
-use Rattle.m51_verbs.proofs.Edits.{none_left}
+use Rattle.m51_chain.proofs.Edits.{none_left}
 use Rattle.m51_chain.proofs.Accepted.{AreGiven, ok_same}
 use Rattle.m51_chain.proofs.Following.{inputs_refused}
 
@@ -210,14 +202,3 @@ alone_started script copy parts linked board same h started = (
     started = subst (λ s. IsStarted linked.layout linked.image s board) same started;
   },
 )
-
--- ---- the end of a party
-
-pub party_written : (boards : List BoardState) (n : ℕ) (old new : SinkState) (end : PartyEnd)
-    → IsPartyReport boards n (family_of boards n) old.text new.text end
-    → (end ≡ ends.WriteFault → Rose old.faults new.faults)
-    → IsTextWritten (status_if (has_event (family_of boards n))) (party_text boards n (family_of boards n)) old new
-    (party_status end)
-party_written boards n old new ends.Finished report fault = (sym (ap status_if report.0), report.1)
-party_written boards n old new ends.Stopped report fault = (sym (ap status_if report.0), report.1)
-party_written boards n old new ends.WriteFault report fault = (fault refl, report)

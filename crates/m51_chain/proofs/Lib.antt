@@ -1,4 +1,11 @@
 pub mod Common
+pub mod Carries
+pub mod Readings
+pub mod HandedOut
+pub mod Objects
+pub mod Ends
+pub mod Edits
+pub mod Bounded
 pub mod Dues
 pub mod Causes
 pub mod Holding

@@ -18,19 +18,19 @@ use Rattle.m51_stackbound.proofs.Unique.{answer_is_unique}
 use Rattle.m51_text.specs.Answer.{text_of}
 use Rattle.m51_jobs.specs.declared.job.FlatJob.{FlatJob}
 use Rattle.m51_chain.specs.Assembles.{IsAssembledOutcome, IsOneOutcome, assembled_outcome}
-use Rattle.m51_verbs.specs.Analyses.{IsBounded, IsDisassembled, bound_outcome}
+use Rattle.m51_chain.specs.Analyses.{IsBounded, IsDisassembled, bound_outcome}
 use Rattle.m51_chain.specs.Builds.{build_files}
 use Rattle.m51_generator.specs.Lines.{generated}
 use Rattle.m51_jobs.specs.declared.job.GenJob.{GenJob}
 use Rattle.m51_chain.specs.Generates.{IsGenOutcome, IsGenerated}
-use Rattle.m51_verbs.specs.FlatRuns.{IsFlatOutcome, IsFlatWork, IsScripted, flat_report}
+use Rattle.m51_chain.specs.FlatRuns.{IsFlatOutcome, IsFlatWork, IsScripted, flat_report}
 use Rattle.m51_chain.specs.InputRefusals.{input_outcome}
-use Rattle.m51_verbs.specs.ScriptRefusals.{script_outcome}
+use Rattle.m51_chain.specs.ScriptRefusals.{script_outcome}
 use Rattle.m51_chain.specs.Linking.{IsLinkedOutcome}
-use Rattle.m51_verbs.specs.LinkRefusals.{link_outcome}
-use Rattle.m51_verbs.specs.Optional.{content_if}
+use Rattle.m51_chain.specs.LinkRefusals.{link_outcome}
+use Rattle.m51_chain.specs.Optional.{content_if}
 use Rattle.m51_chain.specs.Parties.{AreBoardsOf, IsBoardOf, IsPartyReport, party_report}
-use Rattle.m51_verbs.specs.Refusals.{hex_outcome}
+use Rattle.m51_chain.specs.Refusals.{hex_outcome}
 use Rattle.m51_chain.specs.ProgramFiles.{IsGivenOutcome, control_content, script_content, word_contents}
 use Rattle.m51_chain.specs.Programs.{program_report}
 use Rattle.m51_chain.specs.Verbs.{IsOutcome}
@@ -40,7 +40,7 @@ use Rattle.m51_chain.proofs.OneChains.{one_heaviest}
 use Rattle.m51_chain.proofs.OneRuns.{one_image, one_roots, one_runs}
 use Rattle.m51_jobs.specs.declared.job.Job.TheVariants as jobs
 use Rattle.m51_asm.specs.Answer as answers
-use Rattle.m51_verbs.specs.FlatRuns as flats
+use Rattle.m51_chain.specs.FlatRuns as flats
 use Rattle.m51_chain.specs.Parties as parties
 
 pub err_same : {A E : Type 0} (r : Result A E) (x y : E) → r ≡ Err x → r ≡ Err y → x ≡ y

@@ -5,19 +5,18 @@ use Rattle.std.proofs.Common.{Bool, false}
 use Rattle.std.specs.Prelude.{IfOk, Some}
 use Rattle.m51_cells.specs.declared.event.Event.{Event}
 use Rattle.m51_cells.specs.declared.memory.NoMemory.{NoMemory}
-use Rattle.m51_chain.specs.declared.work.Task.{Task}
-use Rattle.m51_chain.specs.declared.work.Work.{Work}
-use Rattle.m51_chain.specs.declared.work.Work.TheVariants.{Alone, Party}
+use Rattle.m51_chain.specs.declared.work.Plan.{Plan}
 use Rattle.m51_chain.specs.Due.{IsPlanned}
 use Rattle.m51_chain.specs.Expected.{HasOutcome}
 use Rattle.m51_chain.specs.Verbs.{IsOutcome}
-use Rattle.m51_chain.specs.Work.{Comes, task_answer, outcome_of_work}
-use Rattle.m51_verbs.specs.declared.work.Finish.{Finish}
-use Rattle.m51_verbs.specs.declared.work.Finish.TheVariants as ending
-use Rattle.m51_verbs.specs.declared.work.Reason.{Reason}
-use Rattle.m51_verbs.specs.declared.work.Reason.TheVariants as reason
-use Rattle.m51_verbs.specs.declared.work.Stop.TheVariants as stop
-use Rattle.m51_verbs.specs.Outcome.{named_answer, refused, status_at, status_by, status_of}
+use Rattle.m51_chain.specs.declared.work.Finish.{Finish}
+use Rattle.m51_chain.specs.declared.work.Finish.TheVariants as ending
+use Rattle.m51_chain.specs.declared.work.Finished.{Finished}
+use Rattle.m51_chain.specs.declared.work.Reason.{Reason}
+use Rattle.m51_chain.specs.declared.work.Reason.TheVariants as reason
+use Rattle.m51_chain.specs.declared.work.Stop.TheVariants as stop
+use Rattle.m51_chain.specs.Outcome.{Comes, answer_of, named_answer, outcome_of, refused, status_at, status_by}
+use Rattle.m51_chain.specs.Outcome.{status_of}
 
 may_by : (event : Option Event) (keeps : Option (List ℕ)) → MayKeep (status_by event) keeps
 may_by None keeps = tt
@@ -33,10 +32,7 @@ may_end ending.Ran keeps = tt
 may_end ending.Event keeps = tt
 may_end (ending.Run board steps) keeps = may_by _ keeps
 may_end (ending.FlatRun board steps) keeps = may_by _ keeps
-
-may_work : (work : Work) → MayKeep (outcome_of_work work).status (outcome_of_work work).keeps
-may_work (Alone done) = may_end done.ending done.keeps
-may_work (Party boards steps) = may_if _ None
+may_end (ending.Party boards steps) keeps = may_if _ keeps
 
 may_refuse : (why : Reason) → MayKeep (status_of why) None
 may_refuse reason.Source = refl
@@ -47,23 +43,23 @@ may_refuse reason.Limit = refl
 may_refuse reason.Stack = refl
 
 -- the plan for work has the outcome of the work
-pub work_outcome : (job : Job) (contents : List (List ℕ)) (name : Option (List ℕ)) (work : Result Work Stop)
-    (result : Result Task NoMemory) → name ≡ name_kept job
+pub work_outcome : (job : Job) (contents : List (List ℕ)) (name : Option (List ℕ)) (work : Result Finished Stop)
+    (result : Result Plan NoMemory) → name ≡ name_kept job
     → Comes (IsOutcome job contents) work → IsPlanned name work result
-    → IfOk result (λ task. HasOutcome job contents (task_answer task))
-work_outcome job contents name (Ok work) (Ok task) is comes planned = record {
-  outcome = outcome_of_work work;
+    → IfOk result (λ plan. HasOutcome job contents (answer_of plan))
+work_outcome job contents name (Ok work) (Ok plan) is comes planned = record {
+  outcome = outcome_of work;
   work = comes;
-  keeps = may_work work;
-  is = planned ∙ ap (λ n. named_answer n (outcome_of_work work)) is;
+  keeps = may_end work.ending work.keeps;
+  is = planned ∙ ap (λ n. named_answer n (outcome_of work)) is;
 }
 work_outcome job contents name (Ok work) (Err none) is comes planned = tt
-work_outcome job contents name (Err (stop.Refused why text)) (Ok task) is comes planned = record {
+work_outcome job contents name (Err (stop.Refused why text)) (Ok plan) is comes planned = record {
   outcome = refused why text;
   work = comes;
   keeps = may_refuse why;
   is = planned ∙ ap (λ n. named_answer n (refused why text)) is;
 }
 work_outcome job contents name (Err (stop.Refused why text)) (Err none) is comes planned = tt
-work_outcome job contents name (Err stop.Memory) (Ok task) is comes planned = absurd planned
+work_outcome job contents name (Err stop.Memory) (Ok plan) is comes planned = absurd planned
 work_outcome job contents name (Err stop.Memory) (Err none) is comes planned = tt

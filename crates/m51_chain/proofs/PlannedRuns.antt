@@ -8,24 +8,22 @@ use Rattle.m51_cells.specs.declared.memory.NoMemory.{NoMemory}
 use Rattle.m51_jobs.specs.declared.job.BuildJob.{BuildJob}
 use Rattle.m51_jobs.specs.declared.job.Job.TheVariants as jobs
 use Rattle.m51_chain.specs.declared.linking.LinkedFiles.{LinkedFiles}
-use Rattle.m51_chain.specs.declared.work.Task.{Task}
-use Rattle.m51_chain.specs.declared.work.Task.TheVariants as task
-use Rattle.m51_chain.specs.declared.work.Work.{Work}
-use Rattle.m51_chain.specs.declared.work.Work.TheVariants as work
+use Rattle.m51_chain.specs.declared.work.Plan.{Plan}
 use Rattle.m51_chain.specs.Builds.{build_files}
-use Rattle.m51_chain.specs.BuildTasks.{EndsInRun, IfBuild, IsBuildPlanned, IsBuildRun, IsBuildTask, IsBuildWork}
-use Rattle.m51_chain.specs.BuildTasks.{IsPlannedAlike, IsRefusal, IsRunFor, IsRunTask, IsRunWork}
+use Rattle.m51_chain.specs.BuildPlans.{EndsInRun, IfBuild, IsBuildPlanned, IsBuildRun, IsBuildPlan, IsBuildWork}
+use Rattle.m51_chain.specs.BuildPlans.{IsPlannedAlike, IsRefusal, IsRunFor, IsRunPlan}
 use Rattle.m51_chain.specs.Due.{IsPlanned}
 use Rattle.m51_chain.specs.Linking.{AreLinked}
-use Rattle.m51_chain.specs.Work.{task_answer}
-use Rattle.m51_verbs.specs.declared.plan.Plan.TheVariants as plan
-use Rattle.m51_verbs.specs.declared.work.Finish.{Finish}
-use Rattle.m51_verbs.specs.declared.work.Finish.TheVariants as ending
-use Rattle.m51_verbs.specs.declared.work.Reason.{Reason}
-use Rattle.m51_verbs.specs.declared.work.Reason.TheVariants as reason
-use Rattle.m51_verbs.specs.declared.work.Stop.TheVariants as stop
-use Rattle.m51_verbs.specs.Outcome.{flat_run_of, named_answer, refused, run_of, status_at, status_by, status_of}
-use Rattle.m51_verbs.specs.Reading.{AreGiven, AreRead}
+use Rattle.m51_chain.specs.declared.work.Plan.TheVariants as plan
+use Rattle.m51_chain.specs.declared.work.Finish.{Finish}
+use Rattle.m51_chain.specs.declared.work.Finish.TheVariants as ending
+use Rattle.m51_chain.specs.declared.work.Finished.{Finished}
+use Rattle.m51_chain.specs.declared.work.Reason.{Reason}
+use Rattle.m51_chain.specs.declared.work.Reason.TheVariants as reason
+use Rattle.m51_chain.specs.declared.work.Stop.TheVariants as stop
+use Rattle.m51_chain.specs.Outcome.{answer_of, flat_run_of, named_answer, refused, run_of, status_at, status_by}
+use Rattle.m51_chain.specs.Outcome.{status_of}
+use Rattle.m51_chain.specs.Reading.{AreGiven, AreRead}
 
 -- ---- refusals, by their status
 
@@ -43,6 +41,7 @@ not_end ending.Ran h = h
 not_end ending.Event h = h
 not_end (ending.Run board steps) h = not_by (run_of board steps).event h
 not_end (ending.FlatRun board steps) h = not_by (flat_run_of board steps).event h
+not_end (ending.Party boards steps) h = not_if _ h
 
 refuses : (why : Reason) → IsRefusal (status_of why)
 refuses reason.Source = tt
@@ -53,19 +52,17 @@ refuses reason.Limit = tt
 refuses reason.Stack = tt
 
 module _ (Ends : List ℕ → Finish → Type 0) where
-  by_status : (it : Task) → IsRefusal (task_answer it).status → IsRunTask Ends it
-  by_status (task.Alone (plan.Refused told text)) h = h
-  by_status (task.Alone (plan.Accepted keeps text end)) h = absurd (not_end end h)
-  by_status (task.Party boards steps) h = absurd (not_if _ h)
+  by_status : (it : Plan) → IsRefusal (answer_of it).status → IsRunPlan Ends it
+  by_status (plan.Refused told text) h = h
+  by_status (plan.Accepted keeps text end) h = absurd (not_end end h)
 
-  refused_by : (it : Task) (answer : Answer) → task_answer it ≡ answer → IsRefusal answer.status → IsRunTask Ends it
+  refused_by : (it : Plan) (answer : Answer) → answer_of it ≡ answer → IsRefusal answer.status → IsRunPlan Ends it
   refused_by it answer is h = by_status it (subst (λ (a : Answer). IsRefusal a.status) (sym is) h)
 
 pub run_weaker : (P Q : List ℕ → Finish → Type 0) → ((text : List ℕ) (end : Finish) → P text end → Q text end)
-    → (it : Task) → IsRunTask P it → IsRunTask Q it
-run_weaker P Q on (task.Alone (plan.Refused told text)) h = h
-run_weaker P Q on (task.Alone (plan.Accepted keeps text end)) h = (h.0, on text end h.1)
-run_weaker P Q on (task.Party boards steps) h = h
+    → (it : Plan) → IsRunPlan P it → IsRunPlan Q it
+run_weaker P Q on (plan.Refused told text) h = h
+run_weaker P Q on (plan.Accepted keeps text end) h = (h.0, on text end h.1)
 
 -- ---- builds among jobs
 
@@ -92,14 +89,13 @@ run_of_files job contents found text end are run = record {
   run = subst (λ script. EndsInRun found.linked script job.steps text end) are.script run;
 }
 
-plan_of_work : (build : BuildJob) (contents : List (List ℕ)) (name : Option (List ℕ)) (made : Result Work Stop)
-    (result : Result Task NoMemory) → name ≡ None → IfOk made (IsRunWork build contents)
+plan_of_work : (build : BuildJob) (contents : List (List ℕ)) (name : Option (List ℕ)) (made : Result Finished Stop)
+    (result : Result Plan NoMemory) → name ≡ None → IfOk made (λ work. IsBuildRun build contents work.text work.ending)
     → IsPlanned name made result → (name ≡ None → IsPlannedAlike made result)
-    → IfOk result (IsRunTask (IsBuildRun build contents))
-plan_of_work build contents name (Ok (work.Alone done)) (Ok it) none is planned plain =
-    subst (λ (t : Task). IsRunTask (IsBuildRun build contents) t) (sym (plain none)) (refl, is)
-plan_of_work build contents name (Ok (work.Party boards steps)) (Ok it) none is planned plain = absurd is
-plan_of_work build contents name (Ok done) (Err out) none is planned plain = tt
+    → IfOk result (IsRunPlan (IsBuildRun build contents))
+plan_of_work build contents name (Ok work) (Ok it) none is planned plain =
+    subst (λ (t : Plan). IsRunPlan (IsBuildRun build contents) t) (sym (plain none)) (refl, is)
+plan_of_work build contents name (Ok work) (Err out) none is planned plain = tt
 plan_of_work build contents name (Err (stop.Refused why text)) (Ok it) none is planned plain =
     refused_by (IsBuildRun build contents) it (named_answer name (refused why text)) planned (refuses why)
 plan_of_work build contents name (Err (stop.Refused why text)) (Err out) none is planned plain = tt
@@ -107,12 +103,12 @@ plan_of_work build contents name (Err stop.Memory) (Ok it) none is planned plain
 plan_of_work build contents name (Err stop.Memory) (Err out) none is planned plain = tt
 
 -- what is planned for the work of a job
-pub build_planned : (job : Job) (contents : List (List ℕ)) (name : Option (List ℕ)) (made : Result Work Stop)
-    (result : Result Task NoMemory) → name ≡ name_kept job → IfOk made (IsBuildWork job contents)
+pub build_planned : (job : Job) (contents : List (List ℕ)) (name : Option (List ℕ)) (made : Result Finished Stop)
+    (result : Result Plan NoMemory) → name ≡ name_kept job → IfOk made (IsBuildWork job contents)
     → IsPlanned name made result → (name ≡ None → IsPlannedAlike made result)
     → IfOk result (IsBuildPlanned job contents)
 build_planned job contents name made (Ok it) is worked planned plain =
-    any_build job (λ build. build.hex ≡ None → IsRunTask (IsBuildRun build contents) it) (λ build same no_hex.
+    any_build job (λ build. build.hex ≡ None → IsRunPlan (IsBuildRun build contents) it) (λ build same no_hex.
     plan_of_work build contents name made (Ok it) (is ∙ ap name_kept same ∙ no_hex)
     (subst (λ (j : Job). IfOk made (IsBuildWork j contents)) same worked) planned plain)
 build_planned job contents name made (Err out) is worked planned plain = tt
@@ -121,11 +117,11 @@ build_planned job contents name made (Err out) is worked planned plain = tt
 
 module _ (job : Job) (holds : Option Files) (before after : ReadAt) where
   -- the files were read
-  pub build_task : (contents : List (List ℕ)) (result : Result Task NoMemory)
+  pub build_task : (contents : List (List ℕ)) (result : Result Plan NoMemory)
       → AreRead holds (names_read job) contents → AreGiven (names_read job) before after contents
-      → IfOk result (IsBuildPlanned job contents) → IfOk result (IsBuildTask job holds before after)
+      → IfOk result (IsBuildPlanned job contents) → IfOk result (IsBuildPlan job holds before after)
   build_task contents (Ok it) read given planned =
-      any_build job (λ build. build.hex ≡ None → IsRunTask (IsRunFor build holds before after) it)
+      any_build job (λ build. build.hex ≡ None → IsRunPlan (IsRunFor build holds before after) it)
       (λ build same no_hex.
       run_weaker (IsBuildRun build contents) (IsRunFor build holds before after)
       (λ text end run. record {
@@ -138,8 +134,9 @@ module _ (job : Job) (holds : Option Files) (before after : ReadAt) where
   build_task contents (Err out) read given planned = tt
 
   -- it is refused
-  pub build_refused : (it : Task) (answer : Answer) → task_answer it ≡ answer → IsRefusal answer.status
-      → IsBuildTask job holds before after it
-  build_refused it answer is h =
-      any_build job (λ build. build.hex ≡ None → IsRunTask (IsRunFor build holds before after) it)
+  pub build_refused : (result : Result Plan NoMemory) (answer : Answer) → IfOk result (λ it. answer_of it ≡ answer)
+      → IsRefusal answer.status → IfOk result (IsBuildPlan job holds before after)
+  build_refused (Ok it) answer is h =
+      any_build job (λ build. build.hex ≡ None → IsRunPlan (IsRunFor build holds before after) it)
       (λ build same no_hex. refused_by (IsRunFor build holds before after) it answer is h)
+  build_refused (Err out) answer is h = tt

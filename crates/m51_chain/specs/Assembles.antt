@@ -7,10 +7,10 @@ use Rattle.m51_module.specs.declared.source.SourceFile.{SourceFile}
 use Rattle.m51_print.specs.Listing.{listing_of}
 use Rattle.m51_records.specs.Spelling.{bytes_of}
 use Rattle.m51_jobs.specs.declared.job.AsmJob.{AsmJob}
-use Rattle.m51_verbs.specs.declared.status.Status.TheVariants.{Ran}
-use Rattle.m51_verbs.specs.declared.work.Reason.TheVariants as reason
-use Rattle.m51_verbs.specs.FaultLines.{fault_lines}
-use Rattle.m51_verbs.specs.Outcome.{Outcome, refused}
+use Rattle.m51_chain.specs.declared.status.Status.TheVariants.{Ran}
+use Rattle.m51_chain.specs.declared.work.Reason.TheVariants as reason
+use Rattle.m51_chain.specs.FaultLines.{fault_lines}
+use Rattle.m51_chain.specs.Outcome.{Outcome, refused}
 
 -- the faults of the source, or its object, which is kept, with its listing
 abbrev pub assembled_outcome : List (List ℕ) → SourceFile → List SourceFile → AnswerTree → Outcome

@@ -2,7 +2,7 @@
 use Rattle.std.specs.Prelude.{ℕ, List}
 use Rattle.m51_jobs.specs.declared.job.BuildJob.{BuildJob}
 use Rattle.m51_chain.specs.Linking.{IsLinkedOutcome}
-use Rattle.m51_verbs.specs.Outcome.{Outcome}
+use Rattle.m51_chain.specs.Outcome.{Outcome}
 use Rattle.m51_chain.specs.ProgramFiles.{ProgramFiles, program_files}
 use Rattle.m51_chain.specs.Programs.{IsReport}
 

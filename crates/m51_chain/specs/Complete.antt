@@ -1,9 +1,9 @@
 -- What comes where no call on the outside fails.
 use Rattle.std.specs.Prelude.{◌≡◌, ◌⊎◌}
 use Rattle.m51_cells.specs.Outside.{Rose}
-use Rattle.m51_verbs.specs.declared.status.Status.{Status}
-use Rattle.m51_verbs.specs.declared.status.Status.TheVariants as status
-use Rattle.m51_verbs.specs.Outcome.{Answer}
+use Rattle.m51_chain.specs.declared.status.Status.{Status}
+use Rattle.m51_chain.specs.declared.status.Status.TheVariants as status
+use Rattle.m51_chain.specs.Outcome.{Answer}
 use Rattle.m51_chain.specs.Outside.{Change}
 use Rattle.m51_chain.specs.Told.{Untouched, Written}
 

@@ -4,18 +4,17 @@ use Rattle.m51_cells.specs.declared.limits.TheConstants.{MOST_FILES}
 use Rattle.m51_cells.specs.declared.memory.NoMemory.{NoMemory}
 use Rattle.m51_jobs.specs.declared.job.Job.{Job}
 use Rattle.m51_jobs.specs.Files.{file_count, names_read}
-use Rattle.m51_chain.specs.declared.work.Task.{Task}
-use Rattle.m51_chain.specs.declared.work.Work.{Work}
-use Rattle.m51_chain.specs.Work.{task_answer, outcome_of_work}
-use Rattle.m51_verbs.specs.declared.work.Stop.{Stop}
-use Rattle.m51_verbs.specs.declared.work.Stop.TheVariants as stop
+use Rattle.m51_chain.specs.declared.work.Plan.{Plan}
+use Rattle.m51_chain.specs.declared.work.Finished.{Finished}
+use Rattle.m51_chain.specs.declared.work.Stop.{Stop}
+use Rattle.m51_chain.specs.declared.work.Stop.TheVariants as stop
 use Rattle.m51_args.specs.Jobs.{job_of}
 use Rattle.m51_shelf.specs.Shelf.{Files}
 use Rattle.m51_shelf.specs.States.{ReadAt, HasFailed}
-use Rattle.m51_verbs.specs.Outcome.{Answer, refused, named_answer}
-use Rattle.m51_verbs.specs.Outcome.{usage_answer, many_answer, long_answer, unread_answer}
+use Rattle.m51_chain.specs.Outcome.{Answer, answer_of, named_answer, outcome_of, refused}
+use Rattle.m51_chain.specs.Outcome.{usage_answer, many_answer, long_answer, unread_answer}
 use Rattle.m51_shelf.specs.Reading.{IsLong}
-use Rattle.m51_verbs.specs.Reading.{AreRead, AreGiven, ReadsSome, IsFileReached}
+use Rattle.m51_chain.specs.Reading.{AreRead, AreGiven, ReadsSome, IsFileReached}
 use Rattle.m51_chain.specs.Expected.{HasOutcome}
 
 -- The work was done on contents that were read whole, and that are what the shelf returned.
@@ -55,10 +54,10 @@ pub record ReadsOnly (words : List (List ℕ)) (before after : ReadAt) : Type 0 
   pub reads : ReadsSome (names_read job) before after
 
 -- What is to be done for the outcome of work, if the file that is kept has this name: a step between the parts.
-abbrev pub IsPlanned : Option (List ℕ) → Result Work Stop → Result Task NoMemory → Type 0
-IsPlanned name (Ok work) (Ok task) = task_answer task ≡ named_answer name (outcome_of_work work)
+abbrev pub IsPlanned : Option (List ℕ) → Result Finished Stop → Result Plan NoMemory → Type 0
+IsPlanned name (Ok work) (Ok plan) = answer_of plan ≡ named_answer name (outcome_of work)
 IsPlanned name (Ok work) (Err none) = ⊥
-IsPlanned name (Err (stop.Refused why text)) (Ok task) = task_answer task ≡ named_answer name (refused why text)
+IsPlanned name (Err (stop.Refused why text)) (Ok plan) = answer_of plan ≡ named_answer name (refused why text)
 IsPlanned name (Err (stop.Refused why text)) (Err none) = ⊥
-IsPlanned name (Err stop.Memory) (Ok task) = ⊥
+IsPlanned name (Err stop.Memory) (Ok plan) = ⊥
 IsPlanned name (Err stop.Memory) (Err none) = Unit {0}

@@ -3,13 +3,13 @@ use Rattle.std.specs.Prelude.{◌≡◌, ℕ, ◌<◌, ◌≤◌, List, Option, 
 use Rattle.m51_cells.specs.declared.limits.TheConstants.{MOST_FILES}
 use Rattle.m51_jobs.specs.declared.job.Job.{Job}
 use Rattle.m51_jobs.specs.Files.{file_count, names_read, name_kept}
-use Rattle.m51_verbs.specs.declared.status.Status.{Status}
-use Rattle.m51_verbs.specs.declared.status.Status.TheVariants as status
+use Rattle.m51_chain.specs.declared.status.Status.{Status}
+use Rattle.m51_chain.specs.declared.status.Status.TheVariants as status
 use Rattle.m51_args.specs.Jobs.{job_of}
 use Rattle.m51_shelf.specs.Shelf.{Files}
-use Rattle.m51_verbs.specs.Outcome.{Answer, Outcome, named_answer}
-use Rattle.m51_verbs.specs.Outcome.{usage_answer, many_answer, long_answer, unread_answer}
-use Rattle.m51_verbs.specs.Reading.{Whole, TooLong, Absent, read_of}
+use Rattle.m51_chain.specs.Outcome.{Answer, Outcome, named_answer}
+use Rattle.m51_chain.specs.Outcome.{usage_answer, many_answer, long_answer, unread_answer}
+use Rattle.m51_chain.specs.Reading.{Whole, TooLong, Absent, read_of}
 use Rattle.m51_chain.specs.Verbs.{IsOutcome}
 
 -- what the work of a verb may keep, by its status: at a refusal nothing; no other status is one of work

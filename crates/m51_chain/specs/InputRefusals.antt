@@ -3,11 +3,11 @@ use Rattle.std.specs.Prelude.{ℕ, List, [], flat_map}
 use Rattle.m51_inputs.specs.declared.error.InputError.{InputError}
 use Rattle.m51_inputs.specs.declared.error.InputError.TheVariants as input
 use Rattle.m51_inputs.specs.declared.error.SourceFaults.{SourceFaults}
-use Rattle.m51_verbs.specs.declared.work.Reason.TheVariants as reason
-use Rattle.m51_verbs.specs.FaultLines.{fault_lines, word_at}
-use Rattle.m51_verbs.specs.Outcome.{Outcome, refused}
-use Rattle.m51_verbs.specs.Refusals.{library_outcome, object_outcome}
-use Rattle.m51_verbs.specs.ScriptRefusals.{control_outcome, script_outcome}
+use Rattle.m51_chain.specs.declared.work.Reason.TheVariants as reason
+use Rattle.m51_chain.specs.FaultLines.{fault_lines, word_at}
+use Rattle.m51_chain.specs.Outcome.{Outcome, refused}
+use Rattle.m51_chain.specs.Refusals.{library_outcome, object_outcome}
+use Rattle.m51_chain.specs.ScriptRefusals.{control_outcome, script_outcome}
 
 -- the faults of the sources of these file arguments
 abbrev pub faulty_lines : List (List ℕ) → SourceFaults → List ℕ

@@ -7,9 +7,9 @@ use Rattle.m51_module.specs.declared.linked.Refusal.{Refusal}
 use Rattle.m51_module.specs.declared.parts.ModuleParts.{ModuleParts}
 use Rattle.m51_script.specs.declared.script.Script.{Script}
 use Rattle.m51_chain.specs.declared.linking.LinkedFiles.{LinkedFiles}
-use Rattle.m51_verbs.specs.declared.work.Stop.{Stop}
-use Rattle.m51_verbs.specs.LinkRefusals.{link_outcome}
-use Rattle.m51_verbs.specs.Outcome.{Outcome, stopped}
+use Rattle.m51_chain.specs.declared.work.Stop.{Stop}
+use Rattle.m51_chain.specs.LinkRefusals.{link_outcome}
+use Rattle.m51_chain.specs.Outcome.{Outcome, stopped}
 use Rattle.m51_chain.specs.ProgramFiles.{AreAnswered, IsFilesOutcome, Nothing, ProgramFiles}
 
 -- A program is not linked, or there is what comes of it as it is linked.

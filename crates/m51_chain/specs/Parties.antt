@@ -1,5 +1,5 @@
 -- What party makes of its files: each program is linked by itself and is a board, and the boards run on one line.
-use Rattle.std.specs.Prelude.{◌≡◌, ℕ, ◌≤◌, Bool, true, false, List, [], ◌∷◌, length, All, None, Result, Ok, Err}
+use Rattle.std.specs.Prelude.{◌≡◌, ℕ, ◌≤◌, List, [], ◌∷◌, length, All, None, Result, Ok, Err}
 use Rattle.std.specs.Prelude.{IfSome, Vec}
 use Rattle.std.specs.declared.alloc.Global.{Global}
 use Rattle.m51_cells.specs.Outcome.{◌>>=◌}
@@ -8,8 +8,6 @@ use Rattle.m51_linker.specs.declared.linked.Linked.{Linked}
 use Rattle.m51_linker.specs.Link.{IsLinked, Program}
 use Rattle.m51_module.specs.declared.linked.Refusal.{Refusal}
 use Rattle.m51_module.specs.declared.parts.ModuleParts.{ModuleParts}
-use Rattle.m51_party.specs.declared.party.PartyEnd.{PartyEnd}
-use Rattle.m51_party.specs.declared.party.PartyEnd.TheVariants as party_ends
 use Rattle.m51_party.specs.Family.{Family, IsFamily, IsFresh}
 use Rattle.m51_party.specs.Report.{has_event}
 use Rattle.m51_party.specs.Rounds.{family_of}
@@ -20,12 +18,9 @@ use Rattle.m51_jobs.specs.declared.endings.TheConstants.{LEAST_BOARDS, MOST_BOAR
 use Rattle.m51_jobs.specs.declared.job.PartyJob.{PartyJob}
 use Rattle.m51_chain.specs.Linking.{sole_program}
 use Rattle.m51_chain.specs.ProgramFiles.{IsFilesOutcome, ProgramFiles, program_files}
-use Rattle.m51_shelf.specs.declared.sink.Failed.{Failed}
-use Rattle.m51_verbs.specs.declared.status.Status.{Status}
-use Rattle.m51_verbs.specs.declared.status.Status.TheVariants as status
-use Rattle.m51_verbs.specs.declared.work.Stop.{Stop}
-use Rattle.m51_verbs.specs.LinkRefusals.{link_outcome}
-use Rattle.m51_verbs.specs.Outcome.{Outcome, stopped}
+use Rattle.m51_chain.specs.declared.work.Stop.{Stop}
+use Rattle.m51_chain.specs.LinkRefusals.{link_outcome}
+use Rattle.m51_chain.specs.Outcome.{Outcome, status_if, stopped}
 
 -- there is no control file
 abbrev pub party_files : PartyJob → ProgramFiles
@@ -55,11 +50,6 @@ AreBoardsOf script [] [] = Unit {0}
 AreBoardsOf script (program ∷ programs) (board ∷ boards) =
     IsBoardOf script program board × AreBoardsOf script programs boards
 AreBoardsOf script programs boards = ⊥
-
--- an event ends the run of some board before its last step
-abbrev pub status_if : Bool → Status
-status_if false = status.Ran
-status_if true = status.Event
 
 -- the text of a family of records, and whether some record has an event
 abbrev pub party_report : List BoardState → ℕ → Family → Outcome
@@ -127,9 +117,3 @@ pub record AreJoined (job : PartyJob) (contents : List (List ℕ)) (boards : Lis
 abbrev pub AreJoinedOr : PartyJob → List (List ℕ) → Result (Vec BoardState Global) Stop → Type 0
 AreJoinedOr job contents (Ok boards) = AreJoined job contents boards.items
 AreJoinedOr job contents (Err stop) = IfSome (stopped stop) (IsPartyOutcome job contents)
-
--- the status after a party, by how it ended
-abbrev pub party_status : PartyEnd → Result Status Failed
-party_status party_ends.Finished = Ok status.Ran
-party_status party_ends.Stopped = Ok status.Event
-party_status party_ends.WriteFault = Err (record {})

@@ -6,10 +6,10 @@ use Rattle.m51_cells.specs.declared.limits.TheConstants.{MOST_FILES, MOST_FILE_B
 use Rattle.m51_inputs.specs.declared.error.InputError.{InputError}
 use Rattle.m51_inputs.specs.declared.inputs.Inputs.{Inputs}
 use Rattle.m51_inputs.specs.Inputs.{IsInputsAnswer, InputsTree, inputs_tree}
-use Rattle.m51_verbs.specs.declared.work.Stop.{Stop}
+use Rattle.m51_chain.specs.declared.work.Stop.{Stop}
 use Rattle.m51_chain.specs.InputRefusals.{input_outcome}
-use Rattle.m51_verbs.specs.Optional.{content_if}
-use Rattle.m51_verbs.specs.Outcome.{Outcome, stopped}
+use Rattle.m51_chain.specs.Optional.{content_if}
+use Rattle.m51_chain.specs.Outcome.{Outcome, stopped}
 
 -- File arguments, and the files that options name. They are read in this order.
 pub record ProgramFiles : Type 0 where

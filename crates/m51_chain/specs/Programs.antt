@@ -9,7 +9,7 @@ use Rattle.m51_module.specs.Sound.{IsSound}
 use Rattle.m51_print.specs.Map.{map_of}
 use Rattle.m51_script.specs.declared.script.Script.{Script}
 use Rattle.m51_sim.specs.Report.{report_of}
-use Rattle.m51_verbs.specs.Outcome.{Outcome, status_by}
+use Rattle.m51_chain.specs.Outcome.{Outcome, status_by}
 
 -- how many bytes content fills
 abbrev pub filled_by : List Run → ℕ

@@ -5,15 +5,15 @@ use Rattle.m51_cells.specs.declared.limits.TheConstants.{MOST_FILES, MOST_FILE_B
 use Rattle.m51_cells.specs.Outside.{Rose, AppendsFront}
 use Rattle.m51_jobs.specs.declared.job.Job.{Job}
 use Rattle.m51_jobs.specs.Files.{file_count, name_kept}
-use Rattle.m51_verbs.specs.declared.status.Status.{Status}
-use Rattle.m51_verbs.specs.declared.status.Status.TheVariants as status
+use Rattle.m51_chain.specs.declared.status.Status.{Status}
+use Rattle.m51_chain.specs.declared.status.Status.TheVariants as status
 use Rattle.m51_args.specs.Jobs.{job_of}
 use Rattle.m51_shelf.specs.Shelf.{Files, HoldsOthers}
 use Rattle.m51_shelf.specs.States.{HasFailed}
 use Rattle.m51_chain.specs.Outside.{Change}
-use Rattle.m51_verbs.specs.Outcome.{Answer, usage_answer, many_answer, long_answer, unread_answer}
-use Rattle.m51_verbs.specs.Targets.{unkept_text}
-use Rattle.m51_verbs.specs.Carried.{IsCarriedOut, IsCut, IsUnkept, IsUntouched, IsEnded}
+use Rattle.m51_chain.specs.Outcome.{Answer, usage_answer, many_answer, long_answer, unread_answer}
+use Rattle.m51_chain.specs.Targets.{unkept_text}
+use Rattle.m51_chain.specs.Carried.{IsCarriedOut, IsCut, IsUnkept, IsUntouched, IsEnded}
 use Rattle.m51_chain.specs.Expected.{IsAnswer}
 use Rattle.m51_chain.specs.Due.{IsWorkFor, IsAtFor, IsDue}
 

@@ -5,10 +5,10 @@ use Rattle.m51_jobs.specs.declared.job.Job.TheVariants.{Build, Asm, Library, Fla
 use Rattle.m51_chain.specs.Analyses.{IsDisOutcome, IsStackOutcome}
 use Rattle.m51_chain.specs.Assembles.{IsAsmOutcome}
 use Rattle.m51_chain.specs.Builds.{IsBuildOutcome}
-use Rattle.m51_verbs.specs.FlatRuns.{IsFlatOutcome}
+use Rattle.m51_chain.specs.FlatRuns.{IsFlatOutcome}
 use Rattle.m51_chain.specs.Generates.{IsGenOutcome}
-use Rattle.m51_verbs.specs.Libraries.{library_outcome_of}
-use Rattle.m51_verbs.specs.Outcome.{Outcome}
+use Rattle.m51_chain.specs.Libraries.{library_outcome_of}
+use Rattle.m51_chain.specs.Outcome.{Outcome}
 use Rattle.m51_chain.specs.Parties.{IsPartyOutcome}
 
 abbrev pub IsOutcome : Job → List (List ℕ) → Outcome → Type 0

@@ -5,9 +5,11 @@ ghost use Rattle.m51_jobs.specs.declared.job.Job.TheVariants.{Asm};
 ghost use Rattle.m51_jobs.specs.Endings.{is_source};
 ghost use Rattle.m51_chain.specs.Assembles.{IsAsmOutcome, assembled_outcome};
 ghost use Rattle.m51_print.specs.Listing.{AreOf};
-ghost use Rattle.m51_verbs.specs.Contents.{AreContentsOf};
-ghost use Rattle.m51_verbs.specs.Outcome.{Comes, outcome_of};
+ghost use Rattle.m51_chain.specs.Contents.{AreContentsOf};
+ghost use Rattle.m51_chain.specs.Outcome.{Comes, outcome_of};
 
+use crate::faulting::refuse_source;
+use crate::work::{Finish, Finished, Stop};
 use m51_args::{AsmJob, FileName};
 use m51_asm::Assembled;
 use m51_cells::{Bytes, NoMemory};
@@ -15,7 +17,6 @@ use m51_inputs::{AssembledSource, assemble_source};
 use m51_module::{Module, Rows, SourceFile};
 use m51_print::listing;
 use m51_records::write_module;
-use m51_verbs::{Finish, Finished, Stop, refuse_source};
 use std::alloc::Global;
 
 // The object of a module, which is kept, and the listing of its source.

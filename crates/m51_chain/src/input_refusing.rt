@@ -1,15 +1,15 @@
 //! Refusals of the files of a program, with their texts.
 ghost use Rattle.std.specs.Prelude.{◌≡◌, ◌≢◌, ◌++◌, IfOk, Some};
 ghost use Rattle.m51_chain.specs.InputRefusals.{faults_text, faulty_lines, input_outcome};
-ghost use Rattle.m51_verbs.specs.Outcome.{stopped};
+ghost use Rattle.m51_chain.specs.Outcome.{stopped};
 
+use crate::faulting::{push_faults, word_at};
+use crate::object_refusing::{library_refused, object_refused};
+use crate::script_refusing::{refuse_control, refuse_script};
+use crate::work::{Reason, Stop};
 use m51_args::FileName;
 use m51_cells::{Bytes, NoMemory};
 use m51_inputs::{InputError, SourceFaults};
-use m51_verbs::{
-    Reason, Stop, library_refused, object_refused, push_faults, refuse_control, refuse_script,
-    word_at,
-};
 use std::alloc::Global;
 
 // The lines of the faults of the sources of these file arguments.

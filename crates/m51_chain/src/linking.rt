@@ -6,6 +6,9 @@ ghost use Rattle.m51_chain.specs.Linking.{AreLinkedOr, IsLinkedOr, sole_program}
 ghost use Rattle.m51_chain.specs.ProgramFiles.{AreAnsweredOr, HasParts, program_files};
 
 use crate::input_refusing::refuse_inputs;
+use crate::link_refusing::refuse_link;
+use crate::optional::content_if;
+use crate::work::Stop;
 use m51_args::FileName;
 use m51_cells::{Bytes, ListOf, NoMemory};
 use m51_control::Controls;
@@ -14,7 +17,6 @@ use m51_linker::{Linked, link};
 use m51_module::{Library, Module};
 use m51_script::Script;
 use m51_sim::Board;
-use m51_verbs::{Stop, content_if, refuse_link};
 use std::alloc::Global;
 
 // A linked program, and the script of its files.

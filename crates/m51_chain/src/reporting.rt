@@ -1,11 +1,12 @@
 //! The report of a linked program: its map is made, and then its board.
 ghost use Rattle.std.specs.Prelude.{◌≡◌, ◌≤◌, IfOk};
 ghost use Rattle.m51_linker.specs.Link.{IsReady};
-ghost use Rattle.m51_chain.specs.BuildTasks.{EndsInRun};
+ghost use Rattle.m51_chain.specs.BuildPlans.{EndsInRun};
 ghost use Rattle.m51_chain.specs.Programs.{IsMap, IsReport, filled_by, hex_kept};
-ghost use Rattle.m51_verbs.specs.Outcome.{outcome_of};
+ghost use Rattle.m51_chain.specs.Outcome.{outcome_of};
 
 use crate::linking::{LinkedFiles, board_of};
+use crate::work::{Finish, Finished};
 use m51_args::BuildJob;
 use m51_cells::{Bytes, NoMemory, cite};
 use m51_hex::write_hex;
@@ -13,7 +14,6 @@ use m51_linker::Linked;
 use m51_module::Run;
 use m51_place::heaviest;
 use m51_print::map_text;
-use m51_verbs::{Finish, Finished};
 use std::alloc::Global;
 
 // How many bytes the runs have.

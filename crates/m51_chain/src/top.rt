@@ -8,13 +8,13 @@ ghost use Rattle.m51_chain.specs.Expected.{IsAnswer};
 ghost use Rattle.m51_chain.specs.Outside.{change};
 ghost use Rattle.m51_shelf.specs.Shelf.{Files};
 ghost use Rattle.m51_chain.specs.Told.{HoldsButKept, IsCaused, IsTold};
-ghost use Rattle.m51_verbs.specs.Outcome.{Answer};
+ghost use Rattle.m51_chain.specs.Outcome.{Answer};
 
+use crate::carrying::carry_out;
 use crate::planning::plan;
-use crate::running::perform;
+use crate::status::Status;
 use m51_cells::NoMemory;
 use m51_shelf::{Shelf, Sink};
-use m51_verbs::Status;
 use std::alloc::Global;
 
 /// Does what the arguments ask for, with the files of the shelf, and writes to the sink. The arguments are those after
@@ -60,7 +60,7 @@ pub fn chain<F: Shelf, S: Sink>(
     ensures later { (S.state out.old).faults ≤ (S.state out.new).faults }
 {
     match plan(alloc, words, files) {
-        Ok(task) => perform(task, files, out),
+        Ok(plan) => carry_out(plan, files, out),
         Err(NoMemory) => Status::Memory,
     }
 }

@@ -11,14 +11,13 @@ use Rattle.std.proofs.lemmas.Bool.{cond_both}
 use Rattle.m51_emit.specs.Pieces.{if_bytes}
 use Rattle.m51_asm.specs.ContentFaults.{line_outcomes, line_outcomes_by}
 use Rattle.m51_asm.specs.Fitting.{filled}
-use Rattle.m51_asm.specs.ObjectSegments.{Kept, absolute_of, index_in, kept, kept_before, number_in, object_segments}
+use Rattle.m51_asm.specs.ObjectSegments.{Kept, absolute_of, final, index_in, kept, kept_before, number_in}
 use Rattle.m51_asm.specs.ObjectSegments.{segment_number}
 use Rattle.m51_asm.specs.Pieces.{content_at, pieces, runs_from, segment_pieces}
 use Rattle.m51_disasm.specs.declared.line.SourceLine.TheVariants as line
-use Rattle.m51_module.specs.Validity.{numbered}
 use Rattle.m51_emit.specs.Content.{outcomes_by}
 use Rattle.m51_asm.specs.Assignment.{body_at, here_at}
-use Rattle.m51_asm.specs.ObjectMeanings.{final, is_fixed}
+use Rattle.m51_asm.proofs.KnownSegments.{known as segment_known}
 use Rattle.m51_disasm.specs.declared.line.Target.TheVariants as target
 use Rattle.m51_disasm.specs.Statements.{statement_target}
 use Rattle.m51_disasm_proof.specs.Module.{pieces_from}
@@ -215,18 +214,6 @@ begins_there [] j s e = absurd (cc e)
 begins_there (x ∷ statements) zero s e = grind (arith, common_steps)
 begins_there (x ∷ statements) (suc j) s e = grind (arith, common_steps, begins_there statements j s e)
 
--- all segments are absolute
-parts_fixed : (image : List ℕ) (parts : List CodeRange) (k n : ℕ)
-    → is_fixed (numbered (map (λ s. s.segment) (kept_parts image k parts)) n) ≡ true
-parts_fixed image parts k zero = refl
-parts_fixed image [] k (suc n) = refl
-parts_fixed image (part ∷ parts) k (suc zero) = refl
-parts_fixed image (part ∷ parts) k (suc (suc n)) =
-    parts_fixed image parts (suc k + length (statements_of image part)) (suc n)
-
-abbrev AreFixed : List LineTree → Assignment → Type 0
-AreFixed lines a = (n : ℕ) → is_fixed (numbered (object_segments lines a) n) ≡ true
-
 -- ---- where statements lead
 
 -- where statements of the part begin
@@ -239,17 +226,17 @@ IsLedTo image part address = is_among (targets (statements_of image part)) addre
 
 -- ---- statements
 
-module _ (lines : List LineTree) (a : Assignment) (image : List ℕ) (bytes : AreBytes image) (fixed : AreFixed lines a)
+module _ (lines : List LineTree) (a : Assignment) (image : List ℕ) (bytes : AreBytes image)
     (part : CodeRange) (inside : part.base + part.size ≤ 65536) (id : ℕ)
     (known : (address : ℕ) → is_among (begin_of image part) address ≡ true → IsLedTo image part address
     → (j : ℕ) → a.value j (label_text address) ≡ Some (code_value id address)) where
   named : (k : ℕ) (o : Option ℕ) → ((address : ℕ) → o ≡ Some address → IsLedTo image part address)
-      → IsNamed (final lines a k) (segment_number lines a id) (written_target (begin_of image part) o)
+      → IsNamed (final lines a k) id (written_target (begin_of image part) o)
   unfolding final
   named k None lead = tt
   named k (Some address) lead =
       cond_both (is_among (begin_of image part) address) (target.Label address) (target.Number address)
-      (IsNamed (final lines a k) (segment_number lines a id))
+      (IsNamed (final lines a k) id)
       (λ yes. grind (arith, common_steps, known address yes (lead address refl) k)) (λ no. tt)
 
   -- statements give their bytes, if what follows them does
@@ -265,13 +252,15 @@ module _ (lines : List LineTree) (a : Assignment) (image : List ℕ) (bytes : Ar
   statements_give (x ∷ statements) {at = at} {k} {s} h lead same more =
       let begin = begin_of image part in
       let names = final lines a k in
-      let number = segment_number lines a id in
       let t : Target = written_target begin (statement_target x) in
-      let stands : StandsAt names number at =
-      record { here = grind (arith, common_steps, place_value a k at s.segment); absolute = fixed number } in
+      let type = (segment_known lines a h.from.fits k).type in
+      let stands : StandsAt names id at = record {
+        here = grind (arith, common_steps, place_value a k at s.segment);
+        absolute = cc (type, h.from.segment, h.from.code.fixed, same);
+      } in
       let named_here = named k (statement_target x) (λ address e. lead address (grind (arith, common_steps))) in
       let gives : GivesBytes names (a.form k) (body_of t x.content) (bytes_at image at (length_in x.content)) =
-      rw h.follow.0.is (statement_gives image (part.base + part.size) at bytes begin names number (a.form k) stands
+      rw h.follow.0.is (statement_gives image (part.base + part.size) at bytes begin names id (a.form k) stands
       (rw h.follow.0.is at named_here)) in
       let same_outcomes : line_outcomes_by lines a k (body_of t x.content)
       ≡ outcomes_by names (a.form k) (body_of t x.content) = grind (arith, common_steps) in (
@@ -283,15 +272,15 @@ module _ (lines : List LineTree) (a : Assignment) (image : List ℕ) (bytes : Ar
             more,
       )
 
-parts_give : {lines : List LineTree} {a : Assignment} (image : List ℕ) → AreBytes image → AreFixed lines a
+parts_give : {lines : List LineTree} {a : Assignment} (image : List ℕ) → AreBytes image
     → (parts : List CodeRange) {k : ℕ} {s : State} (low : ℕ) → AreInOrder low parts
     → LinesFrom lines a k s (rest_of image parts) → GiveFrom lines a image k s.segment s.given (rest_of image parts)
-parts_give image bytes fixed [] low order h = (bare_gives image h tt, tt)
-parts_give {lines} {a} image bytes fixed (part ∷ parts) {k} low order h = (
+parts_give image bytes [] low order h = (bare_gives image h tt, tt)
+parts_give {lines} {a} image bytes (part ∷ parts) {k} low order h = (
   bare_gives image h tt,
-  statements_give lines a image bytes fixed part order.1.ends (k + 2)
+  statements_give lines a image bytes part order.1.ends (k + 2)
       (label_known _ (in_part h) order.1.ends) _ (in_part h) (λ address e. e) refl
-      (parts_give image bytes fixed parts _ order.2 (statements_passed _ (in_part h)).from),
+      (parts_give image bytes parts _ order.2 (statements_passed _ (in_part h)).from),
 )
 
 -- all lines give their bytes
@@ -300,8 +289,5 @@ pub whole_gives : {lines : List LineTree} {a : Assignment} (image : List ℕ) �
     → GiveFrom lines a image 0 opening 0 (whole image parts)
 whole_gives image bytes parts order h = (
   bare_gives image h tt,
-  parts_give image bytes
-      (λ n. ap (λ ks. is_fixed (numbered (map (λ s. s.segment) ks) n)) (kept_are image parts order h)
-      ∙ parts_fixed image parts 1 n)
-      parts 0 order (next h),
+  parts_give image bytes parts 0 order (next h),
 )

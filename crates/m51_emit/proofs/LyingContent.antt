@@ -53,25 +53,26 @@ line_lies names (Some l) =
     (three_references names l (line_row l))
 line_lies names None = nothing_lies
 
-one_lies : (width : Width) (v : Value) (r : Reference) → reference_of (field_of_width width) v ≡ r
+one_lies : (names : Meanings) (width : Width) (v : Value) (r : Reference)
+    → reference_of names (field_of_width width) v ≡ r
     → 0 + field_len r.form ≤ length (number_bytes width 0)
-one_lies Byte v r is = let wide = ap (λ (x : Reference). field_len x.form) (sym is)
+one_lies names Byte v r is = let wide = ap (λ (x : Reference). field_len x.form) (sym is)
     ∙ same_width (field_of_width Byte) v.part in omega (arith, wide)
-one_lies Word v r is = let wide = ap (λ (x : Reference). field_len x.form) (sym is)
+one_lies names Word v r is = let wide = ap (λ (x : Reference). field_len x.form) (sym is)
     ∙ same_width (field_of_width Word) v.part in omega (arith, wide)
 
-held_lies : (width : Width) (e : Tree) (v : Value) (o : Option FieldValue)
-    → ((r : Reference) → o ≡ Some (Linked r) → reference_of (field_of_width width) v ≡ r)
+held_lies : (names : Meanings) (width : Width) (e : Tree) (v : Value) (o : Option FieldValue)
+    → ((r : Reference) → o ≡ Some (Linked r) → reference_of names (field_of_width width) v ≡ r)
     → Lies (item_given width (item.Value e) (and_then (or_out_of_range o) (λ held. Ok (Some held))))
-held_lies width e v (Some (Number n)) go = record { lie = omega arith }
-held_lies width e v (Some (Linked r)) go = record { lie = (omega arith, one_lies width v r (go r refl)) }
-held_lies width e v None go = nothing_lies
+held_lies names width e v (Some (Number n)) go = record { lie = omega arith }
+held_lies names width e v (Some (Linked r)) go = record { lie = (omega arith, one_lies names width v r (go r refl)) }
+held_lies names width e v None go = nothing_lies
 
 value_lies : (names : Meanings) (width : Width) (e : Tree) (value : Valued Value)
     → Lies (item_given width (item.Value e)
     (and_then (fielded names 0 (field_of_width width) value) (λ held. Ok (Some held))))
 value_lies names width e (Ok v) =
-    held_lies width e v (field_of names (field_of_width width) 0 v) (linked_is names (field_of_width width) 0 v)
+    held_lies names width e v (field_of names (field_of_width width) 0 v) (linked_is names (field_of_width width) 0 v)
 value_lies names width e (Err fault) = nothing_lies
 
 item_lies : (names : Meanings) (width : Width) (x : ItemTree) → Lies (item_content names width x)

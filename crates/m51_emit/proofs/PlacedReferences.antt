@@ -96,15 +96,16 @@ given names next refs o (NotBit g) f is h = absurd h
 given names next refs o s f is h = absurd (cc is)
 
 -- a reference of a value has the width of its field
-of_value : (at : Field) (value : Valued Value) (r : Reference) → IsReferenceOf at value r
+of_value : (names : Meanings) (at : Field) (value : Valued Value) (r : Reference) → IsReferenceOf names at value r
     → field_len r.form ≡ width_of at
-of_value at (Ok v) r h = ap (λ (x : Reference). field_len x.form) h ∙ same_width at v.part
-of_value at (Err e) r h = absurd h
+of_value names at (Ok v) r h = ap (λ (x : Reference). field_len x.form) h ∙ same_width at v.part
+of_value names at (Err e) r h = absurd h
 
-of_held : (at : Field) (value : Valued Value) (o : Option Reference) (r : Reference) → IfSome o (IsReferenceOf at value)
-    → o ≡ Some r → field_len r.form ≡ width_of at
-of_held at value (Some x) r h is = of_value at value r (subst (IsReferenceOf at value) (same_Some x r is) h)
-of_held at value None r h is = absurd (cc is)
+of_held : (names : Meanings) (at : Field) (value : Valued Value) (o : Option Reference) (r : Reference)
+    → IfSome o (IsReferenceOf names at value) → o ≡ Some r → field_len r.form ≡ width_of at
+of_held names at value (Some x) r h is =
+    of_value names at value r (subst (IsReferenceOf names at value) (same_Some x r is) h)
+of_held names at value None r h is = absurd (cc is)
 
 -- a reference that lies where the field of an operand begins has the width that the text has there
 slot_width : (names : Meanings) (next : ℕ) (refs : References) (t : Text) (o : Option OperandTree) (s : Slot)
@@ -116,7 +117,7 @@ slot_width names next refs t o s (Some f) is fills told k r begins lies =
     let byte : f.byte ≡ k = same_Some f.byte k begins in
     let here : slice_get refs f.byte ≡ Some (Some r) = ap (slice_get refs) byte ∙ lies in
     let held : g.gives.held.reference ≡ Some r = same_Some _ _ (sym g.gives.lies ∙ here) in
-    of_held f.field (value_of names g.expression) g.gives.held.reference r g.gives.kind held
+    of_held names f.field (value_of names g.expression) g.gives.held.reference r g.gives.kind held
     ∙ (sym (eqb-true (width_at t f.byte) (width_of f.field) told) ∙ ap (width_at t) byte)
 slot_width names next refs t o s None is fills told k r begins lies = absurd (cc begins)
 

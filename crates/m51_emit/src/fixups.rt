@@ -1,7 +1,5 @@
 //! The fixups of the references of a line.
 ghost use Rattle.std.specs.Prelude.{◌≡◌, ◌+◌, ◌<◌, ◌≤◌, ◌++◌, map, OnOk};
-ghost use Rattle.std.specs.Option.{option_copied};
-ghost use Rattle.m51_module.specs.Validity.{numbered};
 ghost use Rattle.m51_emit.specs.Pieces.{target_base, fixup_of};
 ghost use Rattle.m51_emit.specs.Within.{LieInside};
 
@@ -9,25 +7,14 @@ use crate::content::ReferenceAt;
 use crate::publics::from_base;
 use m51_cells::{Base, NoMemory};
 use m51_encode::Reference;
-use m51_module::{Fixup, Segment};
-
-// The segment of that number, counted from 1.
-fn numbered(segments: &[Segment], number: u8) -> Option<&Segment>
-    ensures { option_copied result ≡ numbered segments.now number }
-{
-    if number == 0 {
-        None
-    } else {
-        segments.get(usize::from(number) - 1)
-    }
-}
+use m51_module::{Fixup, Segment, segment_numbered};
 
 // The address that a target begins at, 0 where the link places it.
 fn target_base(segments: &[Segment], target: Base) -> u16
     ensures { result ≡ target_base segments.now target }
 {
     match target {
-        Base::Segment(number) => match numbered(segments, number) {
+        Base::Segment(number) => match segment_numbered(segments, number) {
             Some(segment) => segment.base,
             None => 0,
         },

@@ -11,8 +11,8 @@ ghost use Rattle.m51_emit.specs.Growing.{content_in};
 use crate::content::{EmittedContent, LineContent, ReferenceAt, References};
 use crate::counting::{FixupCount, counted, none_of};
 use m51_cells::{Bytes, NoMemory};
-use m51_encode::{CodingError, FieldValue, OperandOutcome, Width, item_field, push_item};
-use m51_expr::{Item, Lookup};
+use m51_encode::{CodingError, FieldValue, Numbered, OperandOutcome, Width, item_field, push_item};
+use m51_expr::Item;
 use std::alloc::Global;
 
 /// What a line gives, as it grows item by item.
@@ -67,16 +67,16 @@ fn push_given(
 }
 
 // Appends what one more item gives.
-fn push<L: Lookup>(
+fn push<N: Numbered>(
     growing: &mut GrowingContent,
-    names: &L,
+    names: &N,
     width: Width,
     item: &Item,
 ) -> Result<(), NoMemory>
     ensures content { OnOk result (content_in growing.new
-        ≡ followed_by (content_in growing.old) (item_content (L.meanings names.now) width (item_tree item.now))) }
+        ≡ followed_by (content_in growing.old) (item_content (N.meanings names.now) width (item_tree item.now))) }
     ensures count { OnOk result (growing.new.count
-        ≡ counted growing.old.count (item_outcome (item_field (L.meanings names.now) width (item_tree item.now)))) }
+        ≡ counted growing.old.count (item_outcome (item_field (N.meanings names.now) width (item_tree item.now)))) }
 {
     let field = item_field(names, width, item);
     growing.count = counted(growing.count, item_outcome(&field));
@@ -107,14 +107,14 @@ fn line_of(growing: GrowingContent) -> LineContent
 }
 
 /// What the items of DB or DW give, with `made` fixups before them.
-pub(crate) fn items_content<L: Lookup>(
+pub(crate) fn items_content<N: Numbered>(
     alloc: Global,
-    names: &L,
+    names: &N,
     width: Width,
     items: &[Item],
     made: usize,
 ) -> Result<LineContent, NoMemory>
-    ensures { let names = L.meanings names.now in let items = map item_tree items.now in
+    ensures { let names = N.meanings names.now in let items = map item_tree items.now in
         IfOk result (λ line. line ≡ given (joined (map (item_content names width) items)) made
         (map (λ item. item_outcome (item_field names width item)) items)) }
 {

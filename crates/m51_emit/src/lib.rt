@@ -20,5 +20,5 @@ pub use laws::{
     references_lie, runs_grow, words_fill,
 };
 pub use line::line_content;
-pub use publics::{Definer, public_of};
+pub use publics::{Definer, PublicSegment, public_of};
 pub use rows::{place_of, row_of};

@@ -9,8 +9,7 @@ use crate::content::{EmittedContent, LineContent, References};
 use crate::instruction::instruction_content;
 use crate::items::items_content;
 use m51_cells::{Bytes, NoMemory};
-use m51_encode::{Width, code_row};
-use m51_expr::Lookup;
+use m51_encode::{Numbered, Width, code_row};
 use m51_isa::Instr;
 use m51_stmt::Body;
 use std::alloc::Global;
@@ -41,15 +40,15 @@ fn nothing_more(alloc: Global, made: usize) -> LineContent
 ///
 /// Source: own choice ("Content of a line").
 #[tactic(auto, using(m51_encode::proofs::CodedRows::by_row))]
-pub fn line_content<L: Lookup>(
+pub fn line_content<N: Numbered>(
     alloc: Global,
-    names: &L,
+    names: &N,
     row: Option<Instr>,
     body: &Body,
     made: usize,
 ) -> Result<LineContent, NoMemory>
     ensures { IfOk result (λ line. (form : Jump) → row ≡ row_by form (body_tree body.now)
-        → line ≡ line_given (L.meanings names.now) form (body_tree body.now) made) }
+        → line ≡ line_given (N.meanings names.now) form (body_tree body.now) made) }
 {
     match (body, row) {
         (Body::Code(_, operands), Some(row)) => {

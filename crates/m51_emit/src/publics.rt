@@ -1,10 +1,11 @@
 //! What PUBLIC makes of a name.
-ghost use Rattle.std.specs.Prelude.{◌≡◌};
+ghost use Rattle.std.specs.Prelude.{◌≡◌, option_map};
+ghost use Rattle.m51_expr.specs.Located.{origin_base, located_value};
 ghost use Rattle.m51_emit.specs.PublicNames.{public, from_base, public_from, public_of_value, public_valued};
 ghost use Rattle.m51_emit.specs.PublicNames.{public_by};
 
 use m51_cells::{BASE_NOT_ALLOWED, Base, Kind, Name, OUT_OF_RANGE, UNKNOWN_NAME, same_kind};
-use m51_expr::{Value, is_whole};
+use m51_expr::{Located, Origin, is_whole};
 use m51_module::Public;
 
 /// What defines a name, as far as PUBLIC asks.
@@ -22,9 +23,21 @@ pub enum Definer {
     Other,
 }
 
+/// A segment that a value counts from, as far as PUBLIC asks.
+///
+/// Source: ASM51 guide.
+#[derive(Clone, Copy, Debug, PartialEq, Eq)]
+pub struct PublicSegment {
+    pub kind: Kind,
+    /// The address that it begins at, 0 where the link places it.
+    pub base: u16,
+    /// Its number in the module, 0 where the module does not have it.
+    pub number: u8,
+}
+
 // The public of a value.
-fn public(name: Name, value: Value, base: Base, number: u16) -> Result<Public, u8>
-    ensures { result ≡ public name value base number }
+fn public(name: Name, value: Located<u32>, base: Base, number: u16) -> Result<Public, u8>
+    ensures { result ≡ public name (located_value value) base number }
 {
     Ok(Public {
         name,
@@ -41,56 +54,54 @@ pub(crate) fn from_base(base: u16, address: u16) -> u16
     address.wrapping_sub(base)
 }
 
-// The public of a value that counts from the segment of this number.
-fn public_from(name: Name, value: Value, kind: Kind, at: u16, number: u8) -> Result<Public, u8>
-    ensures { result ≡ public_from name value kind at number }
+// The public of a value that counts from this segment.
+fn public_from(name: Name, value: Located<u32>, segment: PublicSegment) -> Result<Public, u8>
+    ensures { result ≡ public_from name (located_value value) segment }
 {
-    if !same_kind(value.class, kind) {
+    if !same_kind(value.class, segment.kind) {
         Err(OUT_OF_RANGE)
-    } else if number == 0 {
+    } else if segment.number == 0 {
         public(name, value, Base::None, value.number)
     } else {
         public(
             name,
             value,
-            Base::Segment(number),
-            from_base(at, value.number),
+            Base::Segment(segment.number),
+            from_base(segment.base, value.number),
         )
     }
 }
 
 // The public of a value.
-fn public_of_value(name: Name, value: Value, kind: Kind, at: u16) -> Result<Public, u8>
-    ensures { result ≡ public_of_value name value kind at value.base }
+fn public_of_value(name: Name, value: Located<u32>, segment: PublicSegment) -> Result<Public, u8>
+    ensures { result ≡ public_of_value name (located_value value) segment (origin_base value.origin) }
 {
-    match value.base {
-        Base::None => public(name, value, Base::None, value.number),
-        Base::External(_) => Err(BASE_NOT_ALLOWED),
-        Base::Segment(number) => {
-            if is_whole(value.part) {
-                public_from(name, value, kind, at, number)
-            } else {
-                Err(BASE_NOT_ALLOWED)
-            }
-        }
+    match value.origin {
+        Origin::None => public(name, value, Base::None, value.number),
+        Origin::Segment(_) if is_whole(value.part) => public_from(name, value, segment),
+        Origin::Segment(_) | Origin::External(_) => Err(BASE_NOT_ALLOWED),
     }
 }
 
 // The public of a name that may be public.
-fn public_valued(name: Name, kind: Kind, at: u16, value: Option<Value>) -> Result<Public, u8>
-    ensures { result ≡ public_valued name kind at value }
+fn public_valued(
+    name: Name,
+    segment: PublicSegment,
+    value: Option<Located<u32>>,
+) -> Result<Public, u8>
+    ensures { result ≡ public_valued name segment (option_map located_value value) }
 {
     match value {
-        Some(value) => public_of_value(name, value, kind, at),
+        Some(value) => public_of_value(name, value, segment),
         None => Err(UNKNOWN_NAME),
     }
 }
 
 /// What a name of PUBLIC becomes: a public, or the number of a fault.
 ///
-/// The value is that of the name at the statement, whose base is a segment by its number in the module: 0 where the
-/// module does not have it. Kind and address are those of that segment; without one they do not matter. The number of
-/// the public counts from the address. A value of a segment that the module does not have is a number.
+/// The value is that of the name at the statement, and the segment that which it counts from; without one the segment
+/// does not matter. The number of the public counts from the base of the segment. A value of a segment that the module
+/// does not have is a number.
 ///
 /// Error: 8 for the name of a segment, an external or SET, for the value of an external, and for one of a segment under
 /// `HIGH`, `LOW` or the dot; 7 where the name has no value; 14 where the class is not the kind of the segment.
@@ -99,14 +110,13 @@ fn public_valued(name: Name, kind: Kind, at: u16, value: Option<Value>) -> Resul
 pub fn public_of(
     name: Name,
     definer: Definer,
-    kind: Kind,
-    at: u16,
-    value: Option<Value>,
+    segment: PublicSegment,
+    value: Option<Located<u32>>,
 ) -> Result<Public, u8>
-    ensures { result ≡ public_by name definer kind at value }
+    ensures { result ≡ public_by name definer segment (option_map located_value value) }
 {
     match definer {
         Definer::Segment | Definer::Set | Definer::External => Err(BASE_NOT_ALLOWED),
-        Definer::Other => public_valued(name, kind, at, value),
+        Definer::Other => public_valued(name, segment, value),
     }
 }

@@ -45,30 +45,31 @@ stored_reference false n l r h = absurd (cc h)
 
 -- a field that is a reference is that of the value
 reference_is : (names : Meanings) (at : Field) (next : ℕ) (v : Value) (r : Reference)
-    → taken_of names at next v ≡ Some (Linked r) → reference_of at v ≡ r
+    → taken_of names at next v ≡ Some (Linked r) → reference_of names at v ≡ r
 reference_is names field.Rel next v r h =
     referred (is_current names v.base) (is_linked names v.base) (stands_absolute names) (rel_of next (counted v))
-    (reference_of field.Rel v) r
-    (no_reference (is_near (distance next (counted v))) (distance next (counted v) % 256) (reference_of field.Rel v) r)
+    (reference_of names field.Rel v) r
+    (no_reference (is_near (distance next (counted v))) (distance next (counted v) % 256)
+    (reference_of names field.Rel v) r)
     h
 reference_is names field.Addr11 next v r h =
     referred false (is_linked names v.base) (stands_absolute names) (addr11_of next (counted v))
-    (reference_of field.Addr11 v) r
-    (no_reference (same_block (counted v) next) (counted v % 2048) (reference_of field.Addr11 v) r) h
+    (reference_of names field.Addr11 v) r
+    (no_reference (same_block (counted v) next) (counted v % 2048) (reference_of names field.Addr11 v) r) h
 reference_is names field.Data next v r h =
-    stored_reference (is_linked names v.base) (held_of field.Data (counted v)) (reference_of field.Data v) r h
+    stored_reference (is_linked names v.base) (held_of field.Data (counted v)) (reference_of names field.Data v) r h
 reference_is names field.Direct next v r h =
-    stored_reference (is_linked names v.base) (held_of field.Direct (counted v)) (reference_of field.Direct v) r h
+    stored_reference (is_linked names v.base) (held_of field.Direct (counted v)) (reference_of names field.Direct v) r h
 reference_is names field.Bit next v r h =
-    stored_reference (is_linked names v.base) (held_of field.Bit (counted v)) (reference_of field.Bit v) r h
+    stored_reference (is_linked names v.base) (held_of field.Bit (counted v)) (reference_of names field.Bit v) r h
 reference_is names field.Data16 next v r h =
-    stored_reference (is_linked names v.base) (held_of field.Data16 (counted v)) (reference_of field.Data16 v) r h
+    stored_reference (is_linked names v.base) (held_of field.Data16 (counted v)) (reference_of names field.Data16 v) r h
 reference_is names field.Addr16 next v r h =
-    stored_reference (is_linked names v.base) (held_of field.Addr16 (counted v)) (reference_of field.Addr16 v) r h
+    stored_reference (is_linked names v.base) (held_of field.Addr16 (counted v)) (reference_of names field.Addr16 v) r h
 
 -- what a value leaves to the linker in a field is its reference there
 pub linked_is : (names : Meanings) (at : Field) (next : ℕ) (v : Value) (r : Reference)
-    → field_of names at next v ≡ Some (Linked r) → reference_of at v ≡ r
+    → field_of names at next v ≡ Some (Linked r) → reference_of names at v ≡ r
 unfolding field_of
 linked_is names at next v r h =
     reference_is names at next v r (guarded (is_taken names at v) (taken_of names at next v) (Linked r) h).1

@@ -24,7 +24,7 @@ unfolding field_of
 relatives_lead names next n v from to h =
     let taken = guarded (is_taken names field.Rel v) (relative_of names next v) (Number n) h in
     let byte = computed (is_current names v.base) (is_linked names v.base) (stands_absolute names)
-    (rel_of next (counted v)) (reference_of field.Rel v) n taken.1 in
+    (rel_of next (counted v)) (reference_of names field.Rel v) n taken.1 in
     let near = guarded (is_near (distance next (counted v))) (Some (Number (distance next (counted v) % 256)))
     (Number n) byte in
     let is : distance next (counted v) % 256 ≡ n =
@@ -36,7 +36,7 @@ unfolding field_of
 blocks_lead names next n v h =
     let taken = guarded (is_taken names field.Addr11 v) (block_of names next v) (Number n) h in
     let address = computed false (is_linked names v.base) (stands_absolute names) (addr11_of next (counted v))
-    (reference_of field.Addr11 v) n taken.1 in
+    (reference_of names field.Addr11 v) n taken.1 in
     let near = guarded (same_block (counted v) next) (Some (Number (counted v % 2048))) (Number n) address in
     let is : counted v % 2048 ≡ n = number_is (same_block (counted v) next) (counted v % 2048) n address in
     rw (← is) (block_leads next (counted v) near.0)

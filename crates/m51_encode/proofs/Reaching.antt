@@ -70,7 +70,7 @@ short_has names Jmp v class part own near =
     (taken (takes_class field.Rel v.class) (takes_part field.Rel v.part) (is_unplaced names v.base)
     (same_classes_relative v.class class) part)
     (relative_has (is_current names v.base) (is_linked names v.base) (stands_absolute names)
-    (rel_of (address_after names 2) (counted v)) (Linked (reference_of field.Rel v))
+    (rel_of (address_after names 2) (counted v)) (Linked (reference_of names field.Rel v))
     (has_value (is_near (distance (address_after names 2) (counted v))) (Some _) near refl)
     (own_is_computed names v.base own))
 
@@ -84,7 +84,7 @@ block_field names v class part absolute same =
     (taken (takes_class field.Addr11 v.class) (takes_part field.Addr11 v.part) (is_unplaced names v.base)
     (same_classes_block v.class class) part)
     (block_has (is_linked names v.base) (stands_absolute names) (addr11_of (address_after names 2) (counted v))
-    (Linked (reference_of field.Addr11 v))
+    (Linked (reference_of names field.Addr11 v))
     (has_value (same_block (counted v) (address_after names 2)) (Some _) same refl)
     absolute)
 

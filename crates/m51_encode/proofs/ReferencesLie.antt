@@ -53,21 +53,22 @@ pub begins_there : (names : Meanings) (next byte : ℕ) (at : Field) (value : Va
 begins_there names next byte at (Ok v) held h = byte_is byte (field_of names at next v) held h
 begins_there names next byte at (Err e) held h = absurd (cc h)
 
-kind_by : (at : Field) (v : Value) (byte : ℕ) (o : Option FieldValue) (held : Held)
-    → ((r : Reference) → o ≡ Some (Linked r) → reference_of at v ≡ r)
-    → of_field byte o ≡ ok held → IfSome held.reference (λ r. r ≡ reference_of at v)
-kind_by at v byte (Some (Number n)) held go h =
-    subst (λ (x : Held). IfSome x.reference (λ r. r ≡ reference_of at v)) (ok_is (held_at byte (Number n)) held h) tt
-kind_by at v byte (Some (Linked r)) held go h =
-    subst (λ (x : Held). IfSome x.reference (λ r. r ≡ reference_of at v)) (ok_is (held_at byte (Linked r)) held h)
+kind_by : (names : Meanings) (at : Field) (v : Value) (byte : ℕ) (o : Option FieldValue) (held : Held)
+    → ((r : Reference) → o ≡ Some (Linked r) → reference_of names at v ≡ r)
+    → of_field byte o ≡ ok held → IfSome held.reference (λ r. r ≡ reference_of names at v)
+kind_by names at v byte (Some (Number n)) held go h =
+    subst (λ (x : Held). IfSome x.reference (λ r. r ≡ reference_of names at v)) (ok_is (held_at byte (Number n)) held h)
+    tt
+kind_by names at v byte (Some (Linked r)) held go h =
+    subst (λ (x : Held). IfSome x.reference (λ r. r ≡ reference_of names at v)) (ok_is (held_at byte (Linked r)) held h)
     (sym (go r refl))
-kind_by at v byte None held go h = absurd (cc h)
+kind_by names at v byte None held go h = absurd (cc h)
 
 -- the reference of a field is that of the value in a field of this kind
 pub kind_is : (names : Meanings) (next byte : ℕ) (at : Field) (value : Valued Value) (held : Held)
-    → valued names next at byte value ≡ Ok held → IfSome held.reference (IsReferenceOf at value)
+    → valued names next at byte value ≡ Ok held → IfSome held.reference (IsReferenceOf names at value)
 kind_is names next byte at (Ok v) held h =
-    kind_by at v byte (field_of names at next v) held (linked_is names at next v) h
+    kind_by names at v byte (field_of names at next v) held (linked_is names at next v) h
 kind_is names next byte at (Err e) held h = absurd (cc h)
 
 -- an operand that has a reference beginning at a byte has a field that begins there

@@ -31,14 +31,14 @@ addr11_of next target = if same_block target next then Some (Number (target % 20
 abbrev pub relative_of : Meanings → ℕ → Value → Option FieldValue
 relative_of names next v =
     if is_current names v.base then rel_of next (counted v)
-    else if is_linked names v.base then Some (Linked (reference_of Rel v))
+    else if is_linked names v.base then Some (Linked (reference_of names Rel v))
     else if stands_absolute names then rel_of next (counted v)
     else None
 
 -- A target within a block is computed if it counts as a number and the statement is in an absolute segment.
 abbrev pub block_of : Meanings → ℕ → Value → Option FieldValue
 block_of names next v =
-    if is_linked names v.base then Some (Linked (reference_of Addr11 v))
+    if is_linked names v.base then Some (Linked (reference_of names Addr11 v))
     else if stands_absolute names then addr11_of next (counted v)
     else None
 
@@ -57,7 +57,7 @@ FitsField at (Linked reference) = Unit {0}
 -- a reference where the linker adds the base, else the number
 abbrev pub stored_of : Meanings → Field → Value → FieldValue
 stored_of names at v =
-    if is_linked names v.base then Linked (reference_of at v) else Number (held_of at (counted v))
+    if is_linked names v.base then Linked (reference_of names at v) else Number (held_of at (counted v))
 
 -- what a value gives in a field that allows it
 abbrev pub taken_of : Meanings → Field → ℕ → Value → Option FieldValue

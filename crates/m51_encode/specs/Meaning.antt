@@ -32,9 +32,9 @@ pub record IsRegister (count n m : ℕ) : Type 0 where
   pub there : n < count
 
 -- the reference is what the value of an expression leaves to the linker in this field
-abbrev pub IsReferenceOf : Field → Valued Value → Reference → Type 0
-IsReferenceOf at (Ok v) r = r ≡ reference_of at v
-IsReferenceOf at (Err e) r = ⊥
+abbrev pub IsReferenceOf : Meanings → Field → Valued Value → Reference → Type 0
+IsReferenceOf names at (Ok v) r = r ≡ reference_of names at v
+IsReferenceOf names at (Err e) r = ⊥
 
 -- for each byte of an instruction the reference whose field begins there, or none
 abbrev pub References : Type 0
@@ -47,7 +47,7 @@ pub record GivesField (names : Meanings) (next : ℕ) (references : References) 
   pub value : valued names next f.field f.byte (value_of names e) ≡ Ok held
   pub is : kept f.field held.number ≡ f.number
   pub lies : slice_get references f.byte ≡ Some held.reference
-  pub kind : IfSome held.reference (IsReferenceOf f.field (value_of names e))
+  pub kind : IfSome held.reference (IsReferenceOf names f.field (value_of names e))
 
 -- an operand of a line means the operand of a row: both are missing, or are the same word or register, or the
 -- expression of the one gives the number in the field of the other

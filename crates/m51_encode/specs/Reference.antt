@@ -3,11 +3,13 @@ use Rattle.std.specs.Prelude.{ℕ}
 use Rattle.m51_expr.specs.declared.value.Part.{Part}
 use Rattle.m51_expr.specs.declared.value.Part.TheVariants.{Whole, High, Low, Bit}
 use Rattle.m51_expr.specs.declared.value.Value.{Value}
+use Rattle.m51_expr.specs.Meanings.{Meanings}
 use Rattle.m51_module.specs.declared.content.Form.{Form}
 use Rattle.m51_module.specs.declared.content.Form.TheVariants as form
 use Rattle.m51_isa.specs.declared.slot.Field.{Field}
 use Rattle.m51_isa.specs.declared.slot.Field.TheVariants as field
 use Rattle.m51_encode.specs.declared.reference.Reference.{Reference}
+use Rattle.m51_encode.specs.Bases.{object_base}
 
 -- the form of the field
 abbrev pub form_of : Field → Part → Form
@@ -27,5 +29,10 @@ bit_of_part (Bit b) = b
 bit_of_part part = 0
 
 -- what a value in the field leaves to the linker
-abbrev pub reference_of : Field → Value → Reference
-reference_of at v = record { form = form_of at v.part; bit = bit_of_part v.part; base = v.base; number = v.number }
+abbrev pub reference_of : Meanings → Field → Value → Reference
+reference_of names at v = record {
+  form = form_of at v.part;
+  bit = bit_of_part v.part;
+  base = object_base names v.base;
+  number = v.number;
+}

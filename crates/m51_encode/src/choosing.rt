@@ -4,9 +4,7 @@ ghost use Rattle.m51_expr.specs.Located.{base_by, valued_by};
 ghost use Rattle.m51_encode.specs.JumpForm.{address_after, is_byte, is_own, is_short, shortest, jump_form_of};
 
 use crate::bases::{is_current, stands_absolute};
-use m51_expr::{
-    ExprError, Located, Lookup, Origin, Part, Places, SegmentNumber, Value, part_value, with_origin,
-};
+use m51_expr::{ExprError, Located, Origin, Part, Places, SegmentNumber, counted};
 use m51_isa::{Jump, Verb, distance, in_one_block, is_near};
 
 /// The address after a statement of `length` bytes, modulo 65,536.
@@ -59,11 +57,14 @@ fn shortest<S: SegmentNumber, P: Places<S>>(names: &P, verb: Verb, next: u16, ta
     }
 }
 
-/// The form of a generic jump or call, as `jump_form`, over segment numbers of any width.
+/// The form of a generic jump or call at the place of the statement. It is long where the target has a fault, or
+/// another base than the current segment, or is `HIGH` or `LOW` of a base, or has no base in a relocatable segment.
+/// Else it is the first that reaches the target: the short one for `JMP`, that of a block in an absolute segment, the
+/// long one.
 ///
 /// Source: own choice ("Generic jumps").
 #[tactic(auto, unfolding(crate::specs::JumpForm::jump_form_of))]
-pub fn located_jump_form<S: SegmentNumber, P: Places<S>>(
+pub fn jump_form<S: SegmentNumber, P: Places<S>>(
     names: &P,
     verb: Verb,
     target: Result<Located<S>, ExprError>,
@@ -73,31 +74,11 @@ pub fn located_jump_form<S: SegmentNumber, P: Places<S>>(
     match target {
         Ok(value) => {
             if is_own(names, value.origin) && !is_byte(value.part) {
-                shortest(
-                    names,
-                    verb,
-                    address_after(names, 2),
-                    part_value(value.number, value.part),
-                )
+                shortest(names, verb, address_after(names, 2), counted(value))
             } else {
                 Jump::Long
             }
         }
         Err(_) => Jump::Long,
-    }
-}
-
-/// The form of a generic jump or call at the place of the statement. It is long where the target has a fault, or
-/// another base than the current segment, or is `HIGH` or `LOW` of a base, or has no base in a relocatable segment.
-/// Else it is the first that reaches the target: the short one for `JMP`, that of a block in an absolute segment, the
-/// long one.
-///
-/// Source: own choice ("Generic jumps").
-pub fn jump_form<L: Lookup>(names: &L, verb: Verb, target: Result<Value, ExprError>) -> Jump
-    ensures { result ≡ jump_form_of (L.meanings names.now) verb target }
-{
-    match target {
-        Ok(value) => located_jump_form(names, verb, Ok(with_origin(value))),
-        Err(error) => located_jump_form::<u8, L>(names, verb, Err(error)),
     }
 }

@@ -4,12 +4,13 @@ ghost use Rattle.m51_expr.specs.Operand.{operand_tree};
 ghost use Rattle.m51_encode.specs.Coding.{seen, look_in, line, line_row, row_of, coded_as, gathered, coded_in, coded};
 ghost use Rattle.m51_encode.specs.Coding.{outcomes_in, outcomes};
 
+use crate::bases::Numbered;
 use crate::choosing::address_after;
 use crate::filling::{CodingError, Held, filled, references_of};
 use crate::outcome::{OperandOutcome, operand_outcome};
 use crate::reference::Reference;
 use m51_cells::{NO_INSTRUCTION, Name};
-use m51_expr::{Lookup, Operand, look_of};
+use m51_expr::{Operand, look_of};
 use m51_isa::{Code, Instr, Jump, Look, encode, length, row_for, spelling_of, with_numbers};
 
 /// The bytes of an instruction of a source, and what the linker fills in.
@@ -127,13 +128,13 @@ pub fn row_of(mnemonic: &Name, operands: &[Operand], jump: Jump) -> Option<Instr
 ///
 /// Source: family manual.
 #[tactic(auto, using(crate::proofs::CodedRows::by_row))]
-pub fn code_row<L: Lookup>(names: &L, row: &Instr, operands: &[Operand]) -> Coding
+pub fn code_row<N: Numbered>(names: &N, row: &Instr, operands: &[Operand]) -> Coding
     ensures coded { let operands = map operand_tree operands.now in (mnemonic : List ℕ) (jump : Jump)
         → row_of mnemonic operands jump ≡ Some row.now
-        → result.coded ≡ coded (L.meanings names.now) mnemonic operands jump }
+        → result.coded ≡ coded (N.meanings names.now) mnemonic operands jump }
     ensures outcomes { let operands = map operand_tree operands.now in (mnemonic : List ℕ) (jump : Jump)
         → row_of mnemonic operands jump ≡ Some row.now
-        → result.outcomes ≡ outcomes (L.meanings names.now) mnemonic operands jump }
+        → result.outcomes ≡ outcomes (N.meanings names.now) mnemonic operands jump }
 {
     let next = address_after(names, u16::from(length(row)));
     let text = spelling_of(row);
@@ -157,11 +158,11 @@ pub fn code_row<L: Lookup>(names: &L, row: &Instr, operands: &[Operand]) -> Codi
 ///
 /// Source: family manual.
 #[tactic(auto, using(crate::proofs::CodedRows::by_row))]
-pub fn code<L: Lookup>(names: &L, mnemonic: &Name, operands: &[Operand], jump: Jump) -> Coding
+pub fn code<N: Numbered>(names: &N, mnemonic: &Name, operands: &[Operand], jump: Jump) -> Coding
     ensures coded { let operands = map operand_tree operands.now in
-        result.coded ≡ coded (L.meanings names.now) mnemonic.now operands jump }
+        result.coded ≡ coded (N.meanings names.now) mnemonic.now operands jump }
     ensures outcomes { let operands = map operand_tree operands.now in
-        result.outcomes ≡ outcomes (L.meanings names.now) mnemonic.now operands jump }
+        result.outcomes ≡ outcomes (N.meanings names.now) mnemonic.now operands jump }
 {
     match row_of(mnemonic, operands, jump) {
         Some(row) => code_row(names, &row, operands),

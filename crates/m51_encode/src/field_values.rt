@@ -1,21 +1,22 @@
 //! What a value gives in a field.
 ghost use Rattle.std.specs.Prelude.{◌≡◌, IfSome};
+ghost use Rattle.m51_expr.specs.Located.{located_value};
 ghost use Rattle.m51_encode.specs.FieldValues.{is_taken, rel_of, addr11_of};
 ghost use Rattle.m51_encode.specs.FieldValues.{relative_of, block_of, stored_of, taken_of, field_of, FitsField};
 
-use crate::bases::{is_current, is_linked, stands_absolute};
+use crate::bases::{Numbered, is_current, is_linked, stands_absolute};
 use crate::reference::{FieldValue, reference_of};
 use crate::taking::{held_of, takes_class, takes_number, takes_part};
-use m51_expr::{Lookup, Value, counted, is_unplaced, origin_of};
+use m51_expr::{Located, counted, is_unplaced_origin};
 use m51_isa::{Field, distance, in_one_block, is_near};
 
 // Whether the field takes the class, the operator and the number.
-fn is_taken<L: Lookup>(names: &L, field: Field, value: Value) -> bool
-    ensures { result ≡ is_taken (L.meanings names.now) field value }
+fn is_taken<N: Numbered>(names: &N, field: Field, value: Located<u32>) -> bool
+    ensures { result ≡ is_taken (N.meanings names.now) field (located_value value) }
 {
     takes_class(field, value.class)
         && takes_part(field, value.part)
-        && (is_unplaced(names, value.base) || takes_number(field, counted(value)))
+        && (is_unplaced_origin(names, value.origin) || takes_number(field, counted(value)))
 }
 
 // The signed byte from after a statement to a target.
@@ -42,13 +43,13 @@ fn addr11_of(next: u16, target: u16) -> Option<FieldValue>
 }
 
 // A relative target is computed in the current segment, and a number where that is absolute.
-fn relative_of<L: Lookup>(names: &L, next: u16, value: Value) -> Option<FieldValue>
-    ensures { result ≡ relative_of (L.meanings names.now) next value }
+fn relative_of<N: Numbered>(names: &N, next: u16, value: Located<u32>) -> Option<FieldValue>
+    ensures { result ≡ relative_of (N.meanings names.now) next (located_value value) }
 {
-    if is_current(names, origin_of(value.base)) {
+    if is_current(names, value.origin) {
         rel_of(next, counted(value))
-    } else if is_linked(names, value.base) {
-        Some(FieldValue::Linked(reference_of(Field::Rel, value)))
+    } else if is_linked(names, value.origin) {
+        Some(FieldValue::Linked(reference_of(names, Field::Rel, value)))
     } else if stands_absolute(names) {
         rel_of(next, counted(value))
     } else {
@@ -57,11 +58,11 @@ fn relative_of<L: Lookup>(names: &L, next: u16, value: Value) -> Option<FieldVal
 }
 
 // A target within a block is computed where it counts as a number in an absolute segment.
-fn block_of<L: Lookup>(names: &L, next: u16, value: Value) -> Option<FieldValue>
-    ensures { result ≡ block_of (L.meanings names.now) next value }
+fn block_of<N: Numbered>(names: &N, next: u16, value: Located<u32>) -> Option<FieldValue>
+    ensures { result ≡ block_of (N.meanings names.now) next (located_value value) }
 {
-    if is_linked(names, value.base) {
-        Some(FieldValue::Linked(reference_of(Field::Addr11, value)))
+    if is_linked(names, value.origin) {
+        Some(FieldValue::Linked(reference_of(names, Field::Addr11, value)))
     } else if stands_absolute(names) {
         addr11_of(next, counted(value))
     } else {
@@ -70,19 +71,24 @@ fn block_of<L: Lookup>(names: &L, next: u16, value: Value) -> Option<FieldValue>
 }
 
 // A reference where the linker adds the base, else the number.
-fn stored_of<L: Lookup>(names: &L, field: Field, value: Value) -> FieldValue
-    ensures { result ≡ stored_of (L.meanings names.now) field value }
+fn stored_of<N: Numbered>(names: &N, field: Field, value: Located<u32>) -> FieldValue
+    ensures { result ≡ stored_of (N.meanings names.now) field (located_value value) }
 {
-    if is_linked(names, value.base) {
-        FieldValue::Linked(reference_of(field, value))
+    if is_linked(names, value.origin) {
+        FieldValue::Linked(reference_of(names, field, value))
     } else {
         FieldValue::Number(held_of(field, counted(value)))
     }
 }
 
 // What a value gives in a field that allows it.
-fn taken_of<L: Lookup>(names: &L, field: Field, next: u16, value: Value) -> Option<FieldValue>
-    ensures { result ≡ taken_of (L.meanings names.now) field next value }
+fn taken_of<N: Numbered>(
+    names: &N,
+    field: Field,
+    next: u16,
+    value: Located<u32>,
+) -> Option<FieldValue>
+    ensures { result ≡ taken_of (N.meanings names.now) field next (located_value value) }
 {
     match field {
         Field::Rel => relative_of(names, next, value),
@@ -99,13 +105,13 @@ fn taken_of<L: Lookup>(names: &L, field: Field, next: u16, value: Value) -> Opti
 ///
 /// Source: own choice ("Fields").
 #[tactic(auto, unfolding(crate::specs::FieldValues::field_of))]
-pub fn field_value<L: Lookup>(
-    names: &L,
+pub fn field_value<N: Numbered>(
+    names: &N,
     field: Field,
     next: u16,
-    value: Value,
+    value: Located<u32>,
 ) -> Option<FieldValue>
-    ensures value { result ≡ field_of (L.meanings names.now) field next value }
+    ensures value { result ≡ field_of (N.meanings names.now) field next (located_value value) }
     ensures within { IfSome result (FitsField field) }
 {
     if is_taken(names, field, value) {

@@ -2,15 +2,17 @@
 ghost use Rattle.std.specs.Prelude.{◌≡◌};
 ghost use Rattle.m51_expr.specs.Tree.{tree_of};
 ghost use Rattle.m51_expr.specs.Evaluation.{value_of};
+ghost use Rattle.m51_expr.specs.Located.{located};
 ghost use Rattle.m51_expr.specs.Operand.{operand_tree};
 ghost use Rattle.m51_encode.specs.Coding.{seen};
 ghost use Rattle.m51_encode.specs.Filling.{or_out_of_range, fielded, held_at, filled_by, filled, expression};
 ghost use Rattle.m51_encode.specs.Filling.{beginning_at, reference_at, references_of};
 
+use crate::bases::Numbered;
 use crate::field_values::field_value;
 use crate::reference::{FieldValue, Reference};
 use m51_cells::OUT_OF_RANGE;
-use m51_expr::{Expr, ExprError, Lookup, Operand, Value, value_of};
+use m51_expr::{Expr, ExprError, Located, Operand, located_value_of};
 use m51_isa::{Field, FieldSlot};
 
 /// The fault E`number` of an instruction: 11 where the instruction table has no such row, 7 to 10 for an operand that
@@ -53,13 +55,13 @@ fn or_out_of_range(held: Option<FieldValue>) -> Result<FieldValue, CodingError>
 }
 
 // What a value gives in the field.
-fn fielded<L: Lookup>(
-    names: &L,
+fn fielded<N: Numbered>(
+    names: &N,
     next: u16,
     field: Field,
-    value: Result<Value, ExprError>,
+    value: Result<Located<u32>, ExprError>,
 ) -> Result<FieldValue, CodingError>
-    ensures { result ≡ fielded (L.meanings names.now) next field value }
+    ensures { result ≡ fielded (N.meanings names.now) next field (located value) }
 {
     match value {
         Ok(value) => or_out_of_range(field_value(names, field, next, value)),
@@ -76,16 +78,16 @@ fn fielded<L: Lookup>(
 /// class.
 ///
 /// Source: own choice ("Fields").
-pub fn expression_field<L: Lookup>(
-    names: &L,
+pub fn expression_field<N: Numbered>(
+    names: &N,
     field: Field,
     next: u16,
     expr: &Expr,
 ) -> Result<FieldValue, CodingError>
-    ensures { let names = L.meanings names.now in
+    ensures { let names = N.meanings names.now in
         result ≡ fielded names next field (value_of names (tree_of expr.now)) }
 {
-    fielded(names, next, field, value_of(expr, names))
+    fielded(names, next, field, located_value_of(expr, names))
 }
 
 // What the field that begins at a byte holds.
@@ -106,26 +108,26 @@ fn held_at(byte: u8, held: FieldValue) -> Held
     }
 }
 
-fn of_expression<L: Lookup>(
-    names: &L,
+fn of_expression<N: Numbered>(
+    names: &N,
     next: u16,
     slot: FieldSlot,
     expr: &Expr,
 ) -> Result<Held, CodingError>
-    ensures { result ≡ filled_by (L.meanings names.now) next slot (Some (tree_of expr.now)) }
+    ensures { result ≡ filled_by (N.meanings names.now) next slot (Some (tree_of expr.now)) }
 {
     let held = expression_field(names, slot.field, next, expr)?;
     Ok(held_at(slot.byte, held))
 }
 
 // What an operand gives in the field.
-fn of_operand<L: Lookup>(
-    names: &L,
+fn of_operand<N: Numbered>(
+    names: &N,
     next: u16,
     slot: FieldSlot,
     operand: &Operand,
 ) -> Result<Held, CodingError>
-    ensures { result ≡ filled_by (L.meanings names.now) next slot (expression (operand_tree operand.now)) }
+    ensures { result ≡ filled_by (N.meanings names.now) next slot (expression (operand_tree operand.now)) }
 {
     match operand {
         Operand::Imm(expr) | Operand::Plain(expr) | Operand::NotBit(expr) => {
@@ -139,13 +141,13 @@ fn of_operand<L: Lookup>(
 /// instruction.
 ///
 /// Errors: E7 to E10 where the operand has no value, E14 where its value is out of range or class.
-pub(crate) fn filled<L: Lookup>(
-    names: &L,
+pub(crate) fn filled<N: Numbered>(
+    names: &N,
     next: u16,
     slot: Option<FieldSlot>,
     operand: Option<&Operand>,
 ) -> Result<Held, CodingError>
-    ensures { result ≡ filled (L.meanings names.now) next slot (seen operand.entry) }
+    ensures { result ≡ filled (N.meanings names.now) next slot (seen operand.entry) }
 {
     match (slot, operand) {
         (Some(slot), Some(operand)) => of_operand(names, next, slot, operand),

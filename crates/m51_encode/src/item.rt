@@ -3,10 +3,11 @@ ghost use Rattle.std.specs.Prelude.{◌≡◌, ◌++◌, OnOk};
 ghost use Rattle.m51_expr.specs.Operand.{item_tree};
 ghost use Rattle.m51_encode.specs.Items.{field_of_width, item_field, number_bytes, field_bytes, item_bytes};
 
+use crate::bases::Numbered;
 use crate::filling::{CodingError, expression_field};
 use crate::reference::FieldValue;
 use m51_cells::NoMemory;
-use m51_expr::{Item, Lookup};
+use m51_expr::Item;
 use m51_isa::Field;
 
 /// How wide the values of a list are.
@@ -37,12 +38,12 @@ fn field_of_width(width: Width) -> Field
 /// range.
 ///
 /// Source: own choice ("Fields").
-pub fn item_field<L: Lookup>(
-    names: &L,
+pub fn item_field<N: Numbered>(
+    names: &N,
     width: Width,
     item: &Item,
 ) -> Result<Option<FieldValue>, CodingError>
-    ensures { result ≡ item_field (L.meanings names.now) width (item_tree item.now) }
+    ensures { result ≡ item_field (N.meanings names.now) width (item_tree item.now) }
 {
     match item {
         Item::Value(expr) => {

@@ -14,7 +14,8 @@ mod outcome;
 mod reference;
 mod taking;
 
-pub use choosing::{jump_form, located_jump_form};
+pub use bases::Numbered;
+pub use choosing::jump_form;
 pub use coding::{Coded, Coding, code, code_row, row_of};
 pub use field_laws::{
     blocks_lead_to_targets, chosen_jumps_reach, references_have_bits, relatives_lead_to_targets,

@@ -1,9 +1,11 @@
 //! Fields, and what the linker has to fill in.
 ghost use Rattle.std.specs.Prelude.{◌≡◌};
+ghost use Rattle.m51_expr.specs.Located.{located_value};
 ghost use Rattle.m51_encode.specs.Reference.{form_of, bit_of_part, reference_of};
 
+use crate::bases::{Numbered, object_base};
 use m51_cells::Base;
-use m51_expr::{Part, Value};
+use m51_expr::{Located, Part};
 use m51_isa::Field;
 use m51_module::Form;
 
@@ -60,13 +62,13 @@ fn bit_of_part(part: Part) -> u8
 }
 
 /// What a value in the field leaves to the linker.
-pub(crate) fn reference_of(field: Field, value: Value) -> Reference
-    ensures { result ≡ reference_of field value }
+pub(crate) fn reference_of<N: Numbered>(names: &N, field: Field, value: Located<u32>) -> Reference
+    ensures { result ≡ reference_of (N.meanings names.now) field (located_value value) }
 {
     Reference {
         form: form_of(field, value.part),
         bit: bit_of_part(value.part),
-        base: value.base,
+        base: object_base(names, value.origin),
         number: value.number,
     }
 }

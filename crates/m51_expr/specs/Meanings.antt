@@ -6,12 +6,14 @@ use Rattle.m51_expr.specs.declared.value.Value.{Value}
 use Rattle.m51_cells.specs.declared.fault.TheConstants.{BASE_NOT_ALLOWED}
 use Rattle.m51_expr.specs.Value.{Valued, fault, counted}
 
--- the values of names, the place of the statement, and which segments are absolute or bit-addressable
+-- The values of names, the place of the statement, which segments are absolute or bit-addressable, and the number of
+-- each in the object, 0 for one that it does not have. Values do not depend on these numbers.
 pub record Meanings : Type 0 where
   pub value : List ℕ → Option Value
   pub here : Value
   pub fixed : ℕ → Bool
   pub bitaddressable : ℕ → Bool
+  pub number : ℕ → ℕ
 
 -- an absolute segment
 abbrev pub is_absolute_base : Meanings → Base → Bool

@@ -4,9 +4,9 @@ ghost use Rattle.m51_expr.specs.Bits.{has_bits, keeps_base, dotted_bit, dot};
 ghost use Rattle.m51_expr.specs.Located.{base_by, value_by, valued_by};
 
 use crate::fault::ExprError;
-use crate::located::{Located, Origin, SegmentNumber, plain, same_origin};
+use crate::located::{Located, Origin, SegmentNumber, counted, plain, same_origin};
 use crate::places::{Places, as_number, is_unplaced_origin};
-use crate::value::{Part, is_whole, part_value};
+use crate::value::{Part, is_whole};
 use m51_cells::{BASE_NOT_ALLOWED, Kind, NO_BIT};
 use m51_isa::bit_address;
 
@@ -51,7 +51,7 @@ fn dotted_bit<S: SegmentNumber, P: Places<S>>(
             Err(ExprError { number: NO_BIT })
         };
     }
-    match bit_address(part_value(x.number, x.part), bit) {
+    match bit_address(counted(x), bit) {
         None => Err(ExprError { number: NO_BIT }),
         Some(_) if keeps_base(x) => Ok(kept),
         Some(address) => Ok(plain(address, Kind::Bits)),

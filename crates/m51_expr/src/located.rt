@@ -1,10 +1,10 @@
 //! Values by segment numbers of any width.
 ghost use Rattle.std.specs.Prelude.{◌≡◌, ◌==◌};
-ghost use Rattle.m51_expr.specs.Value.{plain};
+ghost use Rattle.m51_expr.specs.Value.{plain, counted};
 ghost use Rattle.m51_expr.specs.Operators.{same_base};
 ghost use Rattle.m51_expr.specs.Located.{base_by, value_by};
 
-use crate::value::Part;
+use crate::value::{Part, part_value};
 use m51_cells::Kind;
 
 /// The number of a segment.
@@ -63,7 +63,9 @@ pub struct Located<S> {
 }
 
 /// A value of a number and a class, without an origin and whole.
-pub(crate) fn plain<S: SegmentNumber>(number: u16, class: Kind) -> Located<S>
+///
+/// Source: own choice ("Values with a base").
+pub fn plain<S: SegmentNumber>(number: u16, class: Kind) -> Located<S>
     ensures { value_by S.number result ≡ plain number class }
 {
     Located {
@@ -72,6 +74,16 @@ pub(crate) fn plain<S: SegmentNumber>(number: u16, class: Kind) -> Located<S>
         part: Part::Whole,
         origin: Origin::None,
     }
+}
+
+/// What a value with no origin or an absolute one counts as: its number, or that number's high byte, low byte or the
+/// address of its bit, which is 0 where it has none.
+///
+/// Source: own choice ("Values with a base").
+pub fn counted<S: SegmentNumber>(value: Located<S>) -> u16
+    ensures { result ≡ counted (value_by S.number value) }
+{
+    part_value(value.number, value.part)
 }
 
 /// Whether two values count from one thing.

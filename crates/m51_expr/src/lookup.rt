@@ -1,10 +1,10 @@
 //! What names mean in an object, whose segments are numbered by a byte.
 ghost use Rattle.std.specs.Prelude.{◌≡◌, option_map};
-ghost use Rattle.m51_expr.specs.Meanings.{Meanings, is_absolute_base, is_unplaced};
+ghost use Rattle.m51_expr.specs.Meanings.{Meanings};
 ghost use Rattle.m51_expr.specs.Located.{origin_base, located_value};
 
 use crate::located::{Located, Origin};
-use crate::places::{Places, is_absolute_origin, is_unplaced_origin};
+use crate::places::Places;
 use crate::value::Value;
 use m51_cells::{Base, Name};
 
@@ -31,10 +31,8 @@ pub trait Lookup {
         ensures { result ≡ (meanings self.now).bitaddressable segment };
 }
 
-/// A base of an object as an origin.
-///
-/// Source: own choice ("Numbers of segments in values").
-pub fn origin_of(base: Base) -> Origin<u8>
+// A base of an object as an origin.
+fn origin_of(base: Base) -> Origin<u8>
     ensures { origin_base result ≡ base }
 {
     match base {
@@ -44,10 +42,8 @@ pub fn origin_of(base: Base) -> Origin<u8>
     }
 }
 
-/// A value of an object with its origin.
-///
-/// Source: own choice ("Numbers of segments in values").
-pub fn with_origin(value: Value) -> Located<u8>
+// A value of an object with its origin.
+fn with_origin(value: Value) -> Located<u8>
     ensures { located_value result ≡ value }
 {
     Located {
@@ -102,22 +98,4 @@ impl<L: Lookup> Places<u8> for L {
     fn bitaddressable(&self, segment: u8) -> bool {
         Lookup::bitaddressable(self, segment)
     }
-}
-
-/// Whether the base is an absolute segment.
-///
-/// Source: own choice ("Values with a base").
-pub fn is_absolute_base<L: Lookup>(names: &L, base: Base) -> bool
-    ensures { result ≡ is_absolute_base (L.meanings names.now) base }
-{
-    is_absolute_origin(names, origin_of(base))
-}
-
-/// Whether the base is relocatable or external, so that the link places it.
-///
-/// Source: own choice ("Values with a base").
-pub fn is_unplaced<L: Lookup>(names: &L, base: Base) -> bool
-    ensures { result ≡ is_unplaced (L.meanings names.now) base }
-{
-    is_unplaced_origin(names, origin_of(base))
 }

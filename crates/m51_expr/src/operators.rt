@@ -5,10 +5,10 @@ ghost use Rattle.m51_expr.specs.Operators.{base_of, of_wholes, binary};
 ghost use Rattle.m51_expr.specs.Located.{base_by, value_by, valued_by};
 
 use crate::fault::ExprError;
-use crate::located::{Located, Origin, SegmentNumber, plain, same_origin};
+use crate::located::{Located, Origin, SegmentNumber, counted, plain, same_origin};
 use crate::places::{Places, as_number, is_absolute_origin, is_unplaced_origin};
 use crate::tree::{Binary, Unary};
-use crate::value::{Part, is_whole, part_value};
+use crate::value::{Part, is_whole};
 use m51_cells::{BASE_NOT_ALLOWED, DIVISION_BY_ZERO, Kind};
 
 // A division by 0.
@@ -65,7 +65,7 @@ fn settled<S: SegmentNumber, P: Places<S>>(names: &P, value: Located<S>) -> Loca
     if is_unplaced_origin(names, value.origin) || is_whole(value.part) {
         return value;
     }
-    plain(part_value(value.number, value.part), value.class)
+    plain(counted(value), value.class)
 }
 
 // An absolute base beside a relocatable or external one counts as its number.

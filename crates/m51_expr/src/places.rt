@@ -4,8 +4,7 @@ ghost use Rattle.m51_expr.specs.Meanings.{Meanings, is_absolute_base, is_unplace
 ghost use Rattle.m51_expr.specs.Located.{base_by, value_by};
 
 use crate::fault::ExprError;
-use crate::located::{Located, Origin, SegmentNumber};
-use crate::value::part_value;
+use crate::located::{Located, Origin, SegmentNumber, counted};
 use m51_cells::{BASE_NOT_ALLOWED, Name};
 
 /// What the names and the place of a statement mean, where a segment has a number of type `S`. No method allocates.
@@ -70,5 +69,5 @@ pub fn as_number<S: SegmentNumber, P: Places<S>>(
             number: BASE_NOT_ALLOWED,
         });
     }
-    Ok(part_value(value.number, value.part))
+    Ok(counted(value))
 }

@@ -1,6 +1,6 @@
 //! Values of expressions.
 ghost use Rattle.std.specs.Prelude.{◌≡◌};
-ghost use Rattle.m51_expr.specs.Value.{whole, plain, is_whole, part_value, counted};
+ghost use Rattle.m51_expr.specs.Value.{is_whole, part_value};
 
 use m51_cells::{Base, Kind};
 use m51_isa::bit_address;
@@ -33,29 +33,6 @@ pub struct Value {
     pub part: Part,
 }
 
-/// A value of a number that counts from a base, under no operator.
-///
-/// Source: own choice ("Values with a base").
-pub fn whole(number: u16, class: Kind, base: Base) -> Value
-    ensures { result ≡ whole number class base }
-{
-    Value {
-        number,
-        class,
-        base,
-        part: Part::Whole,
-    }
-}
-
-/// A value of a number and a class, without a base and whole.
-///
-/// Source: own choice ("Values with a base").
-pub fn plain(number: u16, class: Kind) -> Value
-    ensures { result ≡ plain number class }
-{
-    whole(number, class, Base::None)
-}
-
 /// Whether neither `HIGH`, `LOW` nor `.` is over the number.
 ///
 /// Source: own choice ("Values with a base").
@@ -70,9 +47,7 @@ pub fn is_whole(part: Part) -> bool
 
 /// A number under a part: the number, its high byte, its low byte or the address of its bit, which is 0 where it has
 /// none.
-///
-/// Source: own choice ("Values with a base").
-pub fn part_value(number: u16, part: Part) -> u16
+pub(crate) fn part_value(number: u16, part: Part) -> u16
     ensures { result ≡ part_value number part }
 {
     match part {
@@ -84,14 +59,4 @@ pub fn part_value(number: u16, part: Part) -> u16
             None => 0,
         },
     }
-}
-
-/// What a value with no base or an absolute one counts as: its number, or that number's high byte, low byte or the
-/// address of its bit, which is 0 where it has none.
-///
-/// Source: own choice ("Values with a base").
-pub fn counted(value: Value) -> u16
-    ensures { result ≡ counted value }
-{
-    part_value(value.number, value.part)
 }

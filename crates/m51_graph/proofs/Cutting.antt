@@ -1,30 +1,10 @@
 -- The set of the edges that lines cut.
 use Rattle.m51_graph.proofs.Common.{◌≡◌, ℕ, ◌+◌, ◌<◌, true, false, Bool, not, ◌||◌, List, length, filter, take, get_or}
-use Rattle.m51_graph.proofs.Common.{Option, Some, None, refl, sym, ap, subst, ◌∙◌, list_any, Control, Fixup}
-use Rattle.m51_graph.proofs.Common.{ModuleParts, Edges, segments_of, cuts, edge_named, fixup_edge, is_cut, is_apart}
-use Rattle.m51_graph.proofs.Common.{units_of}
+use Rattle.m51_graph.proofs.Common.{refl, sym, ap, ◌∙◌, list_any, Control}
+use Rattle.m51_graph.proofs.Common.{Edges, cuts, is_cut, is_apart}
 use Rattle.std.proofs.Math.Bool.{or_comm}
-use Rattle.std.specs.Prelude.{IfSome}
 use Rattle.std.proofs.lemmas.List.Folds.{list_any_more}
-use Rattle.m51_graph.specs.Conditions.{IsEdgeWithin}
 use Rattle.m51_graph.specs.Locals.{keeps_apart}
-use Rattle.m51_graph.proofs.Within.{EdgeWithin, fixup_within, named_within, titles_are}
-
--- an edge between named units, if there is one, is among the units
-within_of : (count : ℕ) (found : Option (ℕ × ℕ)) → EdgeWithin count found
-    → IfSome found (λ edge. IsEdgeWithin count edge)
-within_of count None h = tt
-within_of count (Some e) h = record { from = h.0; to = h.1 }
-
-pub named_there : (titles : List (List ℕ)) (from name : List ℕ)
-    → IfSome (edge_named titles from name) (λ edge. IsEdgeWithin (length titles) edge)
-named_there titles from name = within_of (length titles) (edge_named titles from name) (named_within titles from name)
-
-pub fixup_there : (modules : List ModuleParts) (m : ℕ) (f : Fixup)
-    → IfSome (fixup_edge modules m f) (λ edge. IsEdgeWithin (length (units_of (segments_of modules))) edge)
-fixup_there modules m f =
-    within_of (length (units_of (segments_of modules))) (fixup_edge modules m f)
-    (subst (λ n. EdgeWithin n (fixup_edge modules m f)) (titles_are (segments_of modules)) (fixup_within modules m f))
 
 swap_or : (a b c : Bool) → (b || (c || a)) ≡ (c || (a || b))
 swap_or a true true = refl

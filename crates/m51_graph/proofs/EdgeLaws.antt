@@ -14,9 +14,10 @@ use Rattle.std.proofs.lemmas.List.Elements.{Contains-push}
 use Rattle.std.proofs.lemmas.List.FromFn.{get_or-range_with_len, length-range_with_len}
 use Rattle.std.proofs.lemmas.Option.{none-some, same_Some, slice_get_within}
 use Rattle.m51_cells.proofs.Small.{contains_first}
+use Rattle.m51_cells.specs.declared.kind.Base.TheVariants.{Segment as InSegment}
 use Rattle.m51_control.specs.declared.control.Control.TheVariants.{Add, Cut, NoOverlay, Reserve, Order}
 use Rattle.m51_graph.specs.Drawing.{edge_between}
-use Rattle.m51_graph.specs.Targets.{target_unit, unit_with}
+use Rattle.m51_graph.specs.Units.{unit_of}
 use Rattle.m51_graph.specs.Laws.{EdgesAre, IsAdded, IsEdgeCut, RefersTo}
 use Rattle.m51_graph.proofs.Closed.{edge_tells}
 
@@ -158,8 +159,8 @@ module _ (modules : List ModuleParts) (u v : ℕ) where
       let made = maker_of (fixup_edge modules number) parts.fixups (u, v) h in
       let fixup : Fixup = made.x in
       let ends =
-      between_ends (unit_with modules number fixup.segment)
-      (target_unit modules number fixup.target) u v made.makes in (
+      between_ends (unit_of modules number (InSegment fixup.segment))
+      (unit_of modules number fixup.target) u v made.makes in (
         record {
           number = number;
           parts = parts;
@@ -195,8 +196,8 @@ module _ (modules : List ModuleParts) (u v : ℕ) where
       ) in
       let made : Contains (filter_map (fixup_edge modules r.number) r.parts.fixups) (u, v) =
       made_by (fixup_edge modules r.number) r.parts.fixups (u, v) r.fixup r.there
-      (ends_between (unit_with modules r.number r.fixup.segment)
-      (target_unit modules r.number r.fixup.target) u v r.from r.to ne) in
+      (ends_between (unit_of modules r.number (InSegment r.fixup.segment))
+      (unit_of modules r.number r.fixup.target) u v r.from r.to ne) in
       let part : Contains (module_edges modules r.number) (u, v) =
       subst (λ (found : Option ModuleParts). Contains
       (option_map_or (λ (parts : ModuleParts). filter_map (fixup_edge modules r.number) parts.fixups) found [])

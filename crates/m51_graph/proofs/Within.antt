@@ -1,31 +1,30 @@
 -- The edges, roots and owners of a program are of its units.
-use Rattle.m51_graph.proofs.Common.{◌≡◌, ◌⊎◌, inl, inr, ℕ, zero, suc, ◌+◌, ◌<◌, ◌≤◌, true, false, Bool, not, ◌&&◌, cond}
-use Rattle.m51_graph.proofs.Common.{nat_eq, List, [], ◌∷◌, ◌++◌, length, map, filter, Option, Some, None, refl, sym, ap}
+use Rattle.m51_graph.proofs.Common.{◌≡◌, inl, inr, ℕ, zero, suc, ◌+◌, ◌<◌, ◌≤◌, true, false, Bool, not, ◌&&◌, cond}
+use Rattle.m51_graph.proofs.Common.{nat_eq, List, [], ◌∷◌, ◌++◌, length, filter, Option, Some, None, refl, sym, ap}
 use Rattle.m51_graph.proofs.Common.{subst, ◌∙◌, arith, flat_map, slice_get, Contains, filter_map, cons_option, list_any}
 use Rattle.m51_graph.proofs.Common.{range_with_len, option_map_or, cases_Bool, false≢true, Decides-eqb}
-use Rattle.m51_graph.proofs.Common.{Any-from_list_any, Control, Fixup, ModuleParts, vectors, Edges, HasEdge}
+use Rattle.m51_graph.proofs.Common.{Any-from_list_any, Control, Fixup, ModuleParts, vectors, Edges}
 use Rattle.m51_graph.proofs.Common.{contains_after, first_or_after, none_in_empty, JoinedSegment, segments_of}
 use Rattle.m51_graph.proofs.Common.{fixup_edge, has_edge, with_edge, with_edges, module_edges, fixup_edges, edge_named}
 use Rattle.m51_graph.proofs.Common.{added_by, is_cut, AreOfUnits, LeadWithin, is_apart, overlaid_by, units_from}
 use Rattle.m51_graph.proofs.Common.{units_of, code_segments, unit_titles, named}
 use Rattle.std.proofs.Common.{ltb}
-use Rattle.std.specs.Prelude.{position, option_and_then, option_map}
+use Rattle.std.specs.Prelude.{position, option_and_then, IfSome}
 use Rattle.std.specs.List.{position_or_len}
 use Rattle.std.proofs.lemmas.List.{length-map}
 use Rattle.std.proofs.lemmas.List.Elements.{Contains-append_cases}
 use borrow.Author.Tests.{ltb-true}
 use Rattle.m51_cells.specs.declared.kind.Base.{Base}
-use Rattle.m51_cells.specs.declared.kind.Base.TheVariants.{None as NoBase, Segment as InSegment, External as OfExternal}
+use Rattle.m51_cells.specs.declared.kind.Base.TheVariants.{Segment as InSegment}
 use Rattle.m51_cells.specs.Kinds.{is_absolute, is_code}
 use Rattle.m51_control.specs.declared.control.Control.TheVariants.{Add, Cut, NoOverlay, Reserve, Order}
-use Rattle.m51_resolve.specs.Publics.{public_of}
+use Rattle.m51_resolve.specs.Referents.{referent}
 use Rattle.m51_graph.specs.Drawing.{edge_between}
 use Rattle.m51_graph.specs.Drawing.{edges_of}
-use Rattle.m51_graph.specs.Targets.{unit_with, public_unit, public_base, target_unit}
+use Rattle.m51_graph.specs.DrawnEdges.{IsEdgeWithin}
 use Rattle.m51_graph.specs.Graphs.{parts_of}
 use Rattle.m51_graph.specs.Locals.{own_name, own_unit, own_units, unless_apart}
-use Rattle.m51_graph.specs.Units.{is_root, roots_from}
-use Rattle.m51_graph.specs.Units.{roots_of}
+use Rattle.m51_graph.specs.Units.{is_root, roots_from, unit_of}
 
 -- there are as many titles as units
 pub count_units : (number : ℕ) (segments : List JoinedSegment) → length (units_from number segments)
@@ -57,14 +56,16 @@ position_below p xs =
 
 -- an edge, if there is one, leads within
 abbrev pub EdgeWithin : ℕ → Option (ℕ × ℕ) → Type 0
-EdgeWithin count None = Unit {0}
-EdgeWithin count (Some e) = (e.0 < count) × (e.1 < count)
+EdgeWithin count found = IfSome found (λ edge. IsEdgeWithin count edge)
 
 between_within : (count : ℕ) (a b : Option ℕ) → Below count a → Below count b → EdgeWithin count (edge_between a b)
 between_within count None b h k = tt
 between_within count (Some u) None h k = tt
 between_within count (Some u) (Some v) h k =
-    elim (nat_eq u v) as (λ b. EdgeWithin count (cond b None (Some (u, v)))) [ true ↦ tt | false ↦ (h, k) ]
+    elim (nat_eq u v) as (λ b. EdgeWithin count (cond b None (Some (u, v)))) [
+      | true ↦ tt
+      | false ↦ record { from = h; to = k }
+    ]
 
 within_none : (count : ℕ) → LeadWithin count []
 within_none count = record { within = λ u v h. absurd (none_in_empty (u, v) h) }
@@ -110,7 +111,7 @@ within_edges count edges (e ∷ more) h k =
 within_option : (count : ℕ) (found : Option (ℕ × ℕ)) (edges : Edges) → EdgeWithin count found → LeadWithin count edges
     → LeadWithin count (cons_option found edges)
 within_option count None edges h k = k
-within_option count (Some e) edges h k = within_first count e edges h k
+within_option count (Some e) edges h k = within_first count e edges (h.from, h.to) k
 
 within_filter_map : {A : Type 0} (count : ℕ) (f : A → Option (ℕ × ℕ)) → ((x : A) → EdgeWithin count (f x))
     → (xs : List A) → LeadWithin count (filter_map f xs)
@@ -138,25 +139,18 @@ module _ (modules : List ModuleParts) where
   abbrev count : ℕ
   count = length (unit_titles (segments_of modules))
 
-  unit_below : (m s : ℕ) → Below count (unit_with modules m s)
-  unit_below m s =
-      subst (λ n. Below n (unit_with modules m s)) (sym (titles_are (segments_of modules)))
-      (position_below _ (units_of (segments_of modules)))
+  part_below : (part : Option (ℕ × ℕ))
+      → Below count (option_and_then (λ (p : ℕ × ℕ). position (nat_eq p.0) (units_of (segments_of modules))) part)
+  part_below None = tt
+  part_below (Some part) =
+      rw (titles_are (segments_of modules)) (position_below (nat_eq part.0) (units_of (segments_of modules)))
 
-  public_below : (m : ℕ) (base : Base) → Below count (public_unit modules m base)
-  public_below m NoBase = tt
-  public_below m (InSegment s) = unit_below m s
-  public_below m (OfExternal e) = tt
+  unit_below : (m : ℕ) (base : Base) → Below count (unit_of modules m base)
+  unit_below m base = part_below (referent modules m base).part
 
-  target_below : (m : ℕ) (target : Base) → Below count (target_unit modules m target)
-  target_below m NoBase = tt
-  target_below m (InSegment s) = unit_below m s
-  target_below m (OfExternal e) =
-      public_below (public_of modules m e).0 (public_base modules (public_of modules m e).0 (public_of modules m e).1)
-
-  pub fixup_within : (m : ℕ) (f : Fixup)
+  fixup_within : (m : ℕ) (f : Fixup)
       → EdgeWithin (length (unit_titles (segments_of modules))) (fixup_edge modules m f)
-  fixup_within m f = between_within count _ _ (unit_below m f.segment) (target_below m f.target)
+  fixup_within m f = between_within count _ _ (unit_below m (InSegment f.segment)) (unit_below m f.target)
 
   module_within : (m : ℕ) → LeadWithin count (module_edges modules m)
   module_within m =

@@ -4,13 +4,13 @@ use Rattle.std.specs.Prelude.{ℕ, Bool, false, not, ◌&&◌, nat_eq, if◌then
 use Rattle.std.specs.Prelude.{length, slice_get, Option, Some, None}
 use Rattle.std.specs.List.{list_any, filter_map, range_with_len}
 use Rattle.std.specs.Option.{option_map_or}
+use Rattle.m51_cells.specs.declared.kind.Base.TheVariants.{Segment as InSegment}
 use Rattle.m51_control.specs.declared.control.Control.{Control}
 use Rattle.m51_control.specs.declared.control.Control.TheVariants.{Add, Cut}
 use Rattle.m51_module.specs.declared.content.Fixup.{Fixup}
 use Rattle.m51_module.specs.declared.parts.ModuleParts.{ModuleParts}
 use Rattle.m51_module.specs.Walks.{Edges}
-use Rattle.m51_graph.specs.Targets.{target_unit, unit_with}
-use Rattle.m51_graph.specs.Units.{named}
+use Rattle.m51_graph.specs.Units.{named, unit_of}
 
 -- the edge from one unit to another: there is none from a unit to itself
 abbrev pub edge_between : Option ℕ → Option ℕ → Option (ℕ × ℕ)
@@ -20,7 +20,7 @@ edge_between (Some from) (Some to) = if nat_eq from to then None else Some (from
 
 -- the edge that a fixup makes, whatever its form
 abbrev pub fixup_edge : List ModuleParts → ℕ → Fixup → Option (ℕ × ℕ)
-fixup_edge modules m f = edge_between (unit_with modules m f.segment) (target_unit modules m f.target)
+fixup_edge modules m f = edge_between (unit_of modules m (InSegment f.segment)) (unit_of modules m f.target)
 
 -- the edge is one of these
 abbrev pub same_edge : ℕ × ℕ → ℕ × ℕ → Bool

@@ -1,6 +1,7 @@
 -- What the decisions in the definition of a graph decide, and where an edge is.
 use Rattle.std.specs.Prelude.{◌≡◌, ◌≢◌, ◌⊎◌, ◌↔◌, ℕ, ◌<◌, true, List, slice_get, Some}
 use Rattle.std.specs.List.{Contains}
+use Rattle.m51_cells.specs.declared.kind.Base.TheVariants.{Segment as InSegment}
 use Rattle.m51_control.specs.declared.control.Control.{Control}
 use Rattle.m51_control.specs.declared.control.Control.TheVariants.{Add, Cut}
 use Rattle.m51_module.specs.declared.content.Fixup.{Fixup}
@@ -9,12 +10,11 @@ use Rattle.m51_module.specs.Walks.{Edges, HasEdge, Reaches}
 use Rattle.m51_resolve.specs.Joining.{segments_of}
 use Rattle.m51_graph.specs.declared.parts.GraphParts.{GraphParts}
 use Rattle.m51_graph.specs.Drawing.{edges_of, fixup_edges}
-use Rattle.m51_graph.specs.Targets.{target_unit, unit_with}
 use Rattle.m51_graph.specs.Graph.{UnitLiesUnder}
 use Rattle.m51_graph.specs.Graphs.{lies_under}
 use Rattle.m51_graph.specs.Leading.{leads}
 use Rattle.m51_graph.specs.Levels.{IsLevel, level_of}
-use Rattle.m51_graph.specs.Units.{named, unit_titles}
+use Rattle.m51_graph.specs.Units.{named, unit_of, unit_titles}
 
 -- over any edges one unit leads to another exactly if it reaches it
 abbrev pub LeadingIsReaching : Type 0
@@ -38,8 +38,8 @@ pub record RefersTo (modules : List ModuleParts) (u v : ℕ) : Type 0 where
   pub is : slice_get modules number ≡ Some parts
   pub fixup : Fixup
   pub there : Contains parts.fixups fixup
-  pub from : unit_with modules number fixup.segment ≡ Some u
-  pub to : target_unit modules number fixup.target ≡ Some v
+  pub from : unit_of modules number (InSegment fixup.segment) ≡ Some u
+  pub to : unit_of modules number fixup.target ≡ Some v
 
 -- a control line adds the edge, as OVERLAY(u > v, w)
 pub record IsAdded (titles : List (List ℕ)) (controls : List (ℕ × Control)) (u v : ℕ) : Type 0 where

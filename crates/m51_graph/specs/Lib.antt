@@ -1,5 +1,4 @@
 pub mod Climbing
-pub mod Conditions
 pub mod Drawing
 pub mod DrawnEdges
 pub mod Graph
@@ -13,5 +12,4 @@ pub mod Locals
 pub mod Numbered
 pub mod Ordering
 pub mod Relating
-pub mod Targets
 pub mod Units

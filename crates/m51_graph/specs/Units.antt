@@ -1,11 +1,17 @@
--- The units of a program: its joined segments of program memory, in joined order. Their titles, and which are roots.
-use Rattle.std.specs.Prelude.{◌≡◌, ℕ, ◌+◌, Bool, true, false, ◌&&◌, nat_eq, if◌then◌else◌, List, [], ◌∷◌, map, filter}
-use Rattle.std.specs.Prelude.{position, Option}
+-- The units of a program: its joined segments of program memory, in joined order. Their titles, which are roots, and to
+-- which modules refer.
+use Rattle.std.specs.Prelude.{ℕ, ◌+◌, Bool, ◌&&◌, nat_eq, if◌then◌else◌, List, [], ◌∷◌, map}
+use Rattle.std.specs.Prelude.{filter, position, Option, option_and_then}
 use Rattle.std.specs.List.{list_any}
 use Rattle.std.specs.Str.{bytes_eq}
+use Rattle.m51_cells.specs.declared.kind.Base.{Base}
 use Rattle.m51_cells.specs.Kinds.{is_absolute, is_code}
+use Rattle.m51_module.specs.declared.parts.ModuleParts.{ModuleParts}
 use Rattle.m51_module.specs.Roots.{vectors}
+use Rattle.m51_resolve.specs.declared.referent.Referent.{Referent}
 use Rattle.m51_resolve.specs.declared.segment.JoinedSegment.{JoinedSegment}
+use Rattle.m51_resolve.specs.Joining.{segments_of}
+use Rattle.m51_resolve.specs.Referents.{referent}
 
 -- the joined numbers of the units among segments, the first of which has that number
 abbrev pub units_from : ℕ → List JoinedSegment → List ℕ
@@ -42,3 +48,11 @@ roots_from unit (j ∷ more) =
 -- the vector and the unit of each root
 abbrev pub roots_of : List JoinedSegment → List (ℕ × ℕ)
 roots_of segments = roots_from 0 (code_segments segments)
+
+-- the unit in which a part lies to which is referred, if that is of program memory
+abbrev pub unit_at : List ℕ → Referent → Option ℕ
+unit_at units r = option_and_then (λ (part : ℕ × ℕ). position (nat_eq part.0) units) r.part
+
+-- the unit to which a base of the module of that number refers, directly or by an external
+abbrev pub unit_of : List ModuleParts → ℕ → Base → Option ℕ
+unit_of modules m base = unit_at (units_of (segments_of modules)) (referent modules m base)

@@ -1,18 +1,18 @@
 //! The edges between units.
-ghost use Rattle.std.specs.Prelude.{◌≡◌, ◌||◌, ℕ, IfOk, IfSome, IsOk, IsSome, Some, filter, length, not, slice_get};
+ghost use Rattle.std.specs.Prelude.{◌≡◌, ◌||◌, ℕ, IfOk, IfSome, IsOk, Some, filter, length, not, slice_get};
 ghost use Rattle.std.specs.List.{filter_map, list_any};
-ghost use Rattle.m51_resolve.specs.Joining.{segments_of, segment_at};
-ghost use Rattle.m51_graph.specs.Conditions.{IsTargetThere, IsEdgeWithin};
+ghost use Rattle.m51_resolve.specs.Joining.{segments_of};
+ghost use Rattle.m51_resolve.specs.Referents.{IsFixupThere};
+ghost use Rattle.m51_graph.specs.DrawnEdges.{IsEdgeWithin};
 ghost use Rattle.m51_graph.specs.Drawing.{added_by, cuts, edge_between, edge_named, edges_of, fixup_edge, fixup_edges};
 ghost use Rattle.m51_graph.specs.Drawing.{is_cut, is_edge, module_edges, with_added, with_edges};
 ghost use Rattle.m51_relations.specs.Rows.{pairs};
 ghost use Rattle.m51_graph.specs.Units.{units_of};
 
 use crate::edge_list::EdgeList;
-use crate::targets::{target_unit, unit_with};
 use crate::unit_names::UnitNames;
 use crate::unit_table::UnitTable;
-use m51_cells::{Name, NoMemory};
+use m51_cells::{Base, Name, NoMemory};
 use m51_control::Control;
 use m51_module::{Fixup, Module};
 use m51_relations::BitRows;
@@ -31,14 +31,13 @@ pub(crate) fn edge_between(from: Option<u16>, to: Option<u16>) -> Option<(u16, u
 
 // The edge that a fixup makes, whatever its form.
 fn fixup_edge(joined: &Joined, units: &UnitTable, module: u8, fixup: &Fixup) -> Option<(u16, u16)>
-    requires field { IsSome (segment_at joined.now «module» fixup.now.segment) }
-    requires target { IsTargetThere joined.now «module» fixup.now.target }
+    requires there { IsFixupThere joined.now «module» fixup.now }
     requires units { units.now ≡ units_of (segments_of joined.now) }
     ensures { result ≡ fixup_edge joined.now «module» fixup.now }
 {
     edge_between(
-        unit_with(joined, units, module, fixup.segment),
-        target_unit(joined, units, module, fixup.target),
+        units.unit_at(joined.referent(module, Base::Segment(fixup.segment))),
+        units.unit_at(joined.referent(module, fixup.target)),
     )
 }
 

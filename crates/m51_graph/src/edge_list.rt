@@ -1,9 +1,8 @@
 //! Edges in the order in which they are drawn.
 ghost use Rattle.std.specs.Prelude.{◌≡◌, ◌≤◌, [], IfOk, IfSome, IsOk};
 ghost use Rattle.m51_cells.specs.declared.limits.TheConstants.{MOST_UNITS};
-ghost use Rattle.m51_graph.specs.Conditions.{IsEdgeWithin};
 ghost use Rattle.m51_graph.specs.Drawing.{has_edge, with_edge};
-ghost use Rattle.m51_graph.specs.DrawnEdges.{with_found};
+ghost use Rattle.m51_graph.specs.DrawnEdges.{IsEdgeWithin, with_found};
 
 use m51_cells::NoMemory;
 use m51_relations::BitRows;

@@ -15,7 +15,6 @@ mod parts;
 mod reaching;
 mod relating;
 mod tables;
-mod targets;
 mod unit_names;
 mod unit_table;
 mod units;

@@ -1,13 +1,13 @@
 //! Which unit each joined segment is.
-ghost use Rattle.std.specs.Prelude.{◌≡◌, ◌≤◌, IfOk, length, nat_eq, position};
+ghost use Rattle.std.specs.Prelude.{◌≡◌, ◌≤◌, IfOk, length};
 ghost use Rattle.m51_cells.specs.declared.limits.TheConstants.{MOST_UNITS, MOST_SEGMENTS};
 ghost use Rattle.m51_graph.specs.Numbered.{units_by_segment};
-ghost use Rattle.m51_graph.specs.Units.{units_of};
+ghost use Rattle.m51_graph.specs.Units.{unit_at, units_of};
 
 use crate::units::unit_numbers;
 use m51_cells::{NoMemory, is_code};
 use m51_relations::item_or;
-use m51_resolve::JoinedSegment;
+use m51_resolve::{JoinedSegment, Referent};
 use std::alloc::Global;
 use std::marker::Model;
 
@@ -67,10 +67,11 @@ impl UnitTable {
         self.units.len()
     }
 
-    // The unit that has this joined number.
-    pub(crate) fn with_number(&self, number: u16) -> Option<u16>
-        ensures { result ≡ position (nat_eq number) self.now }
+    // The unit in which the part lies to which is referred, if that is of program memory.
+    pub(crate) fn unit_at(&self, referent: Referent) -> Option<u16>
+        ensures { result ≡ unit_at self.now referent }
     {
-        item_or(&self.by_segment, usize::from(number), None)
+        let (segment, _) = referent.part?;
+        item_or(&self.by_segment, usize::from(segment.get()), None)
     }
 }

@@ -1,12 +1,13 @@
 -- The mnemonics are those of the rows, and CALL.
-use Rattle.std.proofs.Common.{◌≡◌, ℕ, Bool, true, false, List, [], ◌∷◌, refl, subst, ◌⊎◌, inl, inr}
+use Rattle.std.proofs.Common.{◌≡◌, ℕ, Bool, true, false, List, [], ◌∷◌, Option, Some, None}
+use Rattle.std.proofs.Common.{map, refl, subst, ◌⊎◌, inl, inr}
 use Rattle.std.specs.Prelude.{◌||◌, codes}
-use Rattle.std.specs.List.{list_any}
+use Rattle.std.specs.List.{list_any, range_with_len}
 use Rattle.std.specs.Str.{bytes_eq}
 use Rattle.std.proofs.lemmas.Slice.Eq.{bytes_eq-Decides}
 use Rattle.m51_isa.specs.declared.instr.Instr.{Instr}
-use Rattle.m51_isa.specs.declared.instr.Instr.TheVariants as row
 use Rattle.m51_isa.specs.Spelling.{text_of}
+use Rattle.m51_isa.specs.Table.{decoded_at}
 use Rattle.m51_isa.specs.Mnemonics.{mnemonics, is_mnemonic}
 use Rattle.m51_isa.specs.MnemonicLaws.{IsOfRow, MnemonicsAreOfRows}
 use Rattle.m51_isa.proofs.FoundMnemonics.{row_has_mnemonic, call_is_mnemonic}
@@ -14,159 +15,46 @@ use Rattle.m51_isa.proofs.FoundMnemonics.{row_has_mnemonic, call_is_mnemonic}
 abbrev Named : List ℕ → Type 0
 Named word = (word ≡ codes "CALL") ⊎ IsOfRow word
 
-abbrev AreNamed : List (List ℕ) → Type 0
-AreNamed [] = Unit {0}
-AreNamed (word ∷ words) = Named word × AreNamed words
+-- a row has this mnemonic
+abbrev is_written : List ℕ → Option Instr → Bool
+is_written word (Some i) = bytes_eq (text_of i).mnemonic word
+is_written word None = false
 
-by : (i : Instr) → Named (text_of i).mnemonic
-by i = inr (record { row = i; is = refl })
+-- the row of one of these opcodes has it
+abbrev has_opcode : List ℕ → List ℕ → Bool
+has_opcode word [] = false
+has_opcode word (opcode ∷ more) = is_written word (decoded_at opcode 0 0) || has_opcode word more
 
-all_named : AreNamed mnemonics
-all_named = (
-  by (row.AcallAddr11 0),
-  (
-    by (row.AddAData 0),
-    (
-      by (row.AddcAData 0),
-      (
-        by (row.AjmpAddr11 0),
-        (
-          by (row.AnlAData 0),
-          (
-            inl refl,
-            (
-              by (row.CjneADataRel 0 0),
-              (
-                by row.ClrA,
-                (
-                  by row.CplA,
-                  (
-                    by row.DaA,
-                    (
-                      by row.DecA,
-                      (
-                        by row.DivAb,
-                        (
-                          by (row.DjnzDirectRel 0 0),
-                          (
-                            by row.IncA,
-                            (
-                              by (row.JbBitRel 0 0),
-                              (
-                                by (row.JbcBitRel 0 0),
-                                (
-                                  by (row.JcRel 0),
-                                  (
-                                    by row.JmpAtADptr,
-                                    (
-                                      by (row.JnbBitRel 0 0),
-                                      (
-                                        by (row.JncRel 0),
-                                        (
-                                          by (row.JnzRel 0),
-                                          (
-                                            by (row.JzRel 0),
-                                            (
-                                              by (row.LcallAddr16 0),
-                                              (
-                                                by (row.LjmpAddr16 0),
-                                                (
-                                                  by (row.MovAData 0),
-                                                  (
-                                                    by row.MovcAAtAPc,
-                                                    (
-                                                      by row.MovxAAtDptr,
-                                                      (
-                                                        by row.MulAb,
-                                                        (
-                                                          by row.Nop,
-                                                          (
-                                                            by (row.OrlAData 0),
-                                                            (
-                                                              by (row.PopDirect 0),
-                                                              (
-                                                                by (row.PushDirect 0),
-                                                                (
-                                                                  by row.Ret,
-                                                                  (
-                                                                    by row.Reti,
-                                                                    (
-                                                                      by row.RlA,
-                                                                      (
-                                                                        by row.RlcA,
-                                                                        (
-                                                                          by row.RrA,
-                                                                          (
-                                                                            by row.RrcA,
-                                                                            (
-                                                                              by row.SetbC,
-                                                                              (
-                                                                                by (row.SjmpRel 0),
-                                                                                (
-                                                                                  by (row.SubbAData 0),
-                                                                                  (
-                                                                                    by row.SwapA,
-                                                                                    (
-                                                                                      by (row.XchADirect
-                                                                                          0),
-                                                                                      (
-                                                                                        by (row.XchdAAtRi 0),
-                                                                                        (by (row.XrlAData 0), tt),
-                                                                                      ),
-                                                                                    ),
-                                                                                  ),
-                                                                                ),
-                                                                              ),
-                                                                            ),
-                                                                          ),
-                                                                        ),
-                                                                      ),
-                                                                    ),
-                                                                  ),
-                                                                ),
-                                                              ),
-                                                            ),
-                                                          ),
-                                                        ),
-                                                      ),
-                                                    ),
-                                                  ),
-                                                ),
-                                              ),
-                                            ),
-                                          ),
-                                        ),
-                                      ),
-                                    ),
-                                  ),
-                                ),
-                              ),
-                            ),
-                          ),
-                        ),
-                      ),
-                    ),
-                  ),
-                ),
-              ),
-            ),
-          ),
-        ),
-      ),
-    ),
-  ),
-)
+abbrev is_named : List ℕ → Bool
+is_named word = bytes_eq word (codes "CALL") || has_opcode word (range_with_len 0 256)
 
-found : (w word : List ℕ) (b rest : Bool) → bytes_eq w word ≡ b → Named w → (rest ≡ true → Named word)
-    → (b || rest) ≡ true → Named word
-found w word true rest e n go h = subst Named ((bytes_eq-Decides w word).0 e) n
-found w word false rest e n go h = go h
+all_named : map is_named mnemonics ≡ map (λ word. true) mnemonics
+all_named = refl
 
-among : (word : List ℕ) (words : List (List ℕ)) → AreNamed words → list_any (λ w. bytes_eq w word) words ≡ true
-    → Named word
-among word [] named h = absurd (cc h)
-among word (w ∷ words) named h =
-    found w word (bytes_eq w word) (list_any (λ w. bytes_eq w word) words) refl named.0 (among word words named.1) h
+by_test : {P : Type 0} (v w : List ℕ) (hit more : Bool) → bytes_eq v w ≡ hit → (v ≡ w → P) → (more ≡ true → P)
+    → (hit || more) ≡ true → P
+by_test v w true more e here go h = here ((bytes_eq-Decides v w).0 e)
+by_test v w false more e here go h = go h
+
+row_named : (word : List ℕ) (o : Option Instr) (more : Bool) → (more ≡ true → IsOfRow word)
+    → (is_written word o || more) ≡ true → IsOfRow word
+row_named word None more go h = go h
+row_named word (Some i) more go h =
+    by_test (text_of i).mnemonic word _ more refl (λ is. record { row = i; is = is }) go h
+
+opcode_named : (word opcodes : List ℕ) → has_opcode word opcodes ≡ true → IsOfRow word
+opcode_named word [] h = absurd (cc h)
+opcode_named word (opcode ∷ more) h =
+    row_named word (decoded_at opcode 0 0) (has_opcode word more) (opcode_named word more) h
+
+named : (word : List ℕ) → is_named word ≡ true → Named word
+named word h = by_test word (codes "CALL") _ _ refl inl (λ e. inr (opcode_named word (range_with_len 0 256) e)) h
+
+among : (word : List ℕ) (words : List (List ℕ)) → map is_named words ≡ map (λ word. true) words
+    → list_any (λ w. bytes_eq w word) words ≡ true → Named word
+among word [] same h = absurd (cc h)
+among word (w ∷ words) same h =
+    by_test w word _ _ refl (λ is. subst Named is (named w (cc same))) (among word words (cc same)) h
 
 mnemonic_named : (word : List ℕ) → is_mnemonic word ≡ true → Named word
 unfolding is_mnemonic

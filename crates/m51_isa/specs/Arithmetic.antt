@@ -1,11 +1,10 @@
 -- Sums and differences, by mnemonic.
-use Rattle.std.specs.Prelude.{ℕ, if◌then◌else◌, List, codes, Option, Some, None}
-use Rattle.std.specs.Str.{bytes_eq}
+use Rattle.std.specs.Prelude.{ℕ, List, [], ◌∷◌, codes, Option, Some, None}
 use Rattle.m51_isa.specs.declared.instr.Instr.{Instr}
 use Rattle.m51_isa.specs.declared.instr.Instr.TheVariants as row
 use Rattle.m51_isa.specs.declared.look.Look.{Look}
 use Rattle.m51_isa.specs.declared.look.Look.TheVariants.{Nothing, A, Dptr, R, AtR, Imm, Plain}
-use Rattle.m51_isa.specs.Looks.{both, accumulator}
+use Rattle.m51_isa.specs.Looks.{Mnemonic, found_in, both, accumulator}
 
 -- the rows of ADD
 abbrev pub add : Look → Look → Look → Option Instr
@@ -48,15 +47,13 @@ dec (AtR n) Nothing Nothing = Some (row.DecAtRi n)
 dec Plain Nothing Nothing = Some (row.DecDirect 0)
 dec _ _ _ = None
 
+-- these mnemonics, with their rows
+abbrev pub arithmetic_rows : List Mnemonic
+arithmetic_rows =
+    (codes "ADD", add) ∷ (codes "ADDC", addc) ∷ (codes "SUBB", subb) ∷ (codes "INC", inc)
+    ∷ (codes "DEC", dec) ∷ (codes "MUL", both row.MulAb) ∷ (codes "DIV", both row.DivAb)
+    ∷ (codes "DA", accumulator row.DaA) ∷ []
+
 -- the row of one of these mnemonics with operands that look so
 unfoldable pub arithmetic : List ℕ → Look → Look → Look → Option Instr
-arithmetic word a b c =
-    if bytes_eq word (codes "ADD") then add a b c
-    else if bytes_eq word (codes "ADDC") then addc a b c
-    else if bytes_eq word (codes "SUBB") then subb a b c
-    else if bytes_eq word (codes "INC") then inc a b c
-    else if bytes_eq word (codes "DEC") then dec a b c
-    else if bytes_eq word (codes "MUL") then both row.MulAb a b c
-    else if bytes_eq word (codes "DIV") then both row.DivAb a b c
-    else if bytes_eq word (codes "DA") then accumulator row.DaA a b c
-    else None
+arithmetic word a b c = found_in arithmetic_rows word a b c

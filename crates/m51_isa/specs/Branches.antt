@@ -1,11 +1,10 @@
 -- Jumps on a condition, by mnemonic.
-use Rattle.std.specs.Prelude.{ℕ, if◌then◌else◌, List, codes, Option, Some, None}
-use Rattle.std.specs.Str.{bytes_eq}
+use Rattle.std.specs.Prelude.{ℕ, List, [], ◌∷◌, codes, Option, Some, None}
 use Rattle.m51_isa.specs.declared.instr.Instr.{Instr}
 use Rattle.m51_isa.specs.declared.instr.Instr.TheVariants as row
 use Rattle.m51_isa.specs.declared.look.Look.{Look}
 use Rattle.m51_isa.specs.declared.look.Look.TheVariants.{Nothing, A, R, AtR, Imm, Plain}
-use Rattle.m51_isa.specs.Looks.{address, bit_and_target}
+use Rattle.m51_isa.specs.Looks.{Mnemonic, found_in, address, bit_and_target}
 
 -- the rows of CJNE
 abbrev pub cjne : Look → Look → Look → Option Instr
@@ -21,16 +20,14 @@ djnz (R n) Plain Nothing = Some (row.DjnzRnRel n 0)
 djnz Plain Plain Nothing = Some (row.DjnzDirectRel 0 0)
 djnz _ _ _ = None
 
+-- these mnemonics, with their rows
+abbrev pub branches_rows : List Mnemonic
+branches_rows =
+    (codes "CJNE", cjne) ∷ (codes "DJNZ", djnz) ∷ (codes "JB", bit_and_target (row.JbBitRel 0 0))
+    ∷ (codes "JBC", bit_and_target (row.JbcBitRel 0 0)) ∷ (codes "JNB", bit_and_target (row.JnbBitRel 0 0))
+    ∷ (codes "JC", address (row.JcRel 0)) ∷ (codes "JNC", address (row.JncRel 0))
+    ∷ (codes "JZ", address (row.JzRel 0)) ∷ (codes "JNZ", address (row.JnzRel 0)) ∷ []
+
 -- the row of one of these mnemonics with operands that look so
 unfoldable pub branches : List ℕ → Look → Look → Look → Option Instr
-branches word a b c =
-    if bytes_eq word (codes "CJNE") then cjne a b c
-    else if bytes_eq word (codes "DJNZ") then djnz a b c
-    else if bytes_eq word (codes "JB") then bit_and_target (row.JbBitRel 0 0) a b c
-    else if bytes_eq word (codes "JBC") then bit_and_target (row.JbcBitRel 0 0) a b c
-    else if bytes_eq word (codes "JNB") then bit_and_target (row.JnbBitRel 0 0) a b c
-    else if bytes_eq word (codes "JC") then address (row.JcRel 0) a b c
-    else if bytes_eq word (codes "JNC") then address (row.JncRel 0) a b c
-    else if bytes_eq word (codes "JZ") then address (row.JzRel 0) a b c
-    else if bytes_eq word (codes "JNZ") then address (row.JnzRel 0) a b c
-    else None
+branches word a b c = found_in branches_rows word a b c

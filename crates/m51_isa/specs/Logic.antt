@@ -1,11 +1,10 @@
 -- Logic on bytes and bits, by mnemonic.
-use Rattle.std.specs.Prelude.{ℕ, if◌then◌else◌, List, codes, Option, Some, None}
-use Rattle.std.specs.Str.{bytes_eq}
+use Rattle.std.specs.Prelude.{ℕ, List, [], ◌∷◌, codes, Option, Some, None}
 use Rattle.m51_isa.specs.declared.instr.Instr.{Instr}
 use Rattle.m51_isa.specs.declared.instr.Instr.TheVariants as row
 use Rattle.m51_isa.specs.declared.look.Look.{Look}
 use Rattle.m51_isa.specs.declared.look.Look.TheVariants.{Nothing, A, C, R, AtR, Imm, Plain, NotBit}
-use Rattle.m51_isa.specs.Looks.{accumulator}
+use Rattle.m51_isa.specs.Looks.{Mnemonic, found_in, accumulator}
 
 -- the rows of ANL
 abbrev pub anl : Look → Look → Look → Option Instr
@@ -61,18 +60,14 @@ setb C Nothing Nothing = Some row.SetbC
 setb Plain Nothing Nothing = Some (row.SetbBit 0)
 setb _ _ _ = None
 
+-- these mnemonics, with their rows
+abbrev pub logic_rows : List Mnemonic
+logic_rows =
+    (codes "ANL", anl) ∷ (codes "ORL", orl) ∷ (codes "XRL", xrl) ∷ (codes "CLR", clr) ∷ (codes "CPL", cpl)
+    ∷ (codes "SETB", setb) ∷ (codes "RL", accumulator row.RlA) ∷ (codes "RLC", accumulator row.RlcA)
+    ∷ (codes "RR", accumulator row.RrA) ∷ (codes "RRC", accumulator row.RrcA)
+    ∷ (codes "SWAP", accumulator row.SwapA) ∷ []
+
 -- the row of one of these mnemonics with operands that look so
 unfoldable pub logic : List ℕ → Look → Look → Look → Option Instr
-logic word a b c =
-    if bytes_eq word (codes "ANL") then anl a b c
-    else if bytes_eq word (codes "ORL") then orl a b c
-    else if bytes_eq word (codes "XRL") then xrl a b c
-    else if bytes_eq word (codes "CLR") then clr a b c
-    else if bytes_eq word (codes "CPL") then cpl a b c
-    else if bytes_eq word (codes "SETB") then setb a b c
-    else if bytes_eq word (codes "RL") then accumulator row.RlA a b c
-    else if bytes_eq word (codes "RLC") then accumulator row.RlcA a b c
-    else if bytes_eq word (codes "RR") then accumulator row.RrA a b c
-    else if bytes_eq word (codes "RRC") then accumulator row.RrcA a b c
-    else if bytes_eq word (codes "SWAP") then accumulator row.SwapA a b c
-    else None
+logic word a b c = found_in logic_rows word a b c

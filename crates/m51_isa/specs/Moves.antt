@@ -1,11 +1,10 @@
 -- Moves, by mnemonic.
-use Rattle.std.specs.Prelude.{ℕ, if◌then◌else◌, List, codes, Option, Some, None}
-use Rattle.std.specs.Str.{bytes_eq}
+use Rattle.std.specs.Prelude.{ℕ, List, [], ◌∷◌, codes, Option, Some, None}
 use Rattle.m51_isa.specs.declared.instr.Instr.{Instr}
 use Rattle.m51_isa.specs.declared.instr.Instr.TheVariants as row
 use Rattle.m51_isa.specs.declared.look.Look.{Look}
 use Rattle.m51_isa.specs.declared.look.Look.TheVariants.{Nothing, A, C, Dptr, APc, ADptr, AtDptr, R, AtR, Imm, Plain}
-use Rattle.m51_isa.specs.Looks.{address}
+use Rattle.m51_isa.specs.Looks.{Mnemonic, found_in, address}
 
 -- the rows of MOV
 abbrev pub mov : Look → Look → Look → Option Instr
@@ -55,14 +54,13 @@ abbrev pub xchd : Look → Look → Look → Option Instr
 xchd A (AtR n) Nothing = Some (row.XchdAAtRi n)
 xchd _ _ _ = None
 
+-- these mnemonics, with their rows
+abbrev pub moves_rows : List Mnemonic
+moves_rows =
+    (codes "MOV", mov) ∷ (codes "MOVC", movc) ∷ (codes "MOVX", movx) ∷ (codes "XCH", xch)
+    ∷ (codes "XCHD", xchd) ∷ (codes "PUSH", address (row.PushDirect 0))
+    ∷ (codes "POP", address (row.PopDirect 0)) ∷ []
+
 -- the row of one of these mnemonics with operands that look so
 unfoldable pub moves : List ℕ → Look → Look → Look → Option Instr
-moves word a b c =
-    if bytes_eq word (codes "MOV") then mov a b c
-    else if bytes_eq word (codes "MOVC") then movc a b c
-    else if bytes_eq word (codes "MOVX") then movx a b c
-    else if bytes_eq word (codes "XCH") then xch a b c
-    else if bytes_eq word (codes "XCHD") then xchd a b c
-    else if bytes_eq word (codes "PUSH") then address (row.PushDirect 0) a b c
-    else if bytes_eq word (codes "POP") then address (row.PopDirect 0) a b c
-    else None
+moves word a b c = found_in moves_rows word a b c

@@ -74,55 +74,7 @@ pub fn length(instr: &Instr) -> u8
         | Instr::MovDirectRn(..)
         | Instr::MovRnDirect(..)
         | Instr::DjnzRnRel(..) => 2,
-        Instr::Nop
-        | Instr::MovxAAtDptr
-        | Instr::MovxAtDptrA
-        | Instr::Ret
-        | Instr::Reti
-        | Instr::MovxAAtRi(..)
-        | Instr::MovxAtRiA(..)
-        | Instr::RrA
-        | Instr::RrcA
-        | Instr::RlA
-        | Instr::RlcA
-        | Instr::JmpAtADptr
-        | Instr::MovcAAtAPc
-        | Instr::MovcAAtADptr
-        | Instr::IncDptr
-        | Instr::CplC
-        | Instr::ClrC
-        | Instr::SetbC
-        | Instr::IncA
-        | Instr::DecA
-        | Instr::DivAb
-        | Instr::MulAb
-        | Instr::SwapA
-        | Instr::DaA
-        | Instr::ClrA
-        | Instr::CplA
-        | Instr::IncAtRi(..)
-        | Instr::DecAtRi(..)
-        | Instr::AddAAtRi(..)
-        | Instr::AddcAAtRi(..)
-        | Instr::OrlAAtRi(..)
-        | Instr::AnlAAtRi(..)
-        | Instr::XrlAAtRi(..)
-        | Instr::SubbAAtRi(..)
-        | Instr::XchAAtRi(..)
-        | Instr::XchdAAtRi(..)
-        | Instr::MovAAtRi(..)
-        | Instr::MovAtRiA(..)
-        | Instr::IncRn(..)
-        | Instr::DecRn(..)
-        | Instr::AddARn(..)
-        | Instr::AddcARn(..)
-        | Instr::OrlARn(..)
-        | Instr::AnlARn(..)
-        | Instr::XrlARn(..)
-        | Instr::SubbARn(..)
-        | Instr::XchARn(..)
-        | Instr::MovARn(..)
-        | Instr::MovRnA(..) => 1,
+        _ => 1,
     }
 }
 

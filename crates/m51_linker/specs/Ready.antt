@@ -1,13 +1,13 @@
 -- Of the code: what its steps ask of placed modules and of their fixups, and what the step that refuses answers.
-use Rattle.std.specs.Prelude.{◌≡◌, ℕ, ◌+◌, ◌<◌, ◌≤◌, List, IsSome, Option, Some, None, Result, Ok, Err}
+use Rattle.std.specs.Prelude.{◌≡◌, ℕ, ◌+◌, ◌<◌, ◌≤◌, List, Option, Some, None, Result, Ok, Err}
 use Rattle.std.specs.List.{All}
 use Rattle.m51_module.specs.declared.content.Fixup.{Fixup}
 use Rattle.m51_module.specs.declared.linked.Refusal.{Refusal}
 use Rattle.m51_module.specs.declared.parts.ModuleParts.{ModuleParts}
 use Rattle.m51_module.specs.Validity.{field_len, IsValid}
-use Rattle.m51_resolve.specs.Joining.{part_of, segment_at, segments_of}
+use Rattle.m51_resolve.specs.Joining.{part_of, segments_of}
+use Rattle.m51_resolve.specs.Referents.{IsFixupThere}
 use Rattle.m51_resolve.specs.Rules.{AreResolved, but_memory}
-use Rattle.m51_graph.specs.Conditions.{IsTargetThere}
 use Rattle.m51_place.specs.declared.placing.Placing.{Placing}
 use Rattle.m51_place.specs.Places.{ArePlaces}
 use Rattle.m51_linker.specs.Targets.{address_of}
@@ -18,10 +18,9 @@ pub record ArePlaced (modules : List ModuleParts) (placing : Placing) : Type 0 w
   pub resolved : AreResolved modules
   pub bases : ArePlaces (segments_of modules) placing
 
--- a fixup of the module has its field in program memory, and its target exists
+-- the module has what its fixup names, and the field lies in program memory
 pub record IsFixupPlaced (modules : List ModuleParts) (placing : Placing) (m : ℕ) (f : Fixup) : Type 0 where
-  pub segment : IsSome (segment_at modules m f.segment)
-  pub target : IsTargetThere modules m f.target
+  pub there : IsFixupThere modules m f
   pub bit : f.bit ≤ 7
   pub inside : address_of modules placing m f.segment f.offset + field_len f.form ≤ 65536
   pub offset : (part_of modules m f.segment).1 + f.offset < 65536

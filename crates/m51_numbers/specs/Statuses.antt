@@ -1,9 +1,9 @@
 -- The exit status of the command for each way in which it ends. docs/COMMAND.md has the same table.
 use Rattle.std.specs.Prelude.{◌≡◌, ℕ}
-use Rattle.m51_verbs.specs.declared.status.TheConstants.{NOT_TEXT}
-use Rattle.m51_verbs.specs.declared.status.Status.{Status}
-use Rattle.m51_verbs.specs.declared.status.Status.TheVariants.{Ran, Event, Usage, Source, Link, Object, Script, Limit}
-use Rattle.m51_verbs.specs.declared.status.Status.TheVariants.{ReadFault, WriteFault, Memory, Stack}
+use Rattle.m51_chain.specs.declared.status.TheConstants.{NOT_TEXT}
+use Rattle.m51_chain.specs.declared.status.Status.{Status}
+use Rattle.m51_chain.specs.declared.status.Status.TheVariants.{Ran, Event, Usage, Source, Link, Object, Script, Limit}
+use Rattle.m51_chain.specs.declared.status.Status.TheVariants.{ReadFault, WriteFault, Memory, Stack}
 
 abbrev pub exit_number : Status → ℕ
 exit_number Ran = 0

@@ -5,7 +5,7 @@ ghost use Rattle.m51_numbers.specs.Limits.{LimitsHaveNumbers};
 ghost use Rattle.m51_numbers.specs.Records.{RecordsHaveTypes};
 ghost use Rattle.m51_numbers.specs.Statuses.{NotTextHasNumber, exit_number};
 
-use m51_verbs::Status;
+use m51_chain::Status;
 
 /// The faults of a source have the numbers 1 to 19.
 ///

@@ -1,22 +1,17 @@
 -- Records of a board, with frames that are the same before a cycle.
-use Rattle.m51_party.proofs.Common.{◌≡◌, ℕ, zero, suc, ◌+◌, ◌≤◌, ◌<◌, inl, inr, List, [], ◌++◌, Option, Some, None}
-use Rattle.m51_party.proofs.Common.{Result, Ok, Err, refl, sym, ap, subst, ◌∙◌, arith, Port, Event, LayoutParts, Frame}
-use Rattle.m51_party.proofs.Common.{Timed, Inputs, frames_in, next_cycle, with_extra, attempt_of, changed_by, Machine}
+use Rattle.std.proofs.lemmas.Grind.{common_steps}
+use Rattle.m51_party.proofs.Common.{◌≡◌, ℕ, zero, suc, ◌+◌, ◌≤◌, ◌<◌, inl, inr, List}
+use Rattle.m51_party.proofs.Common.{Result, Ok, Err, refl, subst, arith, Event, LayoutParts}
+use Rattle.m51_party.proofs.Common.{Timed, Inputs, frames_in, next_cycle, with_extra, attempt_of, changed_by}
 use Rattle.m51_party.proofs.Common.{Record, State, record_from, Separate, memory_after, separate_effect}
 use Rattle.m51_party.proofs.Common.{separate_machine, separate_performs, frames_sent}
-use Rattle.std.specs.Option.{option_map}
 use Rattle.m51_sim.specs.Cycles.{cycles_passed}
 use Rattle.m51_sim.specs.Effects.{passed_into, port_entry}
 use Rattle.m51_sim.specs.Runs.{Performed, record_of}
 use Rattle.m51_party.proofs.Words.{Allowed, Entries, Passing}
-use Rattle.m51_party.proofs.Frames.{From, from_append, none_before, sent_frames, step_frames, step_sent}
-use Rattle.m51_party.proofs.Ticks.{AreAlike, SameBefore, next_later, next_no_less, ticks_alike, ticks_from, ticks_go}
+use Rattle.m51_party.proofs.Frames.{From, from_append, none_before, step_frames, step_sent}
+use Rattle.m51_party.proofs.Ticks.{AreAlike, SameBefore, ticks_alike, ticks_from, ticks_go}
 use Rattle.m51_party.proofs.Ticks.{ticks_same, top}
-
-port_sends : (least cycle : ℕ) (value : ℕ → ℕ) (port : Option ℕ)
-    → From least (sent_frames (option_map (λ p. Port cycle p (value p)) port))
-port_sends least cycle value None = tt
-port_sends least cycle value (Some p) = tt
 
 module _ (l : LayoutParts) (image : List ℕ) where
   -- the cycles of a step that is allowed
@@ -33,15 +28,8 @@ module _ (l : LayoutParts) (image : List ℕ) where
       → From least (frames_sent (record_of (separate_machine l image inputs) n t)))
       → From least (frames_sent
       (record_from s (record_of (separate_machine l image inputs) n) (separate_performs l inputs s r)))
-  late_from inputs least n s (Err event) h k rest = tt
-  late_from inputs least n s (Ok a) h k rest =
-      let done = done_by inputs s a in
-      let go = ticks_from inputs least a.effect.cycles (changed_by s.cycle s.periph a.effect) h k in
-      subst (From least) (sym (step_sent done.told (record_of (separate_machine l image inputs) n done.state)))
-      (from_append least (sent_frames done.told.port ++ sent_frames done.told.sent) _
-      (from_append least (sent_frames done.told.port) (sent_frames done.told.sent)
-      (port_sends least s.cycle _ a.effect.port) (go.sent tt))
-      (rest done.state go.most (omega (arith, k, next_no_less s.cycle done.state.cycle go.later))))
+  late_from inputs least n s r h k rest =
+      grind (arith, common_steps, done_by inputs s, ticks_from inputs least, step_sent, from_append least)
 
   -- nothing that a record sends arrives before
   pub record_from_next : (inputs : Inputs) (least n : ℕ) (s : State Separate) → s.cycle ≤ top
@@ -54,7 +42,7 @@ module _ (l : LayoutParts) (image : List ℕ) where
 
   pub record_late : (inputs : Inputs) (least n : ℕ) (s : State Separate) → s.cycle ≤ top → least ≤ s.cycle + 4
       → From least (frames_sent (record_of (separate_machine l image inputs) n s))
-  record_late inputs least n s h k = record_from_next inputs least n s h (omega (arith, k, next_later s.cycle h))
+  record_late inputs least n s h k = record_from_next inputs least n s h (omega arith)
 
   module _ (inputs : Inputs) (xs ys : List Timed) (limit : ℕ) (same : SameBefore limit xs ys) where
     abbrev left : Inputs
@@ -66,10 +54,7 @@ module _ (l : LayoutParts) (image : List ℕ) where
     -- where no cycle is as late, the records are one
     performs_same : (s : State Separate) (r : Result Allowed Event) → top < limit
         → separate_performs l left s r ≡ separate_performs l right s r
-    performs_same s (Err event) over = refl
-    performs_same s (Ok a) over =
-        ap (λ (p : Passing). Ok (passed_into (memory_after l s.memory a) (port_entry s.cycle a.effect) p))
-        (ticks_same inputs xs ys limit same a.effect.cycles (changed_by s.cycle s.periph a.effect) over)
+    performs_same s r over = grind (arith, common_steps, ticks_same inputs xs ys limit same)
 
     machines_same : top < limit → separate_machine l image left ≡ separate_machine l image right
     machines_same over i s =
@@ -77,7 +62,7 @@ module _ (l : LayoutParts) (image : List ℕ) where
 
     pub records_same : (n : ℕ) (s : State Separate) → top < limit
         → record_of (separate_machine l image left) n s ≡ record_of (separate_machine l image right) n s
-    records_same n s over = ap (λ (m : Machine Separate). record_of m n s) (machines_same over)
+    records_same n s over = cc (machines_same over)
 
     -- what both send arrives alike, one cycle longer
     abbrev SendAlike : Record Separate → Record Separate → Type 0
@@ -102,26 +87,24 @@ module _ (l : LayoutParts) (image : List ℕ) where
         subst (λ (q : Passing). SendAlike (with_passed s a n left p) (with_passed s a n right q)) e
         (λ cycle below.
         let told : Entries = (passed_into (memory_after l s.memory a) (port_entry s.cycle a.effect) p).told in
-        step_frames cycle told (rest_after s a n left p)
-        ∙ ap (λ (fs : List Frame). (frames_in cycle (sent_frames told.port) ++ frames_in cycle (sent_frames told.sent))
-        ++ fs) (rest (passed_into (memory_after l s.memory a) (port_entry s.cycle a.effect) p).state most cycle
-        below)
-        ∙ sym (step_frames cycle told (rest_after s a n right p)))
+        cc (
+          step_frames cycle told (rest_after s a n left p),
+          rest (passed_into (memory_after l s.memory a) (port_entry s.cycle a.effect) p).state most cycle below,
+          step_frames cycle told (rest_after s a n right p),
+        ))
     step_alike s a n p q (inr h) rest most = λ cycle below.
         let port = port_entry s.cycle a.effect in
         let first = passed_into (memory_after l s.memory a) port p in
         let second = passed_into (memory_after l s.memory a) port q in
-        let one = none_before cycle (suc limit) (frames_sent (rest_after s a n left p)) below
-        (record_late left (suc limit) n first.state h.left_top (omega (arith, h.left))) in
-        let two = none_before cycle (suc limit) (frames_sent (rest_after s a n right q)) below
-        (record_late right (suc limit) n second.state h.right_top (omega (arith, h.right))) in
-        step_frames cycle first.told (rest_after s a n left p)
-        ∙ ap (λ (fs : List Frame). (frames_in cycle (sent_frames port) ++ frames_in cycle (sent_frames p.sent)) ++ fs)
-        one
-        ∙ ap (λ (fs : List Frame). (frames_in cycle (sent_frames port) ++ fs) ++ []) (h.sent cycle below)
-        ∙ ap (λ (fs : List Frame). (frames_in cycle (sent_frames port) ++ frames_in cycle (sent_frames q.sent)) ++ fs)
-        (sym two)
-        ∙ sym (step_frames cycle second.told (rest_after s a n right q))
+        cc (
+          none_before cycle (suc limit) (frames_sent (rest_after s a n left p)) below
+              (record_late left (suc limit) n first.state h.left_top (omega (arith, h.left))),
+          none_before cycle (suc limit) (frames_sent (rest_after s a n right q)) below
+              (record_late right (suc limit) n second.state h.right_top (omega (arith, h.right))),
+          step_frames cycle first.told (rest_after s a n left p),
+          h.sent cycle below,
+          step_frames cycle second.told (rest_after s a n right q),
+        )
 
     judged_alike : (n : ℕ) (s : State Separate) (r : Result Allowed Event) → s.cycle ≤ top
         → ((t : State Separate) → t.cycle ≤ top

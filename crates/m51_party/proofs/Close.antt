@@ -1,10 +1,11 @@
 -- Boards on the line: each is at most four cycles before one that is still to be stepped.
+use Rattle.std.proofs.lemmas.Grind.{common_steps}
 use Rattle.m51_party.proofs.Common.{◌≡◌, ℕ, zero, suc, ◌+◌, ◌-◌, ◌≤◌, ◌<◌, ◌⊎◌, inl, inr, ⊎_elim, Bool, true, false}
-use Rattle.m51_party.proofs.Common.{List, [], ◌∷◌, ◌++◌, Option, Some, None, Result, Ok, Err, refl, sym, ap, subst, ◌∙◌}
-use Rattle.m51_party.proofs.Common.{arith, append-nil, flat_map, option_to_list, nat_lt, if◌then◌else◌, flat_map-append}
-use Rattle.m51_party.proofs.Common.{none-some, same_Some, Entry, Event, LayoutParts, Frame, Timed, separate_of, Inputs}
-use Rattle.m51_party.proofs.Common.{frames_in, inputs_of, with_extra, attempt_of, changed_by, Machine, Record, State}
-use Rattle.m51_party.proofs.Common.{record_from, Separate, separate_effect, separate_machine, separate_performs, Seat}
+use Rattle.m51_party.proofs.Common.{List, [], ◌∷◌, ◌++◌, Option, Some, None, Result, Err, refl, sym, ◌∙◌}
+use Rattle.m51_party.proofs.Common.{arith, append-nil, option_to_list, nat_lt, if◌then◌else◌, flat_map-append}
+use Rattle.m51_party.proofs.Common.{none-some, same_Some, Event, LayoutParts, Timed, separate_of, Inputs}
+use Rattle.m51_party.proofs.Common.{frames_in, inputs_of, with_extra, attempt_of, Machine, Record, State}
+use Rattle.m51_party.proofs.Common.{Separate, separate_effect, separate_machine, separate_performs, Seat}
 use Rattle.m51_party.proofs.Common.{frames_of, frames_sent, machine_with, start_of, StepTold, steps_from}
 use Rattle.std.specs.Prelude.{◌&&◌, is_none}
 use Rattle.std.proofs.lemmas.Bool.{ltb-false, ltb-true}
@@ -19,37 +20,34 @@ use Rattle.m51_party.proofs.Words.{Allowed}
 use Rattle.m51_party.proofs.Merging.{From}
 use Rattle.m51_party.proofs.NextBoard.{StartsFrom}
 use Rattle.m51_party.proofs.Spacing.{none_until}
-use Rattle.m51_party.proofs.UnderWay.{IsUnderWay, continued, nothing_added, rest_of, rest_record, step_text}
+use Rattle.m51_party.proofs.UnderWay.{IsUnderWay, nothing_added, rest_of, rest_record, step_text}
 
 -- what is still to come of a board that makes no more steps: nothing
 record_stops : (m : Machine Separate) (k : ℕ) (s : State Separate) (event : Event) → m s ≡ Err event
     → (record_of m k s).entries ≡ []
 unfolding record_of
-record_stops m zero s event e = refl
-record_stops m (suc k) s event e = ap (λ (r : Record Separate). r.entries) (ap (record_from s (record_of m k)) e)
+record_stops m k s event e = grind (arith, common_steps)
 
 record_ends : (m : Machine Separate) (k : ℕ) (s : State Separate) → k ≡ 0 → (record_of m k s).entries ≡ []
 unfolding record_of
-record_ends m k s e = ap (λ (j : ℕ). (record_of m j s).entries) e
+record_ends m k s e = cc
 
 steps_stop : (m : Machine Separate) (k : ℕ) (s : State Separate) (event : Event) → m s ≡ Err event → steps_of m k s ≡ []
 unfolding steps_of
-steps_stop m zero s event e = refl
-steps_stop m (suc k) s event e = ap (steps_from s (steps_of m k)) e
+steps_stop m k s event e = grind (arith, common_steps)
 
 steps_end : (m : Machine Separate) (k : ℕ) (s : State Separate) → k ≡ 0 → steps_of m k s ≡ []
 unfolding steps_of
-steps_end m k s e = ap (λ (j : ℕ). steps_of m j s) e
+steps_end m k s e = cc
 
 record_none : (m : Machine Separate) (k : ℕ) (s : State Separate) → k ≡ 0 → record_of m k s ≡ no_step None s
 unfolding record_of
-record_none m k s e = ap (λ (j : ℕ). record_of m j s) e
+record_none m k s e = cc
 
 record_event : (m : Machine Separate) (k : ℕ) (s : State Separate) (event : Event) → 1 ≤ k → m s ≡ Err event
     → record_of m k s ≡ no_step (Some event) s
 unfolding record_of
-record_event m zero s event below e = absurd (omega (arith, below))
-record_event m (suc k) s event below e = ap (record_from s (record_of m k)) e
+record_event m k s event below e = grind (arith, common_steps)
 
 -- a board makes no more steps where it has performed all, or was stopped
 abbrev pub IsOver : ℕ → Seat → Type 0
@@ -57,15 +55,13 @@ IsOver n s = ((n - s.steps ≡ 0) × (s.event ≡ None)) ⊎ ((event : Event) ×
 
 over_by : (b : Bool) (o : Option Event) (cycle : ℕ) → (if b && is_none o then Some cycle else None) ≡ None
     → ((b ≡ false) × (o ≡ None)) ⊎ ((event : Event) × (o ≡ Some event))
-over_by b (Some event) cycle h = inr (event, refl)
-over_by true None cycle h = absurd (cc h)
-over_by false None cycle h = inl (refl, refl)
+over_by b o cycle h = grind (arith, common_steps)
 
 pub over : (n : ℕ) (s : Seat) → start_of n s ≡ None → IsOver n s
 over n s h =
     ⊎_elim
-    (λ (x : (nat_lt s.steps n ≡ false) × (s.event ≡ None)). inl (omega (arith, ltb-false s.steps n x.0), x.1))
-    (λ (x : (event : Event) × (s.event ≡ Some event)). inr x)
+    (grind (arith, common_steps, ltb-false s.steps n))
+    (grind (arith, common_steps))
     (over_by (nat_lt s.steps n) s.event s.board.chip.cycle h)
 
 -- else it starts one, in the cycle that it has reached
@@ -87,7 +83,7 @@ starting_by false None now cycle h = absurd (cc h)
 pub starting : (n cycle : ℕ) (s : Seat) → start_of n s ≡ Some cycle → IsStarting n cycle s
 starting n cycle s h =
     let x = starting_by (nat_lt s.steps n) s.event s.board.chip.cycle cycle h in
-    record { below = ltb-true s.steps n x.0; event = x.1; cycle_is = x.2 }
+    grind (arith, common_steps, ltb-true s.steps n x.0)
 
 -- the steps that start, by their cycles
 abbrev pub start_in : StepTold → ℕ
@@ -104,14 +100,7 @@ module _ (l : LayoutParts) (image : List ℕ) (inputs : Inputs) where
   steps_by : (n : ℕ) (s : State Separate) (r : Result Allowed Event) → s.cycle ≤ top
       → ((t : State Separate) → t.cycle ≤ top → StepsFrom t.cycle (steps_of (separate_machine l image inputs) n t))
       → StepsFrom s.cycle (steps_from s (steps_of (separate_machine l image inputs) n) (separate_performs l inputs s r))
-  steps_by n s (Err event) h rest = tt
-  steps_by n s (Ok a) h rest =
-      let done = done_by l image inputs s a in
-      let go = ticks_go inputs 0 a.effect.cycles (changed_by s.cycle s.periph a.effect) h (omega arith) in (
-        omega arith,
-        steps_more s.cycle done.state.cycle (steps_of (separate_machine l image inputs) n done.state)
-            go.later (rest done.state go.most),
-      )
+  steps_by n s r h rest = grind (arith, common_steps, done_by l image inputs s, ticks_go inputs 0, steps_more s.cycle)
 
   -- no step starts earlier than the first
   steps_ascend : (n : ℕ) (s : State Separate) → s.cycle ≤ top
@@ -128,18 +117,26 @@ module _ (n : ℕ) (few : n ≤ 10000000) (extra : List Timed) (r : Record Separ
   m = machine_with extra s.board
 
   pub cycle_few : s.board.chip.cycle ≤ 40000000
-  cycle_few = omega (arith, way.cycle, way.most, few)
+  cycle_few = omega arith
 
   over_entries : IsOver n s → (rest_record n extra s).entries ≡ []
-  over_entries (inl x) = record_ends m (n - s.steps) (separate_of s.board) x.0
-  over_entries (inr x) = record_stops m (n - s.steps) (separate_of s.board) x.0 (way.stopped x.0 x.1)
+  over_entries h = grind (
+    arith,
+    common_steps,
+    record_ends m (n - s.steps) (separate_of s.board),
+    record_stops m (n - s.steps) (separate_of s.board),
+  )
 
   pub over_rest : IsOver n s → rest_of n extra s ≡ []
-  over_rest (inl x) = steps_end m (n - s.steps) (separate_of s.board) x.0
-  over_rest (inr x) = steps_stop m (n - s.steps) (separate_of s.board) x.0 (way.stopped x.0 x.1)
+  over_rest h = grind (
+    arith,
+    common_steps,
+    steps_end m (n - s.steps) (separate_of s.board),
+    steps_stop m (n - s.steps) (separate_of s.board),
+  )
 
   rest_by : (least : ℕ) (o : Option ℕ) → start_of n s ≡ o → StartsFrom least o → StepsFrom least (rest_of n extra s)
-  rest_by least None e h = subst (StepsFrom least) (sym (over_rest (over n s e))) tt
+  rest_by least None e h = cc (over_rest (over n s e))
   rest_by least (Some cycle) e h =
       let is = starting n cycle s e in
       steps_more least s.board.chip.cycle (rest_of n extra s) (omega (arith, h, is.cycle_is))
@@ -153,13 +150,13 @@ module _ (n : ℕ) (few : n ≤ 10000000) (extra : List Timed) (r : Record Separ
   frames_by : (least now : ℕ) (o : Option ℕ) → now < least + 5 → start_of n s ≡ o → StartsFrom least o
       → frames_in now (frames_sent (rest_record n extra s)) ≡ []
   frames_by least now None below e h =
-      ap (λ (es : List Entry). frames_in now (flat_map frames_of es)) (over_entries (over n s e))
+      cc (over_entries (over n s e))
   frames_by least now (Some cycle) below e h =
       let is = starting n cycle s e in
       none_before now (least + 5) (frames_sent (rest_record n extra s)) below
       (record_from_next s.board.monitor.layout s.board.chip.image (with_extra extra (inputs_of s.board.chip.script))
       (least + 5) (n - s.steps) (separate_of s.board)
-      (omega (arith, cycle_few)) (omega (arith, cycle_few, h, is.cycle_is)))
+      (omega (arith, cycle_few)) (omega arith))
 
   -- of what it sends, only the frame that is kept arrives in the next four cycles of a board that starts then
   pub sent_agrees : (least now : ℕ) → least < now → now ≤ least + 4 → s.board.chip.cycle ≤ least + 4
@@ -168,19 +165,18 @@ module _ (n : ℕ) (few : n ≤ 10000000) (extra : List Timed) (r : Record Separ
   sent_agrees least now after below near h =
       let keeps = way.keeps in
       let q = rest_record n extra s in
-      let none = none_until now s.board.chip.cycle keeps.older (omega (arith, near, after)) keeps.before in
-      let later = frames_by least now (start_of n s) (omega (arith, below)) refl h in
-      sym (ap (λ (r : Record Separate). frames_in now (frames_sent r)) way.is
-      ∙ ap (frames_in now) (flat_map-append frames_of way.told q.entries)
-      ∙ ap (λ (ts : List Timed). frames_in now (ts ++ frames_sent q)) keeps.are
-      ∙ frames_join now (keeps.older ++ option_to_list s.sent) (frames_sent q)
-      ∙ ap (λ (fs : List Frame). frames_in now (keeps.older ++ option_to_list s.sent) ++ fs) later
-      ∙ append-nil (frames_in now (keeps.older ++ option_to_list s.sent))
-      ∙ frames_join now keeps.older (option_to_list s.sent)
-      ∙ ap (λ (fs : List Frame). fs ++ frames_in now (option_to_list s.sent)) none)
+      cc (
+        none_until now s.board.chip.cycle keeps.older (omega (arith, near, after)) keeps.before,
+        frames_by least now (start_of n s) (omega (arith, below)) refl h,
+        flat_map-append frames_of way.told q.entries,
+        frames_join now (keeps.older ++ option_to_list s.sent)
+            (frames_sent q),
+        append-nil (frames_in now (keeps.older ++ option_to_list s.sent)),
+        frames_join now keeps.older (option_to_list s.sent),
+      )
 
   made_later : (rest_record n extra s).last.cycle ≡ r.last.cycle
-  made_later = sym (ap (λ (r : Record Separate). r.last.cycle) way.is)
+  made_later = cc
 
   -- it has not come further than its record
   pub last_later : s.board.chip.cycle ≤ r.last.cycle
@@ -198,13 +194,7 @@ module _ (n : ℕ) (few : n ≤ 10000000) (extra : List Timed) (r : Record Separ
   ends_as : (event : Option Event) → s.event ≡ event → rest_record n extra s ≡ no_step event (separate_of s.board)
       → IsEnd
   ends_as event e h =
-      let all : r ≡ continued way.told s.steps (no_step event (separate_of s.board)) =
-      way.is ∙ ap (continued way.told s.steps) h in
-      record {
-        event = ap (λ (r : Record Separate). r.event) all ∙ sym e;
-        steps = ap (λ (r : Record Separate). r.steps) all ∙ nothing_added s.steps;
-        cycle = ap (λ (r : Record Separate). r.last.cycle) all;
-      }
+      grind (arith, common_steps, nothing_added s.steps)
 
   pub over_end : IsOver n s → IsEnd
   over_end (inl x) = ends_as None x.1 (record_none m (n - s.steps) (separate_of s.board) x.0)

@@ -1,19 +1,18 @@
 -- The start and the end of a run of the boards on a line.
-use Rattle.m51_party.proofs.Common.{◌≡◌, ℕ, zero, suc, ◌+◌, ◌-◌, ◌≤◌, List, [], ◌∷◌, ◌++◌, length, refl, sym, ap, subst}
-use Rattle.m51_party.proofs.Common.{◌∙◌, arith, append_assoc, All, flat_map, BoardState, separate_of, Record, State}
-use Rattle.m51_party.proofs.Common.{Separate, Seat, Family, IsFamily, IsFresh, frames_for, machine_with, records_from}
-use Rattle.m51_party.proofs.Common.{HasEventText, ends_text, new_seat, head_text, greatest_cycle, front_of, last_lines}
+use Rattle.std.proofs.lemmas.Grind.{common_steps}
+use Rattle.m51_party.proofs.Common.{◌≡◌, ℕ, zero, suc, ◌+◌, ◌-◌, ◌≤◌, List, [], ◌∷◌, ◌++◌, length, refl, ap}
+use Rattle.m51_party.proofs.Common.{◌∙◌, arith, append_assoc, All, BoardState, Record, State}
+use Rattle.m51_party.proofs.Common.{Separate, Seat, Family, IsFamily, IsFresh, frames_for, records_from}
+use Rattle.m51_party.proofs.Common.{HasEventText, ends_text, new_seat, head_text, greatest_cycle, last_lines}
 use Rattle.std.proofs.Common.{map}
-use Rattle.std.specs.Prelude.{is_some, ◌||◌}
+use Rattle.std.specs.Prelude.{is_some}
 use Rattle.std.specs.List.{list_any}
 use Rattle.std.proofs.lemmas.List.Elements.{All-cons, All-head, All-tail}
-use Rattle.m51_print.specs.Lines.{last_line, titles_of}
-use Rattle.m51_party.specs.Text.{lines_at, lines_before, lines_of, party_text}
-use Rattle.m51_party.specs.Text.{steps_of}
+use Rattle.m51_party.specs.Text.{lines_at, lines_before, party_text}
 use Rattle.m51_party.proofs.Merging.{at_cycle, before}
 use Rattle.m51_party.proofs.Merging as merging
 use Rattle.m51_party.proofs.NextBoard.{NoneStarts}
-use Rattle.m51_party.proofs.UnderWay.{rest_of, step_text, under_way_first}
+use Rattle.m51_party.proofs.UnderWay.{step_text, under_way_first}
 use Rattle.m51_party.proofs.Close.{over, over_end, start_in}
 use Rattle.m51_party.proofs.OnTheLine.{AllClose, AllUnderWay, all_over, rests_from}
 use Rattle.m51_party.proofs.Runs.{AreGoing, boards_of, both_texts, start_late, text_to_come}
@@ -35,21 +34,13 @@ close_start n (b ∷ bs) fresh =
 -- boards that were not stepped are at the start of their records
 pub going_start : (n : ℕ) (family : Family) (bs : List BoardState) → All IsFresh bs → IsFamily bs n family
     → AreGoing n family (map new_seat bs)
-going_start n family bs fresh is = record {
-  all = subst (λ (rs : Family). AllUnderWay 0 n family rs (map new_seat bs)) (sym is) (all_start 0 n family bs fresh);
-  least = 0;
-  close = close_start n bs fresh;
-}
+going_start n family bs fresh is = grind (arith, common_steps, all_start 0 n family bs fresh, close_start n bs fresh)
 
 lines_same : (cycle at n : ℕ) (family : Family) (bs : List BoardState)
     → lines_at cycle at bs n family ≡ at_cycle start_in step_text cycle at (rests_from at n family (map new_seat bs))
 lines_same cycle at n family [] = refl
 lines_same cycle at n family (b ∷ bs) =
-    let all : n ≡ n - 0 = omega arith in
-    ap (λ (k : ℕ). flat_map (lines_of cycle (front_of at))
-    (steps_of (machine_with (frames_for at family) b) k (separate_of b)) ++ lines_at cycle (suc at) bs n family) all
-    ∙ ap (λ (text : List ℕ). flat_map (lines_of cycle (front_of at)) (rest_of n (frames_for at family) (new_seat b))
-    ++ text) (lines_same cycle (suc at) n family bs)
+    grind (arith, common_steps, lines_same cycle (suc at) n family bs)
 
 before_same : (cycle n : ℕ) (family : Family) (bs : List BoardState)
     → lines_before cycle bs n family ≡ before start_in step_text cycle (rests_from 0 n family (map new_seat bs))
@@ -58,7 +49,7 @@ before_same (suc cycle) n family bs = λ i. before_same cycle n family bs i ++ l
 
 boards_same : (bs : List BoardState) → bs ≡ boards_of (map new_seat bs)
 boards_same [] = refl
-boards_same (b ∷ bs) = ap (λ (rest : List BoardState). b ∷ rest) (boards_same bs)
+boards_same (b ∷ bs) = cc (boards_same bs)
 
 -- their text is the first line, and what is to come
 pub text_start : (n : ℕ) (family : Family) (bs : List BoardState)
@@ -68,19 +59,16 @@ text_start n family bs =
     append_assoc (head_text (length bs)) (lines_before (greatest_cycle family + 1) bs n family) (last_lines 0 bs family)
     ∙ ap (λ (text : List ℕ). head_text (length bs) ++ text)
     (both_texts _ _ _ _ (before_same (greatest_cycle family + 1) n family bs)
-    (ap (λ (all : List BoardState). last_lines 0 all family) (boards_same bs)))
+    (cc (boards_same bs)))
 
 -- at the end only the last lines are to come
 last_same : (at n : ℕ) (family rs : Family) (ss : List Seat) → n ≤ 10000000 → AllUnderWay at n family rs ss
     → NoneStarts n ss → last_lines at (boards_of ss) rs ≡ ends_text at ss
-last_same at n family [] [] few h none = refl
-last_same at n family [] (s ∷ ss) few h none = absurd h
+last_same at n family [] ss few h none = grind (arith, common_steps)
 last_same at n family (r ∷ rs) [] few h none = absurd h
 last_same at n family (r ∷ rs) (s ∷ ss) few h none =
     let end = over_end n few (frames_for at family) r s h.0 (over n s none.0) in
-    let rest = last_same (suc at) n family rs ss few h.1 none.1 in
-    λ i. front_of at ++ last_line (titles_of s.board.monitor.layout.placed) (end.event i) (end.steps i) (end.cycle i)
-    ++ rest i
+    cc (last_same (suc at) n family rs ss few h.1 none.1)
 
 pub text_end : (n : ℕ) (family : Family) (ss : List Seat) → n ≤ 10000000 → AreGoing n family ss → NoneStarts n ss
     → text_to_come n family ss ≡ ends_text 0 ss
@@ -93,13 +81,11 @@ text_end n family ss few going none =
 events_same : (at n : ℕ) (family rs : Family) (ss : List Seat) → n ≤ 10000000 → AllUnderWay at n family rs ss
     → NoneStarts n ss
     → list_any (λ (r : Record Separate). is_some r.event) rs ≡ list_any (λ (s : Seat). is_some s.event) ss
-events_same at n family [] [] few h none = refl
-events_same at n family [] (s ∷ ss) few h none = absurd h
+events_same at n family [] ss few h none = grind (arith, common_steps)
 events_same at n family (r ∷ rs) [] few h none = absurd h
 events_same at n family (r ∷ rs) (s ∷ ss) few h none =
     let end = over_end n few (frames_for at family) r s h.0 (over n s none.0) in
-    let rest = events_same (suc at) n family rs ss few h.1 none.1 in
-    λ i. is_some (end.event i) || rest i
+    cc (events_same (suc at) n family rs ss few h.1 none.1)
 
 pub events_end : (n : ℕ) (family : Family) (ss : List Seat) → n ≤ 10000000 → AreGoing n family ss → NoneStarts n ss
     → list_any (λ (r : Record Separate). is_some r.event) family ≡ list_any (λ (s : Seat). is_some s.event) ss
@@ -107,9 +93,8 @@ events_end n family ss few going none = events_same 0 n family family ss few goi
 
 texts_of : (at n : ℕ) (family rs : Family) (ss : List Seat) → AllUnderWay at n family rs ss → All HasEventText ss
 texts_of at n family [] [] h = λ k d below. absurd (omega (arith, below))
-texts_of at n family [] (s ∷ ss) h = absurd h
-texts_of at n family (r ∷ rs) [] h = absurd h
 texts_of at n family (r ∷ rs) (s ∷ ss) h = All-cons HasEventText s ss h.0.text (texts_of (suc at) n family rs ss h.1)
+texts_of at n family rs ss h = absurd h
 
 pub texts_end : (n : ℕ) (family : Family) (ss : List Seat) → AreGoing n family ss → All HasEventText ss
 texts_end n family ss going = texts_of 0 n family family ss going.all

@@ -1,17 +1,16 @@
 -- Lists of steps, one for each board: the lines by the cycle in which their step starts, when one step is taken first.
+use Rattle.std.proofs.lemmas.Grind.{common_steps}
 use Rattle.m51_party.proofs.Common.{◌≡◌, ℕ, zero, suc, ◌+◌, ◌≤◌, ◌<◌, ⊎_elim, Bool, true, false, List, [], ◌∷◌, ◌++◌}
-use Rattle.m51_party.proofs.Common.{refl, sym, ap, subst, ◌∙◌, arith, append_assoc, zero-add, ◌==◌, if◌then◌else◌}
+use Rattle.m51_party.proofs.Common.{refl, sym, subst, ◌∙◌, arith, append_assoc, zero-add, ◌==◌, if◌then◌else◌}
 use Rattle.m51_party.proofs.Common.{flat_map, ne_eqb}
 use Rattle.std.proofs.Common.{◌≢◌}
 use Rattle.std.proofs.lemmas.Bool.{cases_lt, eq-eqb}
 
 chosen : (b : Bool) (xs : List ℕ) → b ≡ true → (if b then xs else []) ≡ xs
-chosen true xs e = refl
-chosen false xs e = absurd (cc e)
+chosen b xs e = cc
 
 left_out : (b : Bool) (xs : List ℕ) → b ≡ false → (if b then xs else []) ≡ []
-left_out true xs e = absurd (cc e)
-left_out false xs e = refl
+left_out b xs e = cc
 
 module _ {S : Type 0} (start : S → ℕ) (text : ℕ → S → List ℕ) where
   abbrev pub line : ℕ → ℕ → S → List ℕ
@@ -54,23 +53,21 @@ module _ {S : Type 0} (start : S → ℕ) (text : ℕ → S → List ℕ) where
       → flat_map (line cycle index) steps ≡ []
   no_line cycle index least [] below h = refl
   no_line cycle index least (s ∷ ss) below h =
-      let first = left_out (start s == cycle) (text index s)
-      (ne_eqb (start s) cycle (λ e. omega (arith, e, h.0, below))) in
-      let rest = no_line cycle index least ss below h.1 in
-      ap (λ (xs : List ℕ). xs ++ flat_map (line cycle index) ss) first ∙ rest
+      cc (
+        left_out (start s == cycle) (text index s) (ne_eqb (start s) cycle (λ e. omega (arith, e, h.0, below))),
+        no_line cycle index least ss below h.1,
+      )
 
   no_lines : (cycle index least : ℕ) (all : List (List S)) → cycle < least → AllFrom least all
       → at_cycle cycle index all ≡ []
   no_lines cycle index least [] below h = refl
   no_lines cycle index least (steps ∷ rest) below h =
-      ap (λ (xs : List ℕ). xs ++ at_cycle cycle (suc index) rest) (no_line cycle index least steps below h.0)
-      ∙ no_lines cycle (suc index) least rest below h.1
+      cc (no_line cycle index least steps below h.0, no_lines cycle (suc index) least rest below h.1)
 
   none_before : (cycle least : ℕ) (all : List (List S)) → cycle ≤ least → AllFrom least all → before cycle all ≡ []
   none_before zero least all below h = refl
   none_before (suc cycle) least all below h =
-      ap (λ (xs : List ℕ). xs ++ at_cycle cycle 0 all) (none_before cycle least all (omega (arith, below)) h)
-      ∙ no_lines cycle 0 least all (omega (arith, below)) h
+      cc (none_before cycle least all (omega (arith, below)) h, no_lines cycle 0 least all (omega (arith, below)) h)
 
   from_more : (least : ℕ) (steps : List S) → From (suc least) steps → From least steps
   from_more least [] h = tt
@@ -78,19 +75,17 @@ module _ {S : Type 0} (start : S → ℕ) (text : ℕ → S → List ℕ) where
 
   olds_from : (index cycle : ℕ) (s : S) (olds news : List (List S)) → start s ≡ cycle → Takes index cycle s olds news
       → AllFrom cycle olds
-  olds_from index cycle s [] news e h = absurd h
-  olds_from index cycle s (old ∷ olds) [] e h = absurd h
   olds_from zero cycle s (old ∷ olds) (new ∷ news) e h =
       (subst (From cycle) (sym h.0) (omega (arith, e), h.2), h.3)
   olds_from (suc index) cycle s (old ∷ olds) (new ∷ news) e h =
       (from_more cycle old h.1, olds_from index cycle s olds news e h.2)
+  olds_from index cycle s olds news e h = absurd h
 
   news_from : (index cycle : ℕ) (s : S) (olds news : List (List S)) → Takes index cycle s olds news → AllFrom cycle news
-  news_from index cycle s [] news h = absurd h
-  news_from index cycle s (old ∷ olds) [] h = absurd h
   news_from zero cycle s (old ∷ olds) (new ∷ news) h = (h.2, subst (AllFrom cycle) (sym h.1) h.3)
   news_from (suc index) cycle s (old ∷ olds) (new ∷ news) h =
       (subst (From cycle) (sym h.0) (from_more cycle old h.1), news_from index cycle s olds news h.2)
+  news_from index cycle s olds news h = absurd h
 
   -- in its cycle the lines of the step come first
   taken : (index cycle at number : ℕ) (s : S) (olds news : List (List S)) → start s ≡ cycle → number ≡ at + index
@@ -98,21 +93,17 @@ module _ {S : Type 0} (start : S → ℕ) (text : ℕ → S → List ℕ) where
   taken index cycle at number s [] news e is h = absurd h
   taken index cycle at number s (old ∷ olds) [] e is h = absurd h
   taken zero cycle at number s (old ∷ olds) (new ∷ news) e is h =
-      let here : at ≡ number = omega (arith, is) in
-      ap (λ (steps : List S). flat_map (line cycle at) steps ++ at_cycle cycle (suc at) olds) h.0
-      ∙ ap (λ (xs : List ℕ). (xs ++ flat_map (line cycle at) new) ++ at_cycle cycle (suc at) olds)
-      (chosen (start s == cycle) (text at s) (eq-eqb (start s) cycle e))
-      ∙ append_assoc (text at s) (flat_map (line cycle at) new) (at_cycle cycle (suc at) olds)
-      ∙ ap (λ (n : ℕ). text n s ++ (flat_map (line cycle at) new ++ at_cycle cycle (suc at) olds)) here
-      ∙ ap (λ (rest : List (List S)). text number s ++ (flat_map (line cycle at) new ++ at_cycle cycle (suc at) rest))
-      (sym h.1)
+      grind (
+        arith,
+        common_steps,
+        chosen (start s == cycle) (text at s) (eq-eqb (start s) cycle e),
+        append_assoc (text at s) (flat_map (line cycle at) new) (at_cycle cycle (suc at) olds),
+      )
   taken (suc index) cycle at number s (old ∷ olds) (new ∷ news) e is h =
-      let none = no_line cycle at (suc cycle) old (omega arith) h.1 in
-      ap (λ (xs : List ℕ). xs ++ at_cycle cycle (suc at) olds) none
-      ∙ taken index cycle (suc at) number s olds news e (omega (arith, is)) h.2
-      ∙ ap (λ (xs : List ℕ). text number s ++ (xs ++ at_cycle cycle (suc at) news)) (sym none)
-      ∙ ap (λ (steps : List S). text number s ++ (flat_map (line cycle at) steps ++ at_cycle cycle (suc at) news))
-      (sym h.0)
+      cc (
+        no_line cycle at (suc cycle) old (omega arith) h.1,
+        taken index cycle (suc at) number s olds news e (omega (arith, is)) h.2,
+      )
 
   -- in other cycles the lines stay
   others : (index cycle at later : ℕ) (s : S) (olds news : List (List S)) → start s ≡ cycle → cycle ≢ later
@@ -120,25 +111,19 @@ module _ {S : Type 0} (start : S → ℕ) (text : ℕ → S → List ℕ) where
   others index cycle at later s [] news e ne h = absurd h
   others index cycle at later s (old ∷ olds) [] e ne h = absurd h
   others zero cycle at later s (old ∷ olds) (new ∷ news) e ne h =
-      ap (λ (steps : List S). flat_map (line later at) steps ++ at_cycle later (suc at) olds) h.0
-      ∙ ap (λ (xs : List ℕ). (xs ++ flat_map (line later at) new) ++ at_cycle later (suc at) olds)
-      (left_out (start s == later) (text at s) (ne_eqb (start s) later (λ i. ne (sym e ∙ i))))
-      ∙ ap (λ (rest : List (List S)). flat_map (line later at) new ++ at_cycle later (suc at) rest) (sym h.1)
+      cc (left_out (start s == later) (text at s) (ne_eqb (start s) later (λ i. ne (sym e ∙ i))))
   others (suc index) cycle at later s (old ∷ olds) (new ∷ news) e ne h =
-      ap (λ (xs : List ℕ). flat_map (line later at) old ++ xs) (others index cycle (suc at) later s olds news e ne h.2)
-      ∙ ap (λ (steps : List S). flat_map (line later at) steps ++ at_cycle later (suc at) news) (sym h.0)
+      cc (others index cycle (suc at) later s olds news e ne h.2)
 
   last_taken : (index cycle limit : ℕ) (s : S) (olds news : List (List S)) → start s ≡ cycle
       → Takes index cycle s olds news
       → limit ≡ cycle → before (suc limit) olds ≡ text index s ++ before (suc limit) news
   last_taken index cycle limit s olds news e h is =
-      let none = none_before limit cycle olds (omega (arith, is)) (olds_from index cycle s olds news e h) in
-      let empty = none_before limit cycle news (omega (arith, is)) (news_from index cycle s olds news h) in
-      ap (λ (xs : List ℕ). xs ++ at_cycle limit 0 olds) none
-      ∙ ap (λ (c : ℕ). at_cycle c 0 olds) is
-      ∙ taken index cycle 0 index s olds news e (sym (zero-add index)) h
-      ∙ ap (λ (c : ℕ). text index s ++ at_cycle c 0 news) (sym is)
-      ∙ ap (λ (xs : List ℕ). text index s ++ (xs ++ at_cycle limit 0 news)) (sym empty)
+      cc (
+        none_before limit cycle olds (omega (arith, is)) (olds_from index cycle s olds news e h),
+        none_before limit cycle news (omega (arith, is)) (news_from index cycle s olds news h),
+        taken index cycle 0 index s olds news e (sym (zero-add index)) h,
+      )
 
   -- the lines of the step come before all others
   pub first_taken : (index cycle limit : ℕ) (s : S) (olds news : List (List S)) → start s ≡ cycle
@@ -147,21 +132,21 @@ module _ {S : Type 0} (start : S → ℕ) (text : ℕ → S → List ℕ) where
   first_taken index cycle zero s olds news e h below = absurd (omega (arith, below))
   first_taken index cycle (suc limit) s olds news e h below =
       ⊎_elim
-      (λ (less : cycle < limit).
-      ap (λ (xs : List ℕ). xs ++ at_cycle limit 0 olds) (first_taken index cycle limit s olds news e h less)
-      ∙ append_assoc (text index s) (before limit news) (at_cycle limit 0 olds)
-      ∙ ap (λ (xs : List ℕ). text index s ++ (before limit news ++ xs))
-      (others index cycle 0 limit s olds news e (λ i. omega (arith, i, less)) h))
-      (λ (over : limit ≤ cycle). last_taken index cycle limit s olds news e h (omega (arith, over, below)))
+      (grind (
+        arith,
+        common_steps,
+        first_taken index cycle limit s olds news e h,
+        append_assoc (text index s) (before limit news) (at_cycle limit 0 olds),
+        others index cycle 0 limit s olds news e,
+      ))
+      (grind (arith, common_steps, last_taken index cycle limit s olds news e h))
       (cases_lt cycle limit)
 
   pub no_more : (all : List (List S)) → AllEmpty all → (cycle at : ℕ) → at_cycle cycle at all ≡ []
   no_more [] h cycle at = refl
   no_more (steps ∷ rest) h cycle at =
-      ap (λ (ss : List S). flat_map (line cycle at) ss ++ at_cycle cycle (suc at) rest) h.0
-      ∙ no_more rest h.1 cycle (suc at)
+      cc (no_more rest h.1 cycle (suc at))
 
   pub all_over : (all : List (List S)) → AllEmpty all → (cycle : ℕ) → before cycle all ≡ []
   all_over all h zero = refl
-  all_over all h (suc cycle) = ap (λ (xs : List ℕ). xs ++ at_cycle cycle 0 all) (all_over all h cycle)
-      ∙ no_more all h cycle 0
+  all_over all h (suc cycle) = cc (all_over all h cycle, no_more all h cycle 0)

@@ -1,6 +1,7 @@
 -- The board that is stepped next: it starts before those with a lower number, and no later than the others.
+use Rattle.std.proofs.lemmas.Grind.{common_steps}
 use Rattle.m51_party.proofs.Common.{◌≡◌, ℕ, zero, suc, ◌+◌, ◌≤◌, Bool, true, false, List, [], ◌∷◌, Option, Some, None}
-use Rattle.m51_party.proofs.Common.{refl, sym, subst, arith, nat_lt, if◌then◌else◌, same_Some, NextStep, Seat}
+use Rattle.m51_party.proofs.Common.{refl, arith, nat_lt, if◌then◌else◌, same_Some, NextStep, Seat}
 use Rattle.m51_party.proofs.Common.{next_from, start_of}
 use Rattle.std.proofs.lemmas.Bool.{ltb-true, ltb-false}
 use Rattle.m51_party.specs.Seats.{sooner}
@@ -11,12 +12,10 @@ StartsFrom least None = Unit {0}
 StartsFrom least (Some cycle) = least ≤ cycle
 
 pub starts_more : (least more : ℕ) (o : Option ℕ) → least ≤ more → StartsFrom more o → StartsFrom least o
-starts_more least more None h k = tt
-starts_more least more (Some cycle) h k = omega (arith, h, k)
+starts_more least more o h k = grind (arith, common_steps)
 
 pub none_starts : (least : ℕ) (o : Option ℕ) → o ≡ None → StartsFrom least o
-none_starts least None e = tt
-none_starts least (Some cycle) e = absurd (cc e)
+none_starts least o e = cc
 
 module _ (n : ℕ) where
   abbrev pub AllStartFrom : ℕ → List Seat → Type 0
@@ -42,8 +41,7 @@ module _ (n : ℕ) where
   none_all least (s ∷ ss) h = (none_starts least (start_of n s) h.0, none_all least ss h.1)
 
   first_starts : (least : ℕ) (o : Option ℕ) → o ≡ Some least → StartsFrom least o
-  first_starts least None e = absurd (cc e)
-  first_starts least (Some cycle) e = omega (arith, same_Some cycle least e)
+  first_starts least o e = grind (arith, common_steps, same_Some)
 
   pub next_all : (index cycle : ℕ) (ss : List Seat) → IsNextAt index cycle ss → AllStartFrom cycle ss
   next_all index cycle [] h = absurd h
@@ -64,7 +62,7 @@ module _ (n : ℕ) where
 
   found_here : (at cycle : ℕ) (s : Seat) (ss : List Seat) → start_of n s ≡ Some cycle → AllStartFrom cycle ss
       → IsFoundAt at (record { index = at; cycle = cycle }) (s ∷ ss)
-  found_here at cycle s ss e h = record { index = 0; is = omega arith; next = (e, h) }
+  found_here at cycle s ss e h = grind (arith, common_steps)
 
   found_later : (at : ℕ) (c : NextStep) (s : Seat) (ss : List Seat) → StartsFrom (suc c.cycle) (start_of n s)
       → IsFoundAt (suc at) c ss
@@ -75,7 +73,7 @@ module _ (n : ℕ) where
       → start_of n s ≡ Some cycle → IsFoundAt (suc at) c ss
       → IsFound at (if b then Some c else Some (record { index = at; cycle = cycle })) (s ∷ ss)
   compared at cycle c s ss true b e f =
-      found_later at c s ss (subst (StartsFrom (suc c.cycle)) (sym e) (ltb-true c.cycle cycle b)) f
+      found_later at c s ss (rw e (ltb-true c.cycle cycle b)) f
   compared at cycle c s ss false b e f =
       found_here at cycle s ss e
       (all_more cycle c.cycle ss (ltb-false c.cycle cycle b) (next_all f.index c.cycle ss f.next))
@@ -83,8 +81,7 @@ module _ (n : ℕ) where
   found_by : (at : ℕ) (s : Seat) (ss : List Seat) (o : Option ℕ) (later : Option NextStep) → start_of n s ≡ o
       → IsFound (suc at) later ss
       → IsFound at (sooner at o later) (s ∷ ss)
-  found_by at s ss None None e f = (e, f)
-  found_by at s ss None (Some c) e f = found_later at c s ss (none_starts (suc c.cycle) (start_of n s) e) f
+  found_by at s ss None later e f = grind (arith, common_steps, found_later at)
   found_by at s ss (Some cycle) None e f = found_here at cycle s ss e (none_all cycle ss f)
   found_by at s ss (Some cycle) (Some c) e f = compared at cycle c s ss (nat_lt c.cycle cycle) refl e f
 
@@ -95,8 +92,7 @@ module _ (n : ℕ) where
   -- so the board that is found is next, and where none is found, none has a next step
   pub next_found : (c : NextStep) (ss : List Seat) → next_from n 0 ss ≡ Some c → IsNextAt c.index c.cycle ss
   next_found c ss e =
-      let f : IsFoundAt 0 c ss = subst (λ (o : Option NextStep). IsFound 0 o ss) e (found 0 ss) in
-      subst (λ (i : ℕ). IsNextAt i c.cycle ss) (omega (arith, f.is)) f.next
+      grind (arith, common_steps, found 0 ss)
 
   pub none_found : (ss : List Seat) → next_from n 0 ss ≡ None → NoneStarts ss
-  none_found ss e = subst (λ (o : Option NextStep). IsFound 0 o ss) e (found 0 ss)
+  none_found ss e = rw e at (found 0 ss)

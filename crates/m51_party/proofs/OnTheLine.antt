@@ -1,6 +1,7 @@
 -- All boards on the line: what one passes to another, and what is still to come.
-use Rattle.m51_party.proofs.Common.{◌≡◌, ℕ, zero, suc, ◌+◌, ◌≤◌, ◌<◌, Bool, true, false, List, [], ◌∷◌, ◌++◌, length}
-use Rattle.m51_party.proofs.Common.{Option, Some, None, refl, sym, ap, subst, ◌∙◌, arith, zero-add, ◌==◌, flat_map}
+use Rattle.std.proofs.lemmas.Grind.{common_steps}
+use Rattle.m51_party.proofs.Common.{◌≡◌, ℕ, zero, suc, ◌+◌, ◌≤◌, ◌<◌, Bool, true, false, List, [], ◌∷◌, length}
+use Rattle.m51_party.proofs.Common.{Option, Some, None, refl, sym, subst, arith, zero-add, ◌==◌, flat_map}
 use Rattle.m51_party.proofs.Common.{option_to_list, slice_get, slice_set, if◌then◌else◌, ne_eqb, none-some, same_Some}
 use Rattle.m51_party.proofs.Common.{Frame, Timed, frames_in, Record, Separate, Seat, Family, frames_for, frames_sent}
 use Rattle.m51_party.proofs.Common.{kept_for, start_of, StepTold, greatest_cycle}
@@ -13,7 +14,7 @@ use Rattle.m51_party.proofs.Frames.{joined_same}
 use Rattle.m51_party.proofs.Merging.{AllEmpty, AllFrom, Takes}
 use Rattle.m51_party.proofs.NextBoard.{AllStartFrom, IsNextAt, NoneStarts, StartsFrom}
 use Rattle.m51_party.proofs.UnderWay.{IsUnderWay, rest_of, step_text}
-use Rattle.m51_party.proofs.Close.{StepsFrom, over, over_rest, rest_late, sent_agrees, start_in}
+use Rattle.m51_party.proofs.Close.{StepsFrom, over_rest, rest_late, sent_agrees, start_in}
 
 -- each board has performed some steps of its record, where the first has this index
 abbrev pub AllUnderWay : ℕ → ℕ → Family → Family → List Seat → Type 0
@@ -40,48 +41,44 @@ all_agree : (at n : ℕ) (family rs : Family) (ss : List Seat) (least now : ℕ)
     → now ≤ least + 4
     → AllUnderWay at n family rs ss → AllClose n least ss → AllAgree now rs ss
 all_agree at n family [] [] least now few after below h c = tt
-all_agree at n family [] (s ∷ ss) least now few after below h c = absurd h
-all_agree at n family (r ∷ rs) [] least now few after below h c = absurd h
 all_agree at n family (r ∷ rs) (s ∷ ss) least now few after below h c = (
   sent_agrees n few (frames_for at family) r s h.0 least now after below c.0 c.1,
   all_agree (suc at) n family rs ss least now few after below h.1 c.2,
 )
+all_agree at n family rs ss least now few after below h c = absurd h
 
 -- what one board passes to another
 to_another : (b : Bool) (o : Option Timed) → b ≡ false → (if b then None else o) ≡ o
-to_another true o e = absurd (cc e)
-to_another false o e = refl
+to_another b o e = cc
 
 to_itself : (b : Bool) (o : Option Timed) → b ≡ true → (if b then None else o) ≡ None
-to_itself true o e = refl
-to_itself false o e = absurd (cc e)
+to_itself b o e = cc
 
 others_agree : (now at index : ℕ) (rs : Family) (ss : List Seat) → index < at → AllAgree now rs ss
     → frames_in now (kept_from at index ss) ≡ frames_in now (flat_map frames_sent rs)
-others_agree now at index [] [] below h = refl
-others_agree now at index [] (s ∷ ss) below h = absurd h
+others_agree now at index [] ss below h = grind (arith, common_steps)
 others_agree now at index (r ∷ rs) [] below h = absurd h
 others_agree now at index (r ∷ rs) (s ∷ ss) below h =
     let other = to_another (at == index) s.sent (ne_eqb at index (λ e. omega (arith, e, below))) in
     joined_same now (option_to_list (sent_to at index s)) (kept_from (suc at) index ss) (frames_sent r)
     (flat_map frames_sent rs)
-    (ap (λ (o : Option Timed). frames_in now (option_to_list o)) other ∙ h.0)
+    (cc)
     (others_agree now (suc at) index rs ss (omega (arith, below)) h.1)
 
 kept_agree : (now at index more : ℕ) (rs : Family) (ss : List Seat) → index ≡ at + more → AllAgree now rs ss
     → frames_in now (kept_from at index ss) ≡ frames_in now (frames_for more rs)
-kept_agree now at index more [] [] is h = refl
-kept_agree now at index more [] (s ∷ ss) is h = absurd h
+kept_agree now at index more [] ss is h = grind (arith, common_steps)
 kept_agree now at index more (r ∷ rs) [] is h = absurd h
 kept_agree now at index zero (r ∷ rs) (s ∷ ss) is h =
-    let own = to_itself (at == index) s.sent (eq-eqb at index (omega (arith, is))) in
-    ap (λ (o : Option Timed). frames_in now (option_to_list o ++ kept_from (suc at) index ss)) own
-    ∙ others_agree now (suc at) index rs ss (omega (arith, is)) h.1
+    cc (
+      to_itself (at == index) s.sent (eq-eqb at index (omega (arith, is))),
+      others_agree now (suc at) index rs ss (omega (arith, is)) h.1,
+    )
 kept_agree now at index (suc more) (r ∷ rs) (s ∷ ss) is h =
     let other = to_another (at == index) s.sent (ne_eqb at index (λ e. omega (arith, e, is))) in
     joined_same now (option_to_list (sent_to at index s)) (kept_from (suc at) index ss) (frames_sent r)
     (frames_for more rs)
-    (ap (λ (o : Option Timed). frames_in now (option_to_list o)) other ∙ h.0)
+    (cc)
     (kept_agree now (suc at) index more rs ss (omega (arith, is)) h.1)
 
 -- a board that starts then gets the frames of the family
@@ -104,8 +101,7 @@ length_frames now (t ∷ ts) = length_one (t.cycle == now) t.frame (frames_in no
     length_one false f fs n h = omega (arith, h)
 
 length_sent : (o : Option Timed) → length (option_to_list o) ≤ 1
-length_sent None = omega arith
-length_sent (Some t) = omega arith
+length_sent o = grind (arith, common_steps)
 
 length_kept : (at index : ℕ) (ss : List Seat) → length (kept_from at index ss) ≤ length ss
 length_kept at index [] = omega arith
@@ -121,12 +117,11 @@ length_fewer : (at index more : ℕ) (ss : List Seat) → index ≡ at + more �
     → suc (length (kept_from at index ss)) ≤ length ss
 length_fewer at index more [] is below = absurd (omega (arith, below))
 length_fewer at index zero (s ∷ ss) is below =
-    let own = ap (λ (o : Option Timed). length (option_to_list o))
-    (to_itself (at == index) s.sent (eq-eqb at index (omega (arith, is)))) in
-    omega (
+    grind (
       arith,
+      common_steps,
+      to_itself (at == index) s.sent (eq-eqb at index (omega (arith, is))),
       length-append (option_to_list (sent_to at index s)) (kept_from (suc at) index ss),
-      own,
       length_kept (suc at) index ss,
     )
 length_fewer at index (suc more) (s ∷ ss) is below =
@@ -139,8 +134,13 @@ length_fewer at index (suc more) (s ∷ ss) is below =
 
 pub kept_are_few : (index : ℕ) (ss : List Seat) → index < length ss → length ss ≤ 8 → AreFew (kept_for index ss)
 kept_are_few index ss below few =
-    let fewer = length_fewer 0 index index ss (sym (zero-add index)) below in
-    record { each = λ now. omega (arith, fewer, few, length_frames now (kept_for index ss)) }
+    grind (
+      arith,
+      common_steps,
+      length_fewer 0 index index ss (sym (zero-add index)) below,
+      length_frames,
+      kept_for index ss,
+    )
 
 -- the steps that are still to come of each
 abbrev pub rests_from : ℕ → ℕ → Family → List Seat → List (List StepTold)
@@ -151,19 +151,16 @@ all_late : (at n least : ℕ) (family rs : Family) (ss : List Seat) → n ≤ 10
     → AllStartFrom n least ss
     → AllFrom start_in step_text least (rests_from at n family ss)
 all_late at n least family [] [] few h c = tt
-all_late at n least family [] (s ∷ ss) few h c = absurd h
-all_late at n least family (r ∷ rs) [] few h c = absurd h
 all_late at n least family (r ∷ rs) (s ∷ ss) few h c =
     (rest_late n few (frames_for at family) r s h.0 least c.0, all_late (suc at) n least family rs ss few h.1 c.1)
+all_late at n least family rs ss few h c = absurd h
 
 pub all_over : (at n : ℕ) (family rs : Family) (ss : List Seat) → n ≤ 10000000 → AllUnderWay at n family rs ss
     → NoneStarts n ss
     → AllEmpty start_in step_text (rests_from at n family ss)
-all_over at n family [] [] few h c = tt
-all_over at n family [] (s ∷ ss) few h c = absurd h
-all_over at n family (r ∷ rs) [] few h c = absurd h
-all_over at n family (r ∷ rs) (s ∷ ss) few h c =
-    (over_rest n few (frames_for at family) r s h.0 (over n s c.0), all_over (suc at) n family rs ss few h.1 c.1)
+all_over at n family [] ss few h c = grind (arith, common_steps)
+all_over at n family (r ∷ rs) ss few h c =
+    grind (arith, common_steps, over_rest n few (frames_for at family) r, all_over (suc at) n family rs)
 
 -- one board of them, and the others with another state of it
 pub record HasBoard (at n : ℕ) (family rs : Family) (index number : ℕ) (ss : List Seat) (s : Seat) : Type 0 where
@@ -181,22 +178,10 @@ board_at at n family [] index number (x ∷ xs) s is e h = absurd h
 board_at at n family (r ∷ rs) index number [] s is e h = absurd h
 board_at at n family (r ∷ rs) zero number (x ∷ xs) s is e h =
     let here : at ≡ number = omega (arith, is) in
-    let same : x ≡ s = same_Some x s e in
-    record {
-      record_is = r;
-      way = subst (λ (k : ℕ). IsUnderWay (frames_for k family) n r s) here
-          (subst (IsUnderWay (frames_for at family) n r) same h.0);
-      within = omega arith;
-      set = λ new w. (subst (λ (k : ℕ). IsUnderWay (frames_for k family) n r new) (sym here) w, h.1);
-    }
+    grind (arith, common_steps, same_Some x s e)
 board_at at n family (r ∷ rs) (suc index) number (x ∷ xs) s is e h =
     let b = board_at (suc at) n family rs index number xs s (omega (arith, is)) e h.1 in
-    record {
-      record_is = b.record_is;
-      way = b.way;
-      within = omega (arith, b.within);
-      set = λ new w. (h.0, b.set new w);
-    }
+    grind (arith, common_steps)
 
 pub close_set : (n least index : ℕ) (ss : List Seat) (new : Seat) → AllClose n least ss
     → new.board.chip.cycle ≤ least + 4 → StartsFrom least (start_of n new)
@@ -224,7 +209,7 @@ next_least n least (suc index) cycle (s ∷ ss) h e = next_least n least index c
 pub next_starts : (n index cycle : ℕ) (ss : List Seat) (s : Seat) → IsNextAt n index cycle ss
     → slice_get ss index ≡ Some s → start_of n s ≡ Some cycle
 next_starts n index cycle [] s e f = absurd e
-next_starts n zero cycle (x ∷ xs) s e f = subst (λ (s : Seat). start_of n s ≡ Some cycle) (same_Some x s f) e.0
+next_starts n zero cycle (x ∷ xs) s e f = cc (same_Some x s f)
 next_starts n (suc index) cycle (x ∷ xs) s e f = next_starts n index cycle xs s e.1 f
 
 -- the first of the steps of the next board is taken off
@@ -238,16 +223,7 @@ pub takes : (at n index number cycle : ℕ) (family rs : Family) (ss : List Seat
 takes at n index number cycle family rs [] old new step few is e found h first from = absurd e
 takes at n index number cycle family [] (x ∷ xs) old new step few is e found h first from = absurd h
 takes at n zero number cycle family (r ∷ rs) (x ∷ xs) old new one few is e found h first from =
-    let here : number ≡ at = omega (arith, is) in
-    let same : old ≡ x = sym (same_Some x old found) in
-    let moved = subst (λ (s : Seat). rest_of n (frames_for at family) s ≡ one ∷ rest_of n (frames_for at family) new)
-    same
-    (subst (λ (k : ℕ). rest_of n (frames_for k family) old ≡ one ∷ rest_of n (frames_for k family) new) here first) in (
-      moved,
-      refl,
-      subst (λ (k : ℕ). StepsFrom cycle (rest_of n (frames_for k family) new)) here from,
-      all_late (suc at) n cycle family rs xs few h.1 e.1,
-    )
+    grind (arith, common_steps, same_Some x old found, all_late (suc at) n cycle family rs xs few h.1 e.1)
 takes at n (suc index) number cycle family (r ∷ rs) (x ∷ xs) old new step few is e found h first from = (
   refl,
   rest_late n few (frames_for at family) r x h.0 (suc cycle) e.0,
@@ -261,17 +237,12 @@ pub takes_none : (at n index number : ℕ) (family : Family) (ss : List Seat) (o
     → rests_from at n family ss ≡ rests_from at n family (slice_set ss index new)
 takes_none at n index number family [] old new is found same = absurd (none-some old found)
 takes_none at n zero number family (x ∷ xs) old new is found same =
-    let here : number ≡ at = omega (arith, is) in
-    ap (λ (s : Seat). rest_of n (frames_for at family) s ∷ rests_from (suc at) n family xs) (same_Some x old found)
-    ∙ ap (λ (steps : List StepTold). steps ∷ rests_from (suc at) n family xs)
-    (subst (λ (k : ℕ). rest_of n (frames_for k family) old ≡ rest_of n (frames_for k family) new) here same)
+    grind (arith, common_steps, same_Some x old found)
 takes_none at n (suc index) number family (x ∷ xs) old new is found same =
-    ap (λ (all : List (List StepTold)). rest_of n (frames_for at family) x ∷ all)
-    (takes_none (suc at) n index number family xs old new (omega (arith, is)) found same)
+    cc (takes_none (suc at) n index number family xs old new (omega (arith, is)) found same)
 
 -- the board that is read at an index
 pub seat_read : (ss : List Seat) (index : ℕ) (d : Seat) → index < length ss
     → slice_get ss index ≡ Some (slice_index_or ss index d)
 seat_read [] index d below = absurd (omega (arith, below))
-seat_read (s ∷ ss) zero d below = refl
-seat_read (s ∷ ss) (suc index) d below = seat_read ss index d (omega (arith, below))
+seat_read (s ∷ ss) index d below = grind (arith, common_steps, seat_read ss)

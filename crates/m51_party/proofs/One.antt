@@ -1,7 +1,8 @@
 -- There is exactly one family.
-use Rattle.m51_party.proofs.Common.{◌≡◌, ℕ, zero, suc, ◌^◌, ◌≤◌, ◌<◌, List, [], ◌∷◌, refl, sym, ap, subst, ◌∙◌, arith}
-use Rattle.m51_party.proofs.Common.{flat_map, All, BoardState, separate_of, frames_in, inputs_of, Record, State}
-use Rattle.m51_party.proofs.Common.{Separate, Family, IsFamily, IsFresh, frames_for, frames_sent, record_with}
+use Rattle.std.proofs.lemmas.Grind.{common_steps}
+use Rattle.m51_party.proofs.Common.{◌≡◌, ℕ, zero, suc, ◌^◌, ◌≤◌, ◌<◌, List, [], ◌∷◌, refl, arith}
+use Rattle.m51_party.proofs.Common.{flat_map, All, BoardState, separate_of, frames_in, inputs_of}
+use Rattle.m51_party.proofs.Common.{Family, IsFamily, IsFresh, frames_for, frames_sent}
 use Rattle.m51_party.proofs.Common.{records_from}
 use Rattle.std.proofs.lemmas.List.Elements.{All-head, All-tail}
 use Rattle.m51_party.specs.Laws.{ExactlyOneFamily, IsOnlyFamily}
@@ -24,8 +25,7 @@ all_same cycle [] [] h = refl
 all_same cycle (r ∷ rs) (q ∷ qs) h =
     joined_same cycle (frames_sent r) (flat_map frames_sent rs) (frames_sent q) (flat_map frames_sent qs) h.0
     (all_same cycle rs qs h.1)
-all_same cycle [] (q ∷ qs) h = absurd h
-all_same cycle (r ∷ rs) [] h = absurd h
+all_same cycle rs qs h = absurd h
 
 -- each board gets the same
 for_same : (index cycle : ℕ) (rs qs : Family) → GiveSame cycle rs qs
@@ -35,8 +35,7 @@ for_same zero cycle (r ∷ rs) (q ∷ qs) h = all_same cycle rs qs h.1
 for_same (suc index) cycle (r ∷ rs) (q ∷ qs) h =
     joined_same cycle (frames_sent r) (frames_for index rs) (frames_sent q) (frames_for index qs) h.0
     (for_same index cycle rs qs h.1)
-for_same index cycle [] (q ∷ qs) h = absurd h
-for_same index cycle (r ∷ rs) [] h = absurd h
+for_same index cycle rs qs h = absurd h
 
 -- no board has passed the last cycle
 abbrev AllStart : List BoardState → Type 0
@@ -44,7 +43,7 @@ AllStart [] = Unit {0}
 AllStart (b ∷ bs) = (b.chip.cycle ≤ top) × AllStart bs
 
 pub fresh_starts : (b : BoardState) → IsFresh b → b.chip.cycle ≤ top
-fresh_starts b h = let is : b.chip.cycle ≡ 0 = ap (λ (s : State Separate). s.cycle) h.state in omega (arith, is)
+fresh_starts b h = grind (arith, common_steps)
 
 all_start : (bs : List BoardState) → All IsFresh bs → AllStart bs
 all_start [] h = tt
@@ -70,11 +69,11 @@ one_same : (limit index : ℕ) (bs : List BoardState) (n : ℕ) (family other : 
     → GivenSame limit family other → records_from index bs n family ≡ records_from index bs n other
 one_same limit index [] n family other over same = refl
 one_same limit index (b ∷ bs) n family other over same =
-    ap (λ (r : Record Separate). r ∷ records_from (suc index) bs n family)
-    (records_same b.monitor.layout b.chip.image (inputs_of b.chip.script) (frames_for index family)
-    (frames_for index other) limit (same index) n (separate_of b) over)
-    ∙ ap (λ (rs : Family). record_with n (frames_for index other) b ∷ rs)
-    (one_same limit (suc index) bs n family other over same)
+    cc (
+      records_same b.monitor.layout b.chip.image (inputs_of b.chip.script) (frames_for index family)
+          (frames_for index other) limit (same index) n (separate_of b) over,
+      one_same limit (suc index) bs n family other over same,
+    )
 
 -- after `rounds` rounds the frames before the cycle of that number stay
 rounds_same : (bs : List BoardState) (n : ℕ) → AllStart bs → (rounds : ℕ)
@@ -99,14 +98,17 @@ two_same : (bs : List BoardState) (n : ℕ) → AllStart bs → (family other : 
 two_same bs n starts family other is also zero index cycle below = absurd (omega (arith, below))
 two_same bs n starts family other is also (suc limit) index cycle below =
     for_same index cycle family other
-    (subst (λ (first : Family). GiveSame cycle first other) (sym is)
-    (subst (λ (second : Family). GiveSame cycle (records_from 0 bs n family) second) (sym also)
-    (give_same limit 0 bs n family other (two_same bs n starts family other is also limit) starts cycle below)))
+    (grind (
+      arith,
+      common_steps,
+      give_same limit 0 bs n family other
+          (two_same bs n starts family other is also limit) starts cycle below,
+    ))
 
 two_are_one : (bs : List BoardState) (n : ℕ) → AllStart bs → (family other : Family) → IsFamily bs n family
     → IsFamily bs n other → (limit : ℕ) → top < limit → other ≡ family
 two_are_one bs n starts family other is also limit over =
-    also ∙ sym (one_same limit 0 bs n family other over (two_same bs n starts family other is also limit)) ∙ sym is
+    cc (one_same limit 0 bs n family other over (two_same bs n starts family other is also limit))
 
 one_from : (bs : List BoardState) (n : ℕ) → AllStart bs → (rounds : ℕ) → top < rounds
     → IsOnlyFamily bs n (family_after bs n (suc rounds))

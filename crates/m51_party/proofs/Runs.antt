@@ -1,12 +1,12 @@
 -- A run of the boards on a line: what is written, and what is still to be written.
-use Rattle.m51_party.proofs.Common.{◌≡◌, ℕ, zero, suc, ◌+◌, ◌≤◌, ◌<◌, ◌⊎◌, inl, inr, Bool, true, false, List, [], ◌∷◌}
-use Rattle.m51_party.proofs.Common.{◌++◌, Some, None, Result, Ok, Err, refl, sym, ap, subst, ◌∙◌, arith, append_assoc}
+use Rattle.std.proofs.lemmas.Grind.{common_steps}
+use Rattle.m51_party.proofs.Common.{◌≡◌, ℕ, zero, suc, ◌+◌, ◌≤◌, ◌<◌, ◌⊎◌, inl, inr, Bool, List, [], ◌∷◌}
+use Rattle.m51_party.proofs.Common.{◌++◌, Some, None, Result, Ok, Err, refl, sym, ◌∙◌, arith, append_assoc}
 use Rattle.m51_party.proofs.Common.{zero-add, min, slice_get, slice_set, if◌then◌else◌, same_Some, Event, LayoutParts}
 use Rattle.m51_party.proofs.Common.{Told, BoardState, separate_of, Inputs, inputs_of, attempt_of, changed_by, State}
 use Rattle.m51_party.proofs.Common.{Separate, separate_effect, separate_machine, separate_performs, NextStep, Seat}
 use Rattle.m51_party.proofs.Common.{Family, frames_for, machine_with, IsSeatStep, kept_for, next_from, start_of}
-use Rattle.m51_party.proofs.Common.{told_text, greatest_cycle, front_of, last_lines}
-use Rattle.m51_print.specs.Lines.{last_line, titles_of}
+use Rattle.m51_party.proofs.Common.{told_text, greatest_cycle, last_lines}
 use Rattle.m51_sim.specs.StepLaws.{IsShort}
 use Rattle.m51_sim.proofs.StepCycles.{steps_short}
 use Rattle.m51_party.specs.Seats.{IsStepAt, is_going}
@@ -44,21 +44,16 @@ last_stay : (at index : ℕ) (ss : List Seat) (old new : Seat) (rs : Family) →
     → new.board.monitor.layout ≡ old.board.monitor.layout
     → last_lines at (boards_of ss) rs ≡ last_lines at (boards_of (slice_set ss index new)) rs
 last_stay at index [] old new rs found same = refl
-last_stay at zero (x ∷ xs) old new [] found same = refl
-last_stay at (suc index) (x ∷ xs) old new [] found same = refl
+last_stay at index (x ∷ xs) old new [] found same = grind (arith, common_steps)
 last_stay at zero (x ∷ xs) old new (r ∷ rs) found same =
-    let layout : x.board.monitor.layout ≡ new.board.monitor.layout =
-    ap (λ (s : Seat). s.board.monitor.layout) (same_Some x old found) ∙ sym same in
-    ap (λ (l : LayoutParts). front_of at ++ last_line (titles_of l.placed) r.event r.steps r.last.cycle
-    ++ last_lines (suc at) (boards_of xs) rs) layout
+    cc (same_Some x old found)
 last_stay at (suc index) (x ∷ xs) old new (r ∷ rs) found same =
-    ap (λ (text : List ℕ). front_of at ++ last_line (titles_of x.board.monitor.layout.placed) r.event r.steps
-    r.last.cycle ++ text) (last_stay (suc at) index xs old new rs found same)
+    cc (last_stay (suc at) index xs old new rs found same)
 
 -- a step takes at most four cycles
 few_by : (s next : State Separate) (count : ℕ) (image : List ℕ) → next.cycle ≡ min (s.cycle + count) top
     → s.cycle ≤ 40000000 → IsShort image s next → count ≤ 4
-few_by s next count image is early short = omega (arith, is, early, short.cycle, short.few)
+few_by s next count image is early short = omega arith
 
 takes_few : (l : LayoutParts) (image : List ℕ) (inputs : Inputs) (s : State Separate) (j : Result Allowed Event)
     → s.cycle ≤ 40000000
@@ -71,8 +66,7 @@ takes_few l image inputs s (Ok a) early is =
     (steps_short l image inputs s done is)
 
 start_by : (b : Bool) (least cycle : ℕ) → least ≤ cycle → StartsFrom least (if b then Some cycle else None)
-start_by true least cycle h = h
-start_by false least cycle h = tt
+start_by b least cycle h = grind (arith, common_steps)
 
 -- it starts no step before the cycle that it has reached
 pub start_late : (n least : ℕ) (s : Seat) → least ≤ s.board.chip.cycle → StartsFrom least (start_of n s)
@@ -120,8 +114,7 @@ module _ (n : ℕ) (family : Family) (seats : List Seat) (few : n ≤ 10000000) 
   same =
       step_within (inputs_of old.board.chip.script) (kept_for c.index seats) (frames_for c.index family)
       old.board.monitor.layout old.board.chip.image (separate_of old.board) short (omega (arith, early))
-      (λ now after below. handed_on n c.cycle now c.index family seats few (omega (arith, after, at.cycle_is))
-      (omega (arith, below, at.cycle_is)) going.all close)
+      (grind (arith, common_steps, handed_on n c.cycle, at.cycle_is, close))
 
   moved : IsStepped c.index n (frames_for c.index family) board.record_is told old new
   moved = stepped c.index n (frames_for c.index family) (kept_for c.index seats) board.record_is told old new board.way
@@ -166,16 +159,14 @@ module _ (n : ℕ) (family : Family) (seats : List Seat) (few : n ≤ 10000000) 
       (rest_of n (frames_for c.index family) new)
       → lines_to_come n family seats ≡ told_text c.index told ++ lines_to_come n family (slice_set seats c.index new)
   lines_by (inl t) =
-      first_taken start_in step_text c.index c.cycle (greatest_cycle family + 1) t.step (rests_from 0 n family seats)
-      (rests_from 0 n family (slice_set seats c.index new)) (t.start ∙ at.cycle_is)
-      (takes 0 n c.index c.index c.cycle family family seats old new t.step few (sym (zero-add c.index)) next found
-      going.all t.first
-      (rest_late n few (frames_for c.index family) board.record_is new moved.way c.cycle starts)) within
-      ∙ ap (λ (text : List ℕ). text ++ lines_to_come n family (slice_set seats c.index new)) (sym t.lines)
+      cc (first_taken start_in step_text c.index c.cycle (greatest_cycle family + 1) t.step
+      (rests_from 0 n family seats) (rests_from 0 n family (slice_set seats c.index new)) (t.start
+      ∙ at.cycle_is) (takes 0 n c.index c.index c.cycle family family seats old new t.step few
+      (sym (zero-add c.index)) next found going.all t.first
+      (rest_late n few (frames_for c.index family) board.record_is new moved.way c.cycle starts))
+      within)
   lines_by (inr t) =
-      ap (before start_in step_text (greatest_cycle family + 1))
-      (takes_none 0 n c.index c.index family seats old new (sym (zero-add c.index)) found t.same)
-      ∙ ap (λ (text : List ℕ). text ++ lines_to_come n family (slice_set seats c.index new)) (sym t.lines)
+      cc (takes_none 0 n c.index c.index family seats old new (sym (zero-add c.index)) found t.same)
 
   advances_one : Advances n family c.index told seats (slice_set seats c.index new)
   advances_one = record { going = going_on; text = with_lines (lines_by moved.lines) }
@@ -184,5 +175,4 @@ pub advances : (n : ℕ) (family : Family) (seats news : List Seat) (c : NextSte
     → AreGoing n family seats
     → next_from n 0 seats ≡ Some c → IsStepAt c.index told seats news → Advances n family c.index told seats news
 advances n family seats news c told few going chosen h =
-    subst (Advances n family c.index told seats) (sym h.others)
-    (advances_one n family seats few going c chosen told h.old h.new h.found h.step)
+    rw h.others (advances_one n family seats few going c chosen told h.old h.new h.found h.step)

@@ -1,14 +1,16 @@
 -- Boards of which contracts see the same make the same records and the same text.
-use Rattle.m51_party.proofs.Common.{◌≡◌, ◌+◌, ℕ, suc, zero, List, [], ◌∷◌, ◌++◌, length, refl, sym, ap, subst, ◌∙◌, All}
-use Rattle.m51_party.proofs.Common.{flat_map, LayoutParts, Timed, BoardState, separate_of, inputs_of, with_extra}
-use Rattle.m51_party.proofs.Common.{Record, State, Separate, separate_machine, Seat, new_seat, Family, IsFamily}
-use Rattle.m51_party.proofs.Common.{IsFresh, frames_for, machine_with, record_with, records_from, StepTold}
-use Rattle.m51_party.proofs.Common.{greatest_cycle, front_of, last_lines}
+use Rattle.std.proofs.lemmas.Grind.{common_steps}
+use Rattle.std.proofs.Common.{arith}
+use Rattle.m51_party.proofs.Common.{◌≡◌, ◌+◌, ℕ, suc, zero, List, [], ◌∷◌, length, refl, sym, ap, ◌∙◌, All}
+use Rattle.m51_party.proofs.Common.{LayoutParts, Timed, BoardState, separate_of, inputs_of, with_extra}
+use Rattle.m51_party.proofs.Common.{State, Separate, separate_machine, Seat, new_seat, Family, IsFamily}
+use Rattle.m51_party.proofs.Common.{IsFresh, frames_for, machine_with, record_with, records_from}
+use Rattle.m51_party.proofs.Common.{greatest_cycle, last_lines}
 use Rattle.std.proofs.Common.{map}
 use Rattle.m51_script.specs.declared.script.Script.{Script}
 use Rattle.m51_sim.specs.Runs.{record_of}
 use Rattle.m51_party.specs.Report.{IsPartyOf, boards_of}
-use Rattle.m51_party.specs.Text.{lines_at, lines_before, lines_of}
+use Rattle.m51_party.specs.Text.{lines_at, lines_before}
 use Rattle.m51_party.specs.Text.{party_text}
 use Rattle.m51_party.specs.Text.{steps_of}
 use Rattle.m51_party.proofs.One.{only_family}
@@ -31,10 +33,7 @@ alike : {X : Type 0} (of : LayoutParts → List ℕ → Script → State Separat
     → of b.monitor.layout b.chip.image b.chip.script (separate_of b)
     ≡ of c.monitor.layout c.chip.image c.chip.script (separate_of c)
 alike of b c h =
-    ap (λ l. of l b.chip.image b.chip.script (separate_of b)) h.layout
-    ∙ ap (λ i. of c.monitor.layout i b.chip.script (separate_of b)) h.image
-    ∙ ap (λ s. of c.monitor.layout c.chip.image s (separate_of b)) h.script
-    ∙ ap (of c.monitor.layout c.chip.image c.chip.script) h.state
+    cc
 
 record_alike : (n : ℕ) (extra : List Timed) (b c : BoardState) → AreAlike b c
     → record_with n extra b ≡ record_with n extra c
@@ -50,10 +49,7 @@ records_alike : (index : ℕ) (bs cs : List BoardState) (n : ℕ) (family : Fami
     → records_from index bs n family ≡ records_from index cs n family
 records_alike index [] [] n family h = refl
 records_alike index (b ∷ bs) (c ∷ cs) n family h =
-    ap (λ (r : Record Separate). r ∷ records_from (suc index) bs n family)
-    (record_alike n (frames_for index family) b c h.0)
-    ∙ ap (λ (rs : Family). record_with n (frames_for index family) c ∷ rs)
-    (records_alike (suc index) bs cs n family h.1)
+    cc (record_alike n (frames_for index family) b c h.0, records_alike (suc index) bs cs n family h.1)
 records_alike index [] (c ∷ cs) n family h = absurd h
 records_alike index (b ∷ bs) [] n family h = absurd h
 
@@ -61,11 +57,7 @@ at_alike : (cycle index : ℕ) (bs cs : List BoardState) (n : ℕ) (family : Fam
     → lines_at cycle index bs n family ≡ lines_at cycle index cs n family
 at_alike cycle index [] [] n family h = refl
 at_alike cycle index (b ∷ bs) (c ∷ cs) n family h =
-    ap (λ (steps : List StepTold). flat_map (lines_of cycle (front_of index)) steps
-    ++ lines_at cycle (suc index) bs n family) (steps_alike n (frames_for index family) b c h.0)
-    ∙ ap (λ (text : List ℕ). flat_map (lines_of cycle (front_of index))
-    (steps_of (machine_with (frames_for index family) c) n (separate_of c)) ++ text)
-    (at_alike cycle (suc index) bs cs n family h.1)
+    cc (steps_alike n (frames_for index family) b c h.0, at_alike cycle (suc index) bs cs n family h.1)
 at_alike cycle index [] (c ∷ cs) n family h = absurd h
 at_alike cycle index (b ∷ bs) [] n family h = absurd h
 
@@ -73,22 +65,18 @@ before_alike : (cycle : ℕ) (bs cs : List BoardState) (n : ℕ) (family : Famil
     → lines_before cycle bs n family ≡ lines_before cycle cs n family
 before_alike zero bs cs n family h = refl
 before_alike (suc cycle) bs cs n family h =
-    ap (λ (text : List ℕ). text ++ lines_at cycle 0 bs n family) (before_alike cycle bs cs n family h)
-    ∙ ap (λ (text : List ℕ). lines_before cycle cs n family ++ text) (at_alike cycle 0 bs cs n family h)
+    cc (before_alike cycle bs cs n family h, at_alike cycle 0 bs cs n family h)
 
 last_alike : (index : ℕ) (bs cs : List BoardState) (family : Family) → AllAlike bs cs
     → last_lines index bs family ≡ last_lines index cs family
 last_alike index [] [] family h = refl
-last_alike index (b ∷ bs) (c ∷ cs) [] h = refl
-last_alike index (b ∷ bs) (c ∷ cs) (r ∷ rs) h = rw (h.0.layout, last_alike (suc index) bs cs rs h.1) refl
-last_alike index [] (c ∷ cs) family h = absurd h
-last_alike index (b ∷ bs) [] family h = absurd h
+last_alike index (b ∷ bs) (c ∷ cs) family h = grind (arith, common_steps, last_alike (suc index) bs cs)
+last_alike index bs cs family h = grind (arith, common_steps)
 
 count_alike : (bs cs : List BoardState) → AllAlike bs cs → length bs ≡ length cs
 count_alike [] [] h = refl
 count_alike (b ∷ bs) (c ∷ cs) h = ap suc (count_alike bs cs h.1)
-count_alike [] (c ∷ cs) h = absurd h
-count_alike (b ∷ bs) [] h = absurd h
+count_alike bs cs h = absurd h
 
 -- the text of a family
 pub text_alike : (bs cs : List BoardState) (n : ℕ) (family : Family) → AllAlike bs cs
@@ -109,11 +97,11 @@ family_alike bs cs n one other h fresh is also =
 
 seats_boards : (bs : List BoardState) → boards_of (map new_seat bs) ≡ bs
 seats_boards [] = refl
-seats_boards (b ∷ bs) = ap (λ (rest : List BoardState). b ∷ rest) (seats_boards bs)
+seats_boards (b ∷ bs) = cc (seats_boards bs)
 
 pub made_boards : (boards : List BoardState) (party : List Seat) → IsPartyOf boards party → boards_of party ≡ boards
-made_boards boards party h = ap boards_of h.seats ∙ seats_boards boards
+made_boards boards party h = cc (seats_boards boards)
 
 pub made_party : (boards : List BoardState) (party : List Seat) → IsPartyOf boards party
     → IsPartyOf (boards_of party) party
-made_party boards party h = subst (λ (bs : List BoardState). IsPartyOf bs party) (sym (made_boards boards party h)) h
+made_party boards party h = rw (made_boards boards party h) h

@@ -1,7 +1,8 @@
 -- The bytes with a ninth bit that a board sends, one after another: only the last one may still be on the line.
+use Rattle.std.proofs.lemmas.Grind.{common_steps}
 use Rattle.m51_party.proofs.Common.{◌≡◌, ℕ, zero, suc, ◌+◌, ◌^◌, ◌-◌, ◌≤◌, ◌<◌, Bool, List, [], ◌∷◌, ◌++◌, Option, Some}
-use Rattle.m51_party.proofs.Common.{None, refl, ap, subst, ◌∙◌, arith, append-nil, ◌==◌, option_to_list, min, ne_eqb}
-use Rattle.m51_party.proofs.Common.{Entry, Port, ticked, Timed, Inputs, frames_in, next_cycle, sent_in, changed_by}
+use Rattle.m51_party.proofs.Common.{None, refl, subst, ◌∙◌, arith, append-nil, ◌==◌, option_to_list, min, ne_eqb}
+use Rattle.m51_party.proofs.Common.{Entry, ticked, Timed, Inputs, frames_in, next_cycle, sent_in, changed_by}
 use Rattle.m51_party.proofs.Common.{frames_of}
 use Rattle.std.proofs.Common.{◌≢◌}
 use Rattle.std.specs.Prelude.{IsSome, IfSome}
@@ -30,12 +31,11 @@ begun_apart : (least cycle : ℕ) (cpu : Cpu) (byte : ℕ) (p : Periph) → leas
     → IsApart least cycle (begun cpu byte p)
 unfolding begun
 begun_apart least cycle cpu byte p h i ne =
-    let e = ninth_ten (serial_mode cpu) (flag cpu scon tb8) i in omega (arith, e, h)
+    omega (arith, ninth_ten (serial_mode cpu) (flag cpu scon tb8) i)
 
 begin_apart : (least cycle : ℕ) (cpu : Cpu) (o : Option ℕ) (p : Periph) → least ≤ cycle + 14 → IsApart least cycle p
     → IsApart least cycle (written_to cpu o p)
-begin_apart least cycle cpu None p h k = k
-begin_apart least cycle cpu (Some byte) p h k = begun_apart least cycle cpu byte p h
+begin_apart least cycle cpu o p h k = grind (arith, common_steps, begun_apart least cycle cpu)
 
 -- a frame that arrives no earlier than this, and was sent by this cycle
 abbrev pub Arrives : ℕ → ℕ → List Timed → Type 0
@@ -50,31 +50,24 @@ SpacedBy least cycle p (Some entry) = (p.left ≡ 0) × Arrives least cycle (fra
 tick_apart : (least cycle : ℕ) (p q : Periph) → p.left ≤ q.left + 1 → q.left ≤ p.left → q.ninth ≡ p.ninth
     → IsApart least cycle p → IsApart least (cycle + 1) q
 tick_apart least cycle p q low high same g i ne =
-    let was : p.left ≢ 0 = λ e. ne (omega (arith, e, high)) in
-    let h : least ≤ p.left + cycle + 4 = g (subst (λ o. IsSome o) same i) was in
-    omega (arith, h, low)
+    omega (arith, g (subst (λ o. IsSome o) same i))
 
 byte_arrives : (least cycle byte : ℕ) (n : Option Bool) (p : Periph) → n ≡ p.ninth → p.left ≡ 1 → IsApart least cycle p
     → Arrives least (cycle + 1) (frames_of (SentByte (cycle + 1) byte n))
 byte_arrives least cycle byte None p e one g = tt
 byte_arrives least cycle byte (Some b) p e one g =
-    let h : least ≤ p.left + cycle + 4 =
-    g (subst (λ (o : Option Bool). IsSome o) e refl) (λ z. omega (arith, z, one)) in
-    (omega (arith, h, one), omega arith)
+    omega (arith, g (subst (λ (o : Option Bool). IsSome o) e refl) (λ z. omega (arith, z, one)))
 
 -- a tick in which nothing was sent before
 first_spaced : (least cycle : ℕ) (p q : Periph) (sent : Option Sent) → IsApart least (cycle + 1) q
     → IsApart least cycle p
     → IfSome sent (λ s. (s ≡ record { byte = p.byte; ninth = p.ninth }) × (p.left ≡ 1) × (q.left ≡ 0))
     → SpacedBy least (cycle + 1) q (sent_in (cycle + 1) sent)
-first_spaced least cycle p q None g h is = g
-first_spaced least cycle p q (Some s) g h is =
-    (is.2, byte_arrives least cycle s.byte s.ninth p (ap (λ (s : Sent). s.ninth) is.0) is.1 h)
+first_spaced least cycle p q sent g h is = grind (arith, common_steps, byte_arrives least cycle)
 
 arrives_later : (least cycle later : ℕ) (ts : List Timed) → cycle ≤ later → Arrives least cycle ts
     → Arrives least later ts
-arrives_later least cycle later [] h k = tt
-arrives_later least cycle later (t ∷ ts) h k = (k.0, omega (arith, h, k.1))
+arrives_later least cycle later ts h k = grind (arith, common_steps)
 
 tick_spaced : (least cycle : ℕ) (p q : Periph) (before : Option Entry) (sent : Option Sent)
     → p.left ≤ q.left + 1 → q.left ≤ p.left → q.ninth ≡ p.ninth
@@ -92,12 +85,16 @@ cycle_spaced : (inputs : Inputs) (least : ℕ) (p : Passing) → p.cycle < top �
     → IsSpaced least (cycle_passed inputs p)
 unfolding cycle_passed
 cycle_spaced inputs least p h g =
-    let cycle = next_cycle p.cycle in
-    let is : p.cycle + 1 ≡ cycle = omega (arith, h) in
-    let t = ticked p.cpu (inputs.pins cycle) (inputs.frames cycle) p.periph in
-    let one = one_bit_passes p.cpu (inputs.pins cycle) (inputs.frames cycle) p.periph in
-    subst (λ (c : ℕ). SpacedBy least c t.periph (first_sent p.sent (sent_in c t.sent))) is
-    (tick_spaced least p.cycle p.periph t.periph p.sent t.sent one.least one.most one.ninth one.sent g)
+    grind (
+      arith,
+      common_steps,
+      next_cycle p.cycle,
+      ticked p.cpu (inputs.pins (next_cycle p.cycle))
+          (inputs.frames (next_cycle p.cycle)) p.periph,
+      one_bit_passes p.cpu (inputs.pins (next_cycle p.cycle))
+          (inputs.frames (next_cycle p.cycle)) p.periph,
+      tick_spaced least p.cycle p.periph,
+    )
 
 cycles_spaced : (inputs : Inputs) (least count : ℕ) (p : Passing) → p.cycle + count ≤ top → IsSpaced least p
     → IsSpaced least (cycles_passed inputs count p)
@@ -144,17 +141,14 @@ pub record KeepsLast (cycle : ℕ) (p : Periph) (frames : List Timed) (kept : Op
   pub last : IsLast cycle p kept
 
 last_apart : (cycle : ℕ) (p : Periph) (kept : Option Timed) → IsLast cycle p kept → IsApart (least_after kept) cycle p
-last_apart cycle p None h = λ i ne. omega arith
-last_apart cycle p (Some t) h = h.1
+last_apart cycle p kept h = grind (arith, common_steps)
 
 last_room : (cycle : ℕ) (p : Periph) (kept : Option Timed) → IsLast cycle p kept → least_after kept ≤ cycle + 14
-last_room cycle p None h = omega arith
-last_room cycle p (Some t) h = omega (arith, h.0)
+last_room cycle p kept h = grind (arith, common_steps)
 
 last_later : (cycle later : ℕ) (p q : Periph) (kept : Option Timed) → cycle ≤ later → IsLast cycle p kept
     → IsApart (least_after kept) later q → IsLast later q kept
-last_later cycle later p q None h k g = tt
-last_later cycle later p q (Some t) h k g = (omega (arith, h, k.0), g)
+last_later cycle later p q kept h k g = grind (arith, common_steps)
 
 -- nothing is on its way
 quiet : (least cycle : ℕ) (p : Periph) → p.left ≡ 0 → IsApart least cycle p
@@ -162,8 +156,7 @@ quiet least cycle p e i ne = absurd (ne e)
 
 kept_until : (cycle later : ℕ) (p : Periph) (kept : Option Timed) (t : Timed) → IsLast cycle p kept
     → least_after kept ≤ t.cycle → t.cycle ≤ later + 4 → Until later (option_to_list kept)
-kept_until cycle later p None t h k below = tt
-kept_until cycle later p (Some last) t h k below = (omega (arith, k, below), tt)
+kept_until cycle later p kept t h k below = grind (arith, common_steps)
 
 same_frames : (frames older : List Timed) → frames ≡ older → frames ++ [] ≡ older
 same_frames frames older e = append-nil frames ∙ e
@@ -172,12 +165,13 @@ same_frames frames older e = append-nil frames ∙ e
 keeps_same : (cycle later : ℕ) (p q : Periph) (frames : List Timed) (kept : Option Timed) → cycle ≤ later
     → KeepsLast cycle p frames kept
     → IsApart (least_after kept) later q → KeepsLast later q (frames ++ []) kept
-keeps_same cycle later p q frames kept h k g = record {
-  older = k.older;
-  are = same_frames frames (k.older ++ option_to_list kept) k.are;
-  before = until_later cycle later k.older h k.before;
-  last = last_later cycle later p q kept h k.last g;
-}
+keeps_same cycle later p q frames kept h k g = grind (
+  arith,
+  common_steps,
+  same_frames frames (k.older ++ option_to_list kept) k.are,
+  until_later cycle later k.older h k.before,
+  last_later cycle later p q kept h k.last g,
+)
 
 timed : ℕ → ℕ → Bool → Timed
 timed cycle byte ninth = record { cycle = cycle; frame = record { byte = byte; ninth = ninth } }
@@ -189,27 +183,24 @@ keeps_next : (cycle later at byte : ℕ) (ninth : Bool) (p q : Periph) (frames :
     (last_sent kept (Some (SentByte at byte (Some ninth))))
 unfolding timed
 keeps_next cycle later at byte ninth p q frames kept h room k none least most =
-    let is : at + 4 ≡ min (at + 4) (2 ^ 64 - 1) = omega (arith, most, room) in
-    record {
-      older = k.older ++ option_to_list kept;
-      are = ap (λ (ts : List Timed). ts ++ timed (at + 4) byte ninth ∷ []) k.are
-          ∙ ap (λ (c : ℕ). (k.older ++ option_to_list kept) ++ timed c byte ninth ∷ []) is;
-      before = until_append later k.older (option_to_list kept) (until_later cycle later k.older h k.before)
-          (kept_until cycle later p kept (timed (at + 4) byte ninth) k.last least most);
-      last = (omega (arith, is, most), quiet (min (at + 4) (2 ^ 64 - 1) + 9) later q none);
-    }
+    grind (
+      arith,
+      common_steps,
+      until_append later k.older (option_to_list kept)
+          (until_later cycle later k.older h k.before) (kept_until cycle later p kept (timed (at + 4) byte ninth)
+          k.last least most),
+      quiet (min (at + 4) (2 ^ 64 - 1) + 9) later q none,
+    )
 
 -- so it is after a step
 pub keeps_on : (cycle later : ℕ) (p q : Periph) (frames : List Timed) (kept : Option Timed) (sent : Option Entry)
     → cycle ≤ later → later + 4 ≤ top → KeepsLast cycle p frames kept
     → SpacedBy (least_after kept) later q sent → KeepsLast later q (frames ++ sent_frames sent) (last_sent kept sent)
 keeps_on cycle later p q frames kept None h room k g = keeps_same cycle later p q frames kept h k g
-keeps_on cycle later p q frames kept (Some (Port at port value)) h room k g =
-    keeps_same cycle later p q frames kept h k (quiet (least_after kept) later q g.0)
-keeps_on cycle later p q frames kept (Some (SentByte at byte None)) h room k g =
-    keeps_same cycle later p q frames kept h k (quiet (least_after kept) later q g.0)
 keeps_on cycle later p q frames kept (Some (SentByte at byte (Some ninth))) h room k g =
     keeps_next cycle later at byte ninth p q frames kept h room k g.0 g.1.0 g.1.1
+keeps_on cycle later p q frames kept sent h room k g =
+    keeps_same cycle later p q frames kept h k (quiet (least_after kept) later q g.0)
 
 -- what is sent in the cycles of a step
 pub step_spaced : (inputs : Inputs) (least cycle : ℕ) (p : Periph) (e : Effect) → cycle + e.cycles ≤ top

@@ -1,9 +1,9 @@
 -- The steps of a run are those of its record.
-use Rattle.m51_party.proofs.Common.{ℕ, zero, suc, ◌≤◌, List, [], ◌++◌, Result, Ok, Err, refl, ap, arith, All, Event}
-use Rattle.m51_party.proofs.Common.{Entry, LayoutParts, separate_of, Inputs, inputs_of, with_extra, attempt_of}
-use Rattle.m51_party.proofs.Common.{changed_by, State, entries_of, record_from, Separate, separate_effect}
+use Rattle.std.proofs.lemmas.Grind.{common_steps}
+use Rattle.m51_party.proofs.Common.{ℕ, zero, suc, ◌≤◌, List, [], Result, arith, All, Event}
+use Rattle.m51_party.proofs.Common.{LayoutParts, separate_of, Inputs, inputs_of, with_extra, attempt_of}
+use Rattle.m51_party.proofs.Common.{State, entries_of, record_from, Separate, separate_effect}
 use Rattle.m51_party.proofs.Common.{separate_machine, separate_performs, StepTold, steps_from}
-use Rattle.std.proofs.lemmas.List.Elements.{All-cons}
 use Rattle.m51_sim.specs.Runs.{record_of}
 use Rattle.m51_party.specs.Laws.{AreItsSteps, StepsMakeRecords}
 use Rattle.m51_party.specs.Text.{steps_of}
@@ -31,35 +31,19 @@ module _ (l : LayoutParts) (image : List ℕ) (inputs : Inputs) where
 
   made_by : (n : ℕ) (s : State Separate) (r : Result Allowed Event) → s.cycle ≤ top
       → ((t : State Separate) → t.cycle ≤ top → AreMade n t) → AreMadeBy n s r
-  made_by n s (Err event) h rest =
-      record { later = omega arith; steps = record { entries = refl; count = refl; starts = none_start s.cycle } }
-  made_by n s (Ok a) h rest =
-      let done = done_by l image inputs s a in
-      let go = ticks_go inputs 0 a.effect.cycles (changed_by s.cycle s.periph a.effect) h (omega arith) in
-      let next = rest done.state go.most in
-      let limit = (record_of (separate_machine l image inputs) n done.state).last.cycle in
-      let first : StepTold = record { start = s.cycle; entries = entries_of done.told } in
-      let later : s.cycle ≤ limit = omega (arith, go.later, next.later) in
-      record {
-        later = later;
-        steps = record {
-          entries = ap (λ (es : List Entry). entries_of done.told ++ es) next.steps.entries;
-          count = ap suc next.steps.count;
-          starts = All-cons (λ (step : StepTold). step.start ≤ limit) first
-              (steps_of (separate_machine l image inputs) n done.state) later next.steps.starts;
-        };
-      }
+  made_by n s r h rest =
+      grind (arith, common_steps, none_start s.cycle, done_by l image inputs s, ticks_go inputs 0, entries_of)
 
   pub made : (n : ℕ) (s : State Separate) → s.cycle ≤ top → AreMade n s
   unfolding record_of steps_of
-  made zero s h = record {
-    later = omega arith;
-    steps = record { entries = refl; count = refl; starts = none_start s.cycle };
-  }
+  made zero s h = grind (arith, common_steps, none_start s.cycle)
   made (suc n) s h =
-      let by = made_by n s (separate_effect l image s.cpu s.memory (inputs.pins s.cycle) (attempt_of image s.cpu)) h
-      (λ t k. made n t k) in
-      record { later = by.later; steps = by.steps }
+      grind (
+        arith,
+        common_steps,
+        made_by n s (separate_effect l image s.cpu s.memory (inputs.pins s.cycle)
+            (attempt_of image s.cpu)) h (λ t k. made n t k),
+      )
 
 pub steps_make_records : StepsMakeRecords
 steps_make_records b n extra fresh =

@@ -1,10 +1,11 @@
 -- The cycles of a step, with frames that are the same before a cycle.
-use Rattle.m51_party.proofs.Common.{◌≡◌, ℕ, zero, suc, ◌+◌, ◌-◌, ◌^◌, ◌≤◌, ◌<◌, ◌⊎◌, inl, inr, ⊎_elim, List, ◌++◌, refl}
-use Rattle.m51_party.proofs.Common.{sym, ap, subst, ◌∙◌, arith, Frame, ticked, Timed, Inputs, frames_in, next_cycle}
+use Rattle.std.proofs.lemmas.Grind.{common_steps}
+use Rattle.m51_party.proofs.Common.{◌≡◌, ℕ, zero, suc, ◌+◌, ◌-◌, ◌^◌, ◌≤◌, ◌<◌, ◌⊎◌, inl, ⊎_elim, List, refl}
+use Rattle.m51_party.proofs.Common.{sym, ◌∙◌, arith, Timed, Inputs, frames_in, next_cycle}
 use Rattle.m51_party.proofs.Common.{sent_in, with_extra}
 use Rattle.std.proofs.lemmas.Bool.{cases_lt}
 use Rattle.m51_party.proofs.Words.{Passing}
-use Rattle.m51_sim.specs.Cycles.{after_tick, cycle_passed, cycles_passed}
+use Rattle.m51_sim.specs.Cycles.{cycle_passed, cycles_passed}
 use Rattle.m51_sim.proofs.StepCycles.{one_counts}
 use Rattle.m51_party.proofs.Frames.{From, first_from, first_same, sent_frames, sent_from}
 
@@ -14,9 +15,6 @@ top = 2 ^ 64 - 1
 
 pub next_later : (cycle : ℕ) → cycle ≤ top → cycle ≤ next_cycle cycle
 next_later cycle h = omega (arith, h)
-
-pub next_top : (cycle : ℕ) → next_cycle cycle ≤ top
-next_top cycle = omega arith
 
 -- the number of the cycle does not fall, and what is sent comes no earlier
 pub record GoesOn (least : ℕ) (p q : Passing) : Type 0 where
@@ -28,9 +26,14 @@ tick_sends : (inputs : Inputs) (p : Passing) (least : ℕ) → least ≤ next_cy
     → From least (sent_frames p.sent) → From least (sent_frames (cycle_passed inputs p).sent)
 unfolding cycle_passed
 tick_sends inputs p least h k =
-    let cycle = next_cycle p.cycle in
-    let told = (ticked p.cpu (inputs.pins cycle) (inputs.frames cycle) p.periph).sent in
-    first_from least p.sent (sent_in cycle told) k (sent_from cycle least told h)
+    grind (
+      arith,
+      common_steps,
+      next_cycle p.cycle,
+      first_from least p.sent,
+      sent_in (next_cycle p.cycle),
+      sent_from (next_cycle p.cycle) least,
+    )
 
 -- the next number does not fall either
 pub next_no_less : (a b : ℕ) → a ≤ b → next_cycle a ≤ next_cycle b
@@ -40,22 +43,22 @@ next_no_less a b h = omega (arith, h)
 pub ticks_from : (inputs : Inputs) (least count : ℕ) (p : Passing) → p.cycle ≤ top → least ≤ next_cycle p.cycle + 4
     → GoesOn least p (cycles_passed inputs count p)
 unfolding cycles_passed
-ticks_from inputs least zero p h k = record { later = omega arith; most = h; sent = λ s. s }
+ticks_from inputs least zero p h k = grind (arith, common_steps)
 ticks_from inputs least (suc count) p h k =
     let before = ticks_from inputs least count p h k in
     let q = cycles_passed inputs count p in
     let is = one_counts inputs q in
     let more = next_later q.cycle before.most in
     record {
-      later = omega (arith, is, more, before.later);
-      most = omega (arith, is, next_top q.cycle);
-      sent = λ s. tick_sends inputs q least (omega (arith, k, next_no_less p.cycle q.cycle before.later))
+      later = omega arith;
+      most = omega arith;
+      sent = λ s. tick_sends inputs q least (omega arith)
           (before.sent s);
     }
 
 pub ticks_go : (inputs : Inputs) (least count : ℕ) (p : Passing) → p.cycle ≤ top → least ≤ p.cycle + 4
     → GoesOn least p (cycles_passed inputs count p)
-ticks_go inputs least count p h k = ticks_from inputs least count p h (omega (arith, k, next_later p.cycle h))
+ticks_go inputs least count p h k = ticks_from inputs least count p h (omega arith)
 
 -- frames that are the same before a cycle
 abbrev pub SameBefore : ℕ → List Timed → List Timed → Type 0
@@ -67,8 +70,7 @@ module _ (inputs : Inputs) (xs ys : List Timed) (limit : ℕ) (same : SameBefore
   unfolding cycle_passed
   tick_same p below =
       let cycle = next_cycle p.cycle in
-      ap (λ (fs : List Frame). after_tick cycle p.sent
-      (ticked p.cpu (inputs.pins cycle) (inputs.frames cycle ++ fs) p.periph)) (same cycle below)
+      cc (same cycle below)
 
   -- so are whole steps, where no cycle is as late
   pub ticks_same : (count : ℕ) (p : Passing) → top < limit
@@ -77,8 +79,8 @@ module _ (inputs : Inputs) (xs ys : List Timed) (limit : ℕ) (same : SameBefore
   ticks_same zero p over = refl
   ticks_same (suc count) p over =
       let q = cycles_passed (with_extra xs inputs) count p in
-      tick_same q (omega (arith, over, next_top q.cycle))
-      ∙ ap (cycle_passed (with_extra ys inputs)) (ticks_same count p over)
+      tick_same q (omega arith)
+      ∙ cc (ticks_same count p over)
 
   -- both have come so far, and what they sent arrives alike until then
   pub record HaveParted (p q : Passing) : Type 0 where
@@ -93,10 +95,14 @@ module _ (inputs : Inputs) (xs ys : List Timed) (limit : ℕ) (same : SameBefore
       → frames_in cycle (sent_frames (cycle_passed from p).sent) ≡ frames_in cycle (sent_frames p.sent)
   unfolding cycle_passed
   tick_adds from p cycle h below =
-      let now = next_cycle p.cycle in
-      let told = (ticked p.cpu (from.pins now) (from.frames now) p.periph).sent in
-      first_same cycle (now + 4) p.sent (sent_in now told) (omega (arith, h, below))
-      (sent_from now (now + 4) told (omega arith))
+      grind (
+        arith,
+        common_steps,
+        next_cycle p.cycle,
+        first_same cycle ((next_cycle p.cycle) + 4) p.sent,
+        sent_in (next_cycle p.cycle),
+        sent_from (next_cycle p.cycle) ((next_cycle p.cycle) + 4),
+      )
 
   parted_from : (p q : Passing) → limit ≤ next_cycle p.cycle → limit ≤ next_cycle q.cycle
       → ((cycle : ℕ) → cycle < suc limit → frames_in cycle (sent_frames p.sent) ≡ frames_in cycle (sent_frames q.sent))
@@ -107,8 +113,8 @@ module _ (inputs : Inputs) (xs ys : List Timed) (limit : ℕ) (same : SameBefore
       record {
         left = omega (arith, one, h);
         right = omega (arith, two, k);
-        left_top = omega (arith, one, next_top p.cycle);
-        right_top = omega (arith, two, next_top q.cycle);
+        left_top = omega arith;
+        right_top = omega arith;
         sent = λ cycle below. tick_adds (with_extra xs inputs) p cycle h below ∙ sent cycle below
             ∙ sym (tick_adds (with_extra ys inputs) q cycle k below);
       }
@@ -120,18 +126,13 @@ module _ (inputs : Inputs) (xs ys : List Timed) (limit : ℕ) (same : SameBefore
       → AreAlike (cycle_passed (with_extra xs inputs) p) (cycle_passed (with_extra ys inputs) p)
   tick_together p =
       ⊎_elim
-      (λ (below : next_cycle p.cycle < limit). inl (tick_same p below))
-      (λ (over : limit ≤ next_cycle p.cycle). inr (parted_from p p over over (λ cycle below. refl)))
+      (grind (arith, common_steps, tick_same p))
+      (grind (arith, common_steps, parted_from p p))
       (cases_lt (next_cycle p.cycle) limit)
 
   tick_alike : (p q : Passing) → AreAlike p q
       → AreAlike (cycle_passed (with_extra xs inputs) p) (cycle_passed (with_extra ys inputs) q)
-  tick_alike p q (inl e) =
-      subst (λ (q : Passing). AreAlike (cycle_passed (with_extra xs inputs) p) (cycle_passed (with_extra ys inputs) q))
-      e (tick_together p)
-  tick_alike p q (inr h) =
-      inr (parted_from p q (omega (arith, h.left, next_later p.cycle h.left_top))
-      (omega (arith, h.right, next_later q.cycle h.right_top)) h.sent)
+  tick_alike p q h = grind (arith, common_steps, tick_together p, parted_from p q)
 
   pub ticks_alike : (count : ℕ) (p : Passing)
       → AreAlike (cycles_passed (with_extra xs inputs) count p) (cycles_passed (with_extra ys inputs) count p)

@@ -1,19 +1,19 @@
 -- A board that has performed some steps of its record.
-use Rattle.m51_party.proofs.Common.{◌≡◌, ℕ, suc, ◌+◌, ◌-◌, ◌≤◌, ◌<◌, ◌⊎◌, inl, inr, List, [], ◌∷◌, ◌++◌, length, Option}
-use Rattle.m51_party.proofs.Common.{Some, None, Result, Ok, Err, refl, sym, ap, subst, ◌∙◌, arith, append_assoc}
+use Rattle.std.proofs.lemmas.Grind.{common_steps}
+use Rattle.m51_party.proofs.Common.{◌≡◌, ℕ, suc, ◌+◌, ◌-◌, ◌≤◌, ◌<◌, ◌⊎◌, List, [], ◌∷◌, ◌++◌, Option}
+use Rattle.m51_party.proofs.Common.{Some, None, Result, Ok, Err, refl, sym, ap, ◌∙◌, arith, append_assoc}
 use Rattle.m51_party.proofs.Common.{zero-add, flat_map, option_to_list, min, flat_map-append, same_Some, Entry, Port}
-use Rattle.m51_party.proofs.Common.{Event, LayoutParts, entry_line, Timed, Told, BoardState, separate_of, Inputs}
+use Rattle.m51_party.proofs.Common.{Event, entry_line, Timed, Told, BoardState, separate_of, Inputs}
 use Rattle.m51_party.proofs.Common.{inputs_of, with_extra, attempt_of, changed_by, Machine, Record, State, entries_of}
-use Rattle.m51_party.proofs.Common.{record_from, Separate, separate_effect, separate_machine, separate_performs, Seat}
+use Rattle.m51_party.proofs.Common.{Separate, separate_effect, separate_machine, separate_performs, Seat}
 use Rattle.m51_party.proofs.Common.{IsFresh, frames_of, machine_with, record_with, HasEventText, IsSeatStep, new_seat}
-use Rattle.m51_party.proofs.Common.{told_text, StepTold, front_of, steps_from}
+use Rattle.m51_party.proofs.Common.{told_text, StepTold, front_of}
 use Rattle.std.proofs.Common.{◌*◌}
 use Rattle.std.specs.Option.{ForSome, option_map}
-use Rattle.m51_print.specs.Lines.{HasText}
 use Rattle.m51_timers_uart.specs.declared.periph.Periph.{Periph}
-use Rattle.m51_sim.specs.Run.{IsToldStep, stopped_by, told_by}
+use Rattle.m51_sim.specs.Run.{IsToldStep, told_by}
 use Rattle.m51_sim.specs.Runs.{Performed, record_of, with_step}
-use Rattle.m51_party.specs.Seats.{count_of, last_sent}
+use Rattle.m51_party.specs.Seats.{last_sent}
 use Rattle.m51_party.specs.Text.{steps_of}
 use Rattle.m51_party.proofs.Words.{Allowed, Entries}
 use Rattle.m51_party.proofs.Frames.{sent_frames}
@@ -51,22 +51,24 @@ no_event P = λ event e. absurd (cc e)
 begun_record : (n : ℕ) (extra : List Timed) (b : BoardState)
     → record_with n extra b ≡ continued [] 0 (rest_record n extra (new_seat b))
 begun_record n extra b =
-    let m : Machine Separate = machine_with extra b in
-    let all : n ≡ n - 0 = omega arith in
-    ap (λ (k : ℕ). record_of m k (separate_of b)) all
-    ∙ ap (λ (k : ℕ). record (record_of m (n - 0) (separate_of b)) { steps = k })
-    (sym (zero-add (record_of m (n - 0) (separate_of b)).steps))
+    grind (
+      arith,
+      common_steps,
+      machine_with extra b,
+      zero-add
+          (record_of (machine_with extra b) (n - 0) (separate_of b)).steps,
+    )
 
 -- so it is at the start
 pub under_way_first : (n : ℕ) (extra : List Timed) (b : BoardState) → IsFresh b
     → IsUnderWay extra n (record_with n extra b) (new_seat b)
 under_way_first n extra b fresh =
-    let is : b.chip.cycle ≡ 0 = ap (λ (s : State Separate). s.cycle) fresh.state in
+    let is : b.chip.cycle ≡ 0 = grind (arith, common_steps) in
     record {
       most = omega arith;
       told = [];
       is = begun_record n extra b;
-      keeps = record { older = []; are = refl; before = tt; last = tt };
+      keeps = grind (arith, common_steps);
       stopped = no_event _;
       unfinished = no_event _;
       cycle = omega (arith, is);
@@ -101,32 +103,23 @@ pub record IsStepped (index n : ℕ) (extra : List Timed) (r : Record Separate) 
 keeps_so : (a b : ℕ) (p q : Periph) (xs ys : List Timed) (x y : Option Timed) → b ≡ a → q ≡ p → ys ≡ xs → y ≡ x
     → KeepsLast a p xs x → KeepsLast b q ys y
 keeps_so a b p q xs ys x y ab pq xys xy h =
-    subst (λ (c : ℕ). KeepsLast c q ys y) (sym ab)
-    (subst (λ (p : Periph). KeepsLast a p ys y) (sym pq)
-    (subst (λ (ts : List Timed). KeepsLast a p ts y) (sym xys)
-    (subst (λ (o : Option Timed). KeepsLast a p xs o) (sym xy) h)))
+    grind (arith, common_steps)
 
 continued_on : (told : List Entry) (steps : ℕ) (t : Entries) (r : Record Separate)
     → continued told steps (with_step t r) ≡ continued (told ++ entries_of t) (steps + 1) r
 continued_on told steps t r =
-    let more : steps + suc r.steps ≡ steps + 1 + r.steps = omega arith in
-    λ i. record {
-      entries = sym (append_assoc told (entries_of t) r.entries) i;
-      event = r.event;
-      steps = more i;
-      last = r.last;
-    }
+    grind (arith, common_steps, append_assoc told (entries_of t) r.entries)
 
 record_done : (m : Machine Separate) (k n : ℕ) (s : State Separate) (done : Performed Separate) → n ≡ suc k
     → m s ≡ Ok done → record_of m n s ≡ with_step done.told (record_of m k done.state)
 unfolding record_of
-record_done m k n s done e h = ap (λ (j : ℕ). record_of m j s) e ∙ ap (record_from s (record_of m k)) h
+record_done m k n s done e h = cc
 
 steps_done : (m : Machine Separate) (k n : ℕ) (s : State Separate) (done : Performed Separate) → n ≡ suc k
     → m s ≡ Ok done
     → steps_of m n s ≡ record { start = s.cycle; entries = entries_of done.told } ∷ steps_of m k done.state
 unfolding steps_of
-steps_done m k n s done e h = ap (λ (j : ℕ). steps_of m j s) e ∙ ap (steps_from s (steps_of m k)) h
+steps_done m k n s done e h = cc
 
 record_same : (m o : Machine Separate) (k n : ℕ) (s t : State Separate) → m ≡ o → k ≡ n → s ≡ t
     → record_of m k s ≡ record_of o n t
@@ -143,35 +136,32 @@ machine_at m o s t e f = λ i. (e i) (f i)
 machine_same : (extra given : List Timed) (told : Told) (old new : Seat) → IsSeatStep given told old new
     → machine_with extra new.board ≡ machine_with extra old.board
 machine_same extra given told old new h =
-    λ i. separate_machine (h.layout i) (h.image i) (with_extra extra (inputs_of (h.script i)))
+    grind (arith, common_steps, separate_machine, with_extra extra, inputs_of)
 
 text_stays : (given : List Timed) (told : Told) (old new : Seat) → IsSeatStep given told old new → HasEventText new
 text_stays given told old new h =
-    subst (λ (l : LayoutParts). ForSome new.event (HasText (length l.placed))) (sym h.layout) h.text
+    rw h.layout h.text
 
 without : (o : Option Event) (P : Event → Type 0) → o ≡ None → ForSome o P
 without o P e = λ event is. absurd (cc (sym e ∙ is))
 
 port_none : (cycle : ℕ) (value : ℕ → ℕ) (port : Option ℕ) → sent_frames (option_map (λ p. Port cycle p (value p)) port)
     ≡ []
-port_none cycle value None = refl
-port_none cycle value (Some p) = refl
+port_none cycle value port = grind (arith, common_steps)
 
 frames_on : (told : List Entry) (port sent : Option Entry) → sent_frames port ≡ []
     → flat_map frames_of (told ++ (option_to_list port ++ option_to_list sent)) ≡ flat_map frames_of told
     ++ sent_frames sent
 frames_on told port sent none =
-    flat_map-append frames_of told (option_to_list port ++ option_to_list sent)
-    ∙ ap (λ (ts : List Timed). flat_map frames_of told ++ ts)
-    (flat_map-append frames_of (option_to_list port) (option_to_list sent))
-    ∙ ap (λ (ts : List Timed). flat_map frames_of told ++ (ts ++ sent_frames sent)) none
+    cc (
+      flat_map-append frames_of told (option_to_list port ++ option_to_list sent),
+      flat_map-append frames_of (option_to_list port) (option_to_list sent),
+    )
 
 told_lines : (index : ℕ) (told : Told) (t : Entries) → told ≡ told_by (Ok t)
     → told_text index told ≡ flat_map (λ entry. front_of index ++ entry_line entry) (entries_of t)
 told_lines index told t e =
-    ap (told_text index) e
-    ∙ sym (flat_map-append (λ entry. front_of index ++ entry_line entry) (option_to_list t.port)
-    (option_to_list t.sent))
+    cc (flat_map-append (λ entry. front_of index ++ entry_line entry) (option_to_list t.port) (option_to_list t.sent))
 
 pub nothing_added : (n : ℕ) → n + 0 ≡ n
 nothing_added n = omega arith
@@ -192,84 +182,66 @@ module _ (index n : ℕ) (extra given : List Timed) (r : Record Separate) (told 
       → IsStepped index n extra r told old new
   stepped_done a below short is told_is e =
       let done = done_of a in
-      let steps : new.steps ≡ old.steps + 1 = ap (λ (s : Seat). s.steps) h.after
-      ∙ ap (λ (t : Told). old.steps + count_of t.step) told_is in
-      let sent : new.sent ≡ last_sent old.sent done.told.sent = ap (λ (s : Seat). s.sent) h.after
-      ∙ ap (λ (t : Told). last_sent old.sent t.sent) told_is in
-      let event : new.event ≡ None = ap (λ (s : Seat). s.event) h.after
-      ∙ ap (λ (t : Told). stopped_by t.step) told_is in
+      let steps : new.steps ≡ old.steps + 1 = cc in
+      let sent : new.sent ≡ last_sent old.sent done.told.sent = cc in
+      let event : new.event ≡ None = cc in
       let more : n - old.steps ≡ suc (n - new.steps) = omega (arith, steps, below) in
       let passed : new.board.chip.cycle ≡ min (old.board.chip.cycle + a.effect.cycles) top =
-      ap (λ (s : State Separate). s.cycle) e ∙ ticks_count from a.effect.cycles (changed_by st.cycle st.periph a.effect)
-      (omega (arith, way.cycle, way.most, few)) in
+      grind (arith, common_steps) ∙ ticks_count from a.effect.cycles (changed_by st.cycle st.periph a.effect)
+      (omega arith) in
       let same = machine_same extra given told old new h in
       record {
         way = record {
           most = omega (arith, steps, below);
           told = way.told ++ entries_of done.told;
-          is = way.is
-              ∙ ap (continued way.told old.steps)
-              (record_done (machine_with extra old.board) (n - new.steps) (n - old.steps) st done more is)
-              ∙ continued_on way.told old.steps done.told
-              (record_of (machine_with extra old.board) (n - new.steps) done.state)
-              ∙ ap (continued (way.told ++ entries_of done.told) (old.steps + 1))
-              (record_same _ _ _ (n - new.steps) _ _ (sym same) refl (sym e))
-              ∙ ap (λ (k : ℕ). continued (way.told ++ entries_of done.told) k (rest_record n extra new)) (sym steps);
-          keeps = keeps_so _ _ _ _ _ _ _ _ (ap (λ (s : State Separate). s.cycle) e)
-              (ap (λ (s : State Separate). s.periph) e)
+          is = cc (
+            record_done (machine_with extra old.board) (n - new.steps) (n - old.steps) st done more is,
+            continued_on way.told old.steps done.told (record_of (machine_with extra old.board) (n - new.steps)
+                done.state),
+            record_same _ _ _ (n - new.steps) _ _ (sym same) refl (sym e),
+          );
+          keeps = keeps_so _ _ _ _ _ _ _ _ (grind (arith, common_steps))
+              (grind (arith, common_steps))
               (frames_on way.told done.told.port done.told.sent (port_none st.cycle _ a.effect.port)) sent
               (keeps_step from st.cycle st.periph a.effect (flat_map frames_of way.told) old.sent
-              (omega (arith, way.cycle, way.most, few, short)) way.keeps);
+              (omega arith) way.keeps);
           stopped = without new.event _ event;
           unfinished = without new.event _ event;
-          cycle = omega (arith, passed, steps, way.cycle, short);
+          cycle = omega arith;
           text = text_stays given told old new h;
         };
-        later = omega (arith, passed, way.cycle, way.most, few);
+        later = omega arith;
         most = omega (arith, passed, short);
-        lines = inl (record {
-          step = record { start = st.cycle; entries = entries_of done.told };
-          first = steps_done (machine_with extra old.board) (n - new.steps) (n - old.steps) st done more is
-              ∙ ap (λ (ss : List StepTold). record { start = st.cycle; entries = entries_of done.told } ∷ ss)
-              (steps_same _ _ _ (n - new.steps) _ _ (sym same) refl (sym e));
-          start = refl;
-          lines = told_lines index told done.told told_is;
-        });
+        lines = grind (
+          arith,
+          common_steps,
+          st.cycle,
+          entries_of done.told,
+          steps_done (machine_with extra old.board) (n - new.steps) (n - old.steps) st done more is,
+          steps_same _ _ _ (n - new.steps) _ _ (sym same) refl (sym e),
+          told_lines index told done.told told_is,
+        );
       }
 
   stepped_stopped : (event : Event) → old.steps < n → machine_with extra old.board st ≡ Err event
       → told ≡ told_by (Err event) → separate_of new.board ≡ st → IsStepped index n extra r told old new
   stepped_stopped event below is told_is e =
-      let steps : new.steps ≡ old.steps = ap (λ (s : Seat). s.steps) h.after
-      ∙ ap (λ (t : Told). old.steps + count_of t.step) told_is ∙ nothing_added old.steps in
-      let sent : new.sent ≡ old.sent = ap (λ (s : Seat). s.sent) h.after
-      ∙ ap (λ (t : Told). last_sent old.sent t.sent) told_is in
-      let stopped : new.event ≡ Some event = ap (λ (s : Seat). s.event) h.after
-      ∙ ap (λ (t : Told). stopped_by t.step) told_is in
-      let cycle : new.board.chip.cycle ≡ old.board.chip.cycle = ap (λ (s : State Separate). s.cycle) e in
+      let steps : new.steps ≡ old.steps = cc (nothing_added old.steps) in
+      let sent : new.sent ≡ old.sent = cc in
+      let stopped : new.event ≡ Some event = cc in
+      let cycle : new.board.chip.cycle ≡ old.board.chip.cycle = cc in
       let same = machine_same extra given told old new h in
-      let left : n - old.steps ≡ n - new.steps = ap (λ (k : ℕ). n - k) (sym steps) in
-      record {
-        way = record {
-          most = omega (arith, steps, way.most);
-          told = way.told;
-          is = way.is
-              ∙ ap (continued way.told old.steps) (record_same _ _ _ _ _ _ (sym same) left (sym e))
-              ∙ ap (λ (k : ℕ). continued way.told k (rest_record n extra new)) (sym steps);
-          keeps = keeps_so _ _ _ _ _ _ _ _ cycle (ap (λ (s : State Separate). s.periph) e) refl sent way.keeps;
-          unfinished = λ x i. omega (arith, steps, below);
-          stopped = λ x i. machine_at _ _ _ _ same e ∙ is
-              ∙ ap (λ (v : Event). Err v) (same_Some event x (sym stopped ∙ i));
-          cycle = omega (arith, cycle, steps, way.cycle);
-          text = text_stays given told old new h;
-        };
-        later = omega (arith, cycle);
-        most = omega (arith, cycle);
-        lines = inr (record {
-          same = steps_same _ _ _ _ _ _ (sym same) left (sym e);
-          lines = ap (told_text index) told_is;
-        });
-      }
+      let left : n - old.steps ≡ n - new.steps = cc in
+      grind (
+        arith,
+        common_steps,
+        record_same _ _ _ _ _ _ (sym same) left (sym e),
+        keeps_so _ _ _ _ _ _ _ _ cycle (ap (λ (s : State Separate). s.periph) e) refl sent way.keeps,
+        machine_at _ _ _ _ same e,
+        same_Some event,
+        text_stays given told old new h,
+        steps_same _ _ _ _ _ _ (sym same) left (sym e),
+      )
 
   stepped_by : (j : Result Allowed Event) → TakesFew j → old.steps < n
       → machine_with extra old.board st ≡ separate_performs old.board.monitor.layout from st j
@@ -287,5 +259,4 @@ module _ (index n : ℕ) (extra given : List Timed) (r : Record Separate) (told 
   stepped below short same =
       stepped_by (separate_effect old.board.monitor.layout old.board.chip.image st.cpu st.memory (from.pins st.cycle)
       (attempt_of old.board.chip.image st.cpu))
-      short below refl (subst (λ (x : Result (Performed Separate) Event). IsToldStep x told st (separate_of new.board))
-      same h.step)
+      short below refl (rw same at h.step)

@@ -1,10 +1,10 @@
 -- A step with frames that are the same in its cycles.
-use Rattle.m51_party.proofs.Common.{◌≡◌, ℕ, zero, suc, ◌+◌, ◌≤◌, ◌<◌, List, ◌++◌, Result, Ok, Err, refl, ap, ◌∙◌, arith}
-use Rattle.m51_party.proofs.Common.{min, Event, LayoutParts, Frame, ticked, Timed, Inputs, frames_in, next_cycle}
-use Rattle.m51_party.proofs.Common.{with_extra, attempt_of, changed_by, State, Separate, memory_after, separate_effect}
+use Rattle.std.proofs.lemmas.Grind.{common_steps}
+use Rattle.m51_party.proofs.Common.{◌≡◌, ℕ, zero, suc, ◌+◌, ◌≤◌, ◌<◌, List, Result, Ok, Err, refl, arith}
+use Rattle.m51_party.proofs.Common.{min, Event, LayoutParts, Timed, Inputs, frames_in, next_cycle}
+use Rattle.m51_party.proofs.Common.{with_extra, attempt_of, State, Separate, separate_effect}
 use Rattle.m51_party.proofs.Common.{separate_machine, separate_performs}
-use Rattle.m51_sim.specs.Cycles.{after_tick, cycle_passed, cycles_passed}
-use Rattle.m51_sim.specs.Effects.{passed_into, port_entry}
+use Rattle.m51_sim.specs.Cycles.{cycle_passed, cycles_passed}
 use Rattle.m51_sim.proofs.StepCycles.{one_counts}
 use Rattle.m51_party.proofs.Words.{Allowed, Passing}
 use Rattle.m51_party.proofs.Ticks.{top}
@@ -15,9 +15,7 @@ pub ticks_count : (inputs : Inputs) (count : ℕ) (p : Passing) → p.cycle ≤ 
 unfolding cycles_passed
 ticks_count inputs zero p h = omega (arith, h)
 ticks_count inputs (suc count) p h =
-    let is = one_counts inputs (cycles_passed inputs count p) in
-    let before = ticks_count inputs count p h in
-    omega (arith, is, before, h)
+    omega (arith, one_counts inputs (cycles_passed inputs count p), ticks_count inputs count p h)
 
 -- frames that are the same in the cycles after one, up to another
 abbrev pub SameWithin : ℕ → ℕ → List Timed → List Timed → Type 0
@@ -34,8 +32,7 @@ module _ (inputs : Inputs) (xs ys : List Timed) where
   unfolding cycle_passed
   tick_within p same =
       let cycle = next_cycle p.cycle in
-      ap (λ (fs : List Frame). after_tick cycle p.sent
-      (ticked p.cpu (inputs.pins cycle) (inputs.frames cycle ++ fs) p.periph)) same
+      cc
 
   ticks_within : (last count : ℕ) (p : Passing) → p.cycle + count ≤ last → last < top → SameWithin p.cycle last xs ys
       → cycles_passed (with_extra xs inputs) count p ≡ cycles_passed (with_extra ys inputs) count p
@@ -44,18 +41,16 @@ module _ (inputs : Inputs) (xs ys : List Timed) where
   ticks_within last (suc count) p h k same =
       let q = cycles_passed (with_extra xs inputs) count p in
       let is : q.cycle ≡ min (p.cycle + count) top = ticks_count (with_extra xs inputs) count p (omega (arith, h, k)) in
-      tick_within q (same (next_cycle q.cycle) (omega (arith, is, h, k)) (omega (arith, is, h, k)))
-      ∙ ap (cycle_passed (with_extra ys inputs)) (ticks_within last count p (omega (arith, h)) k same)
+      cc (
+        tick_within q (same (next_cycle q.cycle) (omega (arith, is, h, k)) (omega (arith, is, h, k))),
+        ticks_within last count p (omega (arith, h)) k same,
+      )
 
   module _ (l : LayoutParts) (image : List ℕ) where
     performs_within : (s : State Separate) (r : Result Allowed Event) → TakesFew r → s.cycle + 4 < top
         → SameWithin s.cycle (s.cycle + 4) xs ys
         → separate_performs l (with_extra xs inputs) s r ≡ separate_performs l (with_extra ys inputs) s r
-    performs_within s (Err event) short h same = refl
-    performs_within s (Ok a) short h same =
-        ap (λ (p : Passing). Ok (passed_into (memory_after l s.memory a) (port_entry s.cycle a.effect) p))
-        (ticks_within (s.cycle + 4) a.effect.cycles (changed_by s.cycle s.periph a.effect) (omega (arith, short)) h
-        same)
+    performs_within s r short h same = grind (arith, common_steps, ticks_within (s.cycle + 4))
 
     pub step_within : (s : State Separate)
         → TakesFew (separate_effect l image s.cpu s.memory (inputs.pins s.cycle) (attempt_of image s.cpu))

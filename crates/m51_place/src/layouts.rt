@@ -1,11 +1,11 @@
 //! The parts of a layout: what is placed where, and whose it is.
-ghost use Rattle.std.specs.Prelude.{◌≡◌, ◌<◌, ◌≤◌, ◌++◌, if◌then◌else◌, [], ◌∷◌, map, position, IfOk, IfSome, OnOk};
-ghost use Rattle.std.specs.Prelude.{Some, find, length, option_copied, slice_get};
+ghost use Rattle.std.specs.Prelude.{◌≡◌, ◌<◌, ◌≤◌, ◌++◌, map, position, IfOk, IfSome, OnOk};
+ghost use Rattle.std.specs.Prelude.{find, length, option_copied};
 ghost use Rattle.std.specs.List.{All, range_with_len};
 ghost use Rattle.m51_cells.specs.declared.limits.TheConstants.{MOST_SEGMENTS};
 ghost use Rattle.m51_graph.specs.Drawing.{edge_test};
-ghost use Rattle.m51_place.specs.Conflicts.{callers_of, is_argument_at, owners_at, owners_with};
-ghost use Rattle.m51_place.specs.Placement.{is_number, owner_pairs, owners_of_extent, pairs_with, parts_of_layout};
+ghost use Rattle.m51_place.specs.Conflicts.{callers_of, is_argument_at, owners_at};
+ghost use Rattle.m51_place.specs.Placement.{is_number, owner_pairs, pairs_with, parts_of_layout};
 ghost use Rattle.m51_place.specs.Placement.{joined_base, joined_index};
 ghost use Rattle.m51_place.specs.Ready.{IsNumbered};
 
@@ -13,7 +13,7 @@ use crate::Numbered;
 use m51_cells::{ListOf, NoMemory};
 use m51_graph::Graph;
 use m51_module::{LayoutParts, Placed};
-use std::alloc::Global;
+use std::alloc::{AllocError, Global};
 
 // Whether the extent is the joined segment of that number.
 fn is_number(number: u16, extent: &Numbered) -> bool
@@ -46,15 +46,14 @@ fn joined_index(located: &[Numbered], number: u16) -> u16
 }
 
 // The indices of the joined segments of these numbers.
-fn places_of(alloc: Global, located: &[Numbered], numbers: &[u16]) -> Result<Vec<u16>, NoMemory>
+fn places_of(alloc: Global, located: &[Numbered], numbers: &[u16]) -> Result<Vec<u16>, AllocError>
     requires { length located.now < 65536 }
     ensures { IfOk result (λ indices. indices.items ≡ map (joined_index located.now) numbers.now) }
 {
-    let mut indices = Vec::new(alloc);
-    for number in numbers {
-        indices.push(joined_index(located, *number))?;
-    }
-    Ok(indices)
+    numbers
+        .iter()
+        .map(|number| joined_index(located, *number))
+        .collect(alloc)
 }
 
 // The first of these extents that is the joined segment of that number.
@@ -91,14 +90,10 @@ pub(crate) fn joined_bases(
 }
 
 // The extents only.
-fn placed_of(alloc: Global, located: &[Numbered]) -> Result<Vec<Placed>, NoMemory>
+fn placed_of(alloc: Global, located: &[Numbered]) -> Result<Vec<Placed>, AllocError>
     ensures { IfOk result (λ placed. placed.items ≡ map (λ e. e.placed) located.now) }
 {
-    let mut placed = Vec::new(alloc);
-    for extent in located {
-        placed.push(extent.placed)?;
-    }
-    Ok(placed)
+    located.iter().map(|extent| extent.placed).collect(alloc)
 }
 
 // Whether the joined segment is an argument segment.
@@ -119,64 +114,40 @@ fn is_caller(graph: &Graph, caller: u16, unit: u16) -> bool
     graph.edge(caller, unit)
 }
 
-// Adds the unit, if it passes.
-fn add_if(units: &mut Vec<u16>, passes: bool, unit: u16) -> Result<(), NoMemory>
-    ensures { OnOk result (units.new.items ≡ units.old.items ++ (if passes then unit ∷ [] else [])) }
+// Adds the extent of that index with each unit that has an edge to the unit, ascending.
+#[tactic(auto, unfolding(crate::specs::Conflicts::callers_of))]
+fn add_callers(
+    pairs: &mut Vec<(u16, u16)>,
+    graph: &Graph,
+    index: u16,
+    unit: u16,
+) -> Result<(), NoMemory>
+    requires { unit < length graph.now.units }
+    ensures { OnOk result (pairs.new.items ≡ pairs.old.items ++ pairs_with index (callers_of graph.now unit)) }
 {
-    if passes {
-        units.push(unit)?;
+    for caller in 0..graph.parts().units.len() {
+        if is_caller(graph, caller as u16, unit) {
+            pairs.push((index, caller as u16))?;
+        }
     }
     Ok(())
 }
 
-// The units with an edge to the unit, ascending.
-#[tactic(auto, unfolding(crate::specs::Conflicts::callers_of))]
-fn callers_of(alloc: Global, graph: &Graph, unit: u16) -> Result<Vec<u16>, NoMemory>
-    requires { unit < length graph.now.units }
-    ensures { IfOk result (λ callers. callers.items ≡ callers_of graph.now unit) }
-{
-    let parts = graph.parts();
-    let mut callers = Vec::new(alloc);
-    for caller in 0..parts.units.len() {
-        let calls = is_caller(graph, caller as u16, unit);
-        add_if(&mut callers, calls, caller as u16)?;
-    }
-    Ok(callers)
-}
-
-// The owners of the joined segment of that number.
-fn owners_at(alloc: Global, graph: &Graph, number: u16) -> Result<Vec<u16>, NoMemory>
+// Adds the extent of that index with each owner of the joined segment of that number.
+fn add_owners(
+    pairs: &mut Vec<(u16, u16)>,
+    graph: &Graph,
+    index: u16,
+    number: u16,
+) -> Result<(), NoMemory>
     requires { number < length graph.now.own }
-    ensures { IfOk result (λ owners. owners.items ≡ owners_at graph.now number) }
+    ensures { OnOk result (pairs.new.items ≡ pairs.old.items ++ pairs_with index (owners_at graph.now number)) }
 {
-    let mut owners = Vec::new(alloc);
     if let Some(own) = graph.owner(number) {
-        owners.push(own)?;
+        pairs.push((index, own))?;
         if is_argument(graph, number) {
-            let callers = callers_of(alloc, graph, own)?;
-            owners.extend_from_slice(&callers)?;
+            add_callers(pairs, graph, index, own)?;
         }
-    }
-    Ok(owners)
-}
-
-// The owners of the extent, if it is overlaid.
-fn owners_of_extent(alloc: Global, graph: &Graph, extent: &Numbered) -> Result<Vec<u16>, NoMemory>
-    requires { IsNumbered graph.now extent.now }
-    ensures { IfOk result (λ owners. owners.items ≡ owners_of_extent graph.now extent.now) }
-{
-    match extent.number {
-        Some(number) => owners_at(alloc, graph, number),
-        None => Ok(Vec::new(alloc)),
-    }
-}
-
-// Adds the extent of that index with each of these owners.
-fn add_pairs(pairs: &mut Vec<(u16, u16)>, index: u16, owners: &[u16]) -> Result<(), NoMemory>
-    ensures { OnOk result (pairs.new.items ≡ pairs.old.items ++ pairs_with index owners.now) }
-{
-    for unit in owners {
-        pairs.push((index, *unit))?;
     }
     Ok(())
 }
@@ -193,8 +164,9 @@ fn owner_pairs(
 {
     let mut pairs = Vec::new(alloc);
     for (index, extent) in located.iter().enumerate() {
-        let owners = owners_of_extent(alloc, graph, extent)?;
-        add_pairs(&mut pairs, index as u16, &owners)?;
+        if let Some(number) = extent.number {
+            add_owners(&mut pairs, graph, index as u16, number)?;
+        }
     }
     Ok(pairs)
 }

@@ -1,10 +1,11 @@
 //! The registers of the banks as direct addresses.
 ghost use Rattle.std.specs.Prelude.{◌≡◌, ◌<◌, IfSome, length, position};
 ghost use Rattle.std.specs.Str.{bytes_eq};
+ghost use Rattle.m51_expr.specs.Located.{located_value};
 ghost use Rattle.m51_predefined.specs.Predefined.{absolute_register_of, register_value};
 
 use m51_cells::{Kind, Name};
-use m51_expr::{BANK_REGISTERS, Value, plain};
+use m51_expr::{BANK_REGISTERS, Located, plain};
 
 // The index of the word among these.
 fn index_in(words: &[&[u8]], word: &[u8]) -> Option<usize>
@@ -29,8 +30,8 @@ pub fn absolute_register(name: &Name) -> Option<u8>
 /// the register, of class DATA and without a base.
 ///
 /// Source: ASM51 guide.
-pub fn register_value(bank: u8, register: u8) -> Value
-    ensures { result ≡ register_value bank register }
+pub fn register_value(bank: u8, register: u8) -> Located<u32>
+    ensures { located_value result ≡ register_value bank register }
 {
     plain(8 * u16::from(bank) + u16::from(register), Kind::Direct)
 }

@@ -10,6 +10,7 @@ pub mod Lookups
 pub mod NamedModules
 pub mod Outcomes
 pub mod Positions
+pub mod Referring
 pub mod Sharing
 pub mod Starts
 pub mod Stopping

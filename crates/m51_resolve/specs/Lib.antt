@@ -2,6 +2,7 @@ pub mod Choice
 pub mod Joining
 pub mod Kept
 pub mod Publics
+pub mod Referents
 pub mod Rules
 pub mod WorkChoice
 pub mod WorkJoining

@@ -1,14 +1,17 @@
 //! Modules that are chosen and joined.
 ghost use Rattle.std.specs.Prelude.{◌≡◌, All, IsSome};
+ghost use Rattle.m51_cells.specs.declared.kind.Base.TheVariants.{External as OfExternal};
 ghost use Rattle.m51_module.specs.Validity.{IsValid};
 ghost use Rattle.m51_resolve.specs.Joining.{segments_of, segment_at, part_of};
 ghost use Rattle.m51_resolve.specs.Publics.{external_at, public_of};
+ghost use Rattle.m51_resolve.specs.Referents.{IsBaseThere, own_part, public_at, referent};
 ghost use Rattle.m51_resolve.specs.Rules.{AreResolved};
 
 use crate::joining::SegmentPart;
 use crate::publics::Definition;
-use crate::{JoinedNumber, JoinedSegment};
-use m51_module::Module;
+use crate::{JoinedNumber, JoinedSegment, Referent};
+use m51_cells::Base;
+use m51_module::{Module, Public};
 use std::marker::Model;
 
 /// The chosen modules of a link, which meet its first rules, and their joined segments. Contracts see the list of the
@@ -36,6 +39,14 @@ impl Model for Joined {
 
     ghost invariant = { λ j. AreKept j.modules.items j.segments.items j.segment_starts.items j.parts.items
         j.external_starts.items j.publics.items };
+}
+
+// The public of that index of the module of that number, both from 0.
+fn public_at(modules: &[Module], module: u8, index: usize) -> Option<Public>
+    ensures { result ≡ public_at modules.now «module» index }
+{
+    let chosen = modules.get(usize::from(module))?;
+    chosen.publics().get(index).copied()
 }
 
 impl Joined {
@@ -85,5 +96,51 @@ impl Joined {
         let start = self.external_starts[usize::from(module)];
         let found = &self.publics[start + usize::from(external) - 1];
         (found.number as u8, found.index)
+    }
+
+    // The part that a base of the module is, if it is a segment.
+    fn own_part(&self, module: u8, base: Base) -> Option<(JoinedNumber, u16)>
+        requires { IsBaseThere self.now «module» base }
+        ensures { result ≡ own_part self.now «module» base }
+    {
+        match base {
+            Base::Segment(segment) => Some(self.part(module, segment)),
+            Base::None | Base::External(_) => None,
+        }
+    }
+
+    // What the public refers to that resolves the external of the module.
+    fn external_referent(&self, module: u8, external: u8) -> Referent
+        requires { IsSome (external_at self.now «module» external) }
+        ensures { result ≡ referent self.now «module» (OfExternal external) }
+    {
+        let (home, index) = self.public_of(module, external);
+        match public_at(&self.modules, home, index) {
+            Some(public) => Referent {
+                part: self.own_part(home, public.base),
+                number: public.number,
+            },
+            None => Referent {
+                part: None,
+                number: 0,
+            },
+        }
+    }
+
+    /// What a base of the module refers to: the beginning of its segment; what the public refers to that resolves its
+    /// external; or nothing. The module is counted from 0, and has that segment or external.
+    ///
+    /// Source: own choice ("Names that are resolved").
+    pub fn referent(&self, module: u8, base: Base) -> Referent
+        requires { IsBaseThere self.now «module» base }
+        ensures { result ≡ referent self.now «module» base }
+    {
+        match base {
+            Base::External(external) => self.external_referent(module, external),
+            _ => Referent {
+                part: self.own_part(module, base),
+                number: 0,
+            },
+        }
     }
 }

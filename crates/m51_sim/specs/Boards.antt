@@ -1,5 +1,7 @@
 -- What contracts see of the boards, and which states of the two machines they represent.
-use Rattle.std.specs.Prelude.{◌≡◌, ℕ, IsTrue, List, Option, Some, None, if◌then◌else◌, ◌&&◌}
+use Rattle.std.specs.Prelude.{◌≡◌, ℕ, Bool, true, false, IsTrue, List, Option, Some, None, Result, Ok, if◌then◌else◌}
+use Rattle.std.specs.Prelude.{◌&&◌}
+use Rattle.m51_cells.specs.declared.event.Event.{Event}
 use Rattle.m51_module.specs.declared.parts.LayoutParts.{LayoutParts}
 use Rattle.m51_module.specs.Plan.{IsUnitAt}
 use Rattle.m51_flat.specs.declared.state.Cpu.{Cpu}
@@ -16,6 +18,7 @@ use Rattle.m51_monitor.specs.Rising.{HaveLevels, IsAbove, levels}
 use Rattle.m51_monitor.specs.Shared.{cell_state}
 use Rattle.m51_monitor.specs.Stores.{Stores, has_cell, is_common}
 use Rattle.m51_sim.specs.declared.chip.Draft.{Draft}
+use Rattle.m51_sim.specs.declared.runs.Entries.{Entries}
 use Rattle.m51_sim.specs.Cycles.{inputs_of}
 use Rattle.m51_sim.specs.Runs.{State}
 use Rattle.m51_sim.specs.FlatMachine.{filled_map, reset_with}
@@ -102,6 +105,11 @@ pub record IsInOrder (m : Monitored) (cpu : Cpu) : Type 0 where
 -- a draft says no more than what holds: that the processor of its effect is this one
 abbrev pub IsDraftOf : Draft → Cpu → Type 0
 IsDraftOf d cpu = IsTrue d.same → d.effect.cpu ≡ cpu
+
+-- what a step reports, where it is known whether a draft has anything of it
+abbrev pub told_in : Bool → Draft → Result Entries Event
+told_in true d = d.told
+told_in false d = Ok (record { port = None; sent = None })
 
 pub record IsReady (m : Monitored) (cpu : Cpu) (d : Draft) : Type 0 where
   pub order : IsInOrder m cpu

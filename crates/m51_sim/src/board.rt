@@ -1,6 +1,6 @@
 //! A board whose program keeps to its units, and whose segments have stores of their own.
 ghost use Rattle.std.specs.Option.{ForSome};
-ghost use Rattle.std.specs.Prelude.{◌≡◌, ◌≤◌, ℕ, IfErr, IfOk, List, length};
+ghost use Rattle.std.specs.Prelude.{◌≡◌, ◌≤◌, ℕ, IfErr, IfOk, List, Ok, length};
 ghost use Rattle.m51_cells.specs.declared.limits.TheConstants.{MOST_STEPS};
 ghost use Rattle.m51_cells.specs.Outside.{Rose};
 ghost use Rattle.m51_module.specs.Plan.{IsRootAt};
@@ -10,7 +10,7 @@ ghost use Rattle.m51_monitor.specs.Related.{OneLive};
 ghost use Rattle.m51_print.specs.Lines.{HasText, titles_of};
 ghost use Rattle.m51_script.specs.declared.script.Script.{Script as ScriptState};
 ghost use Rattle.m51_sim.specs.Boards.{IsDraftOf, IsInOrder, IsStarted, StandsForState, held_memory, separate_of};
-ghost use Rattle.m51_sim.specs.Boards.{state_with};
+ghost use Rattle.m51_sim.specs.Boards.{state_with, told_in};
 ghost use Rattle.m51_sim.specs.Cycles.{AreFew, inputs_of, with_extra};
 ghost use Rattle.m51_sim.specs.Effects.{attempt_of};
 ghost use Rattle.m51_sim.specs.Report.{IsReport};
@@ -22,7 +22,7 @@ use crate::attempt::Attempt;
 use crate::chip::{Chip, Draft, blank_draft};
 use crate::cycles::Timed;
 use crate::judging::{cite_stores, commit, judge};
-use crate::runs::{Entries, RunEnd, Runnable, Step, Told, count_run, run};
+use crate::runs::{Entries, NO_ENTRIES, RunEnd, Runnable, Step, Told, count_run, run};
 use m51_cells::{Event, NoMemory};
 use m51_flat::Cpu;
 use m51_module::{Image, Layout, Placed, Tally};
@@ -107,8 +107,8 @@ impl Board {
         ensures image { self.new.chip.image ≡ self.old.chip.image }
         ensures script { self.new.chip.script ≡ self.old.chip.script }
     {
-        let answer = advance(&mut self.monitor, &mut self.chip, &mut self.draft, extra);
-        told_by(answer)
+        let is_told = advance(&mut self.monitor, &mut self.chip, &mut self.draft, extra);
+        told_by(told_in(is_told, &self.draft))
     }
 
     /// At most `n` steps, 1 to 10,000,000, with a line for each entry and the last line.
@@ -248,14 +248,11 @@ fn told_by(answer: Result<Entries, Event>) -> Told
     }
 }
 
-// Performs a step and gives what it reports, or gives the event that stops it.
-#[inline(always)]
-fn advance(
-    monitor: &mut Monitor,
-    chip: &mut Chip,
-    draft: &mut Draft,
-    extra: &[Timed],
-) -> Result<Entries, Event>
+// Performs a step, or finds the event that stops it. It answers whether there is anything to report, which the draft
+// then has: three functions perform steps, which is more than a step is repeated for, and a whole answer in memory
+// would cost each step a fifth of its machine instructions.
+#[inline(never)]
+fn advance(monitor: &mut Monitor, chip: &mut Chip, draft: &mut Draft, extra: &[Timed]) -> bool
     requires order { IsInOrder monitor.old chip.old.cpu }
     requires draft { IsDraftOf draft.old chip.old.cpu }
     requires few { AreFew extra.now }
@@ -265,24 +262,48 @@ fn advance(
     ensures image { chip.new.image ≡ chip.old.image }
     ensures script { chip.new.script ≡ chip.old.script }
     ensures step { IsAdvance (separate_machine monitor.old.layout chip.old.image
-        (with_extra extra.now (inputs_of chip.old.script)) (state_with chip.old (held_memory monitor.old))) result
-        (state_with chip.old (held_memory monitor.old)) (state_with chip.new (held_memory monitor.new)) }
-    ensures text { IfErr result (HasText (length monitor.old.layout.placed)) }
+        (with_extra extra.now (inputs_of chip.old.script)) (state_with chip.old (held_memory monitor.old)))
+        (told_in result draft.new) (state_with chip.old (held_memory monitor.old))
+        (state_with chip.new (held_memory monitor.new)) }
+    ensures text { IfErr (told_in result draft.new) (HasText (length monitor.old.layout.placed)) }
 {
     cite_stores(monitor);
     match judge(monitor, chip, draft) {
         Ok(step) => {
             commit(monitor, &draft.effect, step);
-            Ok(chip.pass(draft, extra))
+            let told = chip.pass(draft, extra);
+            keep_entries(draft, told)
         }
         Err(event) => {
             draft.same = false;
-            Err(event)
+            draft.told = Err(event);
+            true
         }
     }
 }
 
-// The same with the script's frames only.
+// Leaves the entries of a step in the draft, and answers whether there are any.
+#[inline(always)]
+fn keep_entries(draft: &mut Draft, told: Entries) -> bool
+    ensures told { told_in result draft.new ≡ Ok told }
+    ensures draft { draft.new ≡ record draft.old { told = draft.new.told } }
+{
+    if told.port.is_none() && told.sent.is_none() {
+        return false;
+    }
+    draft.told = Ok(told);
+    true
+}
+
+// What a step reports, where `advance` has answered whether there is anything.
+#[inline(always)]
+fn told_in(is_told: bool, draft: &Draft) -> Result<Entries, Event>
+    ensures { result ≡ told_in is_told draft.now }
+{
+    if is_told { draft.told } else { Ok(NO_ENTRIES) }
+}
+
+// Performs a step with the script's frames only.
 #[inline(always)]
 fn advance_alone(
     monitor: &mut Monitor,
@@ -301,7 +322,8 @@ fn advance_alone(
         (state_with chip.old (held_memory monitor.old)) (state_with chip.new (held_memory monitor.new)) }
     ensures text { IfErr result (HasText (length monitor.old.layout.placed)) }
 {
-    advance(monitor, chip, draft, &[])
+    let is_told = advance(monitor, chip, draft, &[]);
+    told_in(is_told, draft)
 }
 
 impl Runnable for Board {

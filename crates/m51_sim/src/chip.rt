@@ -13,8 +13,8 @@ ghost use Rattle.m51_sim.specs.Effects.{instr_at, latch_address, port_entry};
 use crate::attempt::Attempt;
 use crate::cycles::{Passing, Timed, pass_cycles};
 use crate::program::Program;
-use crate::runs::Entries;
-use m51_cells::{Entry, NoMemory};
+use crate::runs::{Entries, NO_ENTRIES};
+use m51_cells::{Entry, Event, NoMemory};
 use m51_flat::{Cpu, Effect, Pins, Put, Source, Transfer, begin, copy_cpu, reset};
 use m51_irq::choose;
 use m51_module::Image;
@@ -26,11 +26,12 @@ use std::alloc::Global;
 use std::marker::Model;
 
 // Room for the effect of a step, which is made before it is read; `same` says that its processor is known to be that of
-// the chip.
+// the chip. `told` is what a step reports, where it reports anything.
 #[derive(Drop)]
 pub(crate) struct Draft {
     pub(crate) effect: Effect,
     pub(crate) same: bool,
+    pub(crate) told: Result<Entries, Event>,
 }
 
 /// What both boards have besides their memories.
@@ -243,6 +244,7 @@ pub(crate) fn blank_draft() -> Draft
             cycles: 1,
         },
         same: false,
+        told: Ok(NO_ENTRIES),
     }
 }
 

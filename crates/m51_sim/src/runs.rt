@@ -61,6 +61,12 @@ pub(crate) struct Entries {
     pub(crate) sent: Option<Entry>,
 }
 
+// Those of most steps.
+pub(crate) const NO_ENTRIES: Entries = Entries {
+    port: None,
+    sent: None,
+};
+
 // What is run: a machine over some memory, of which the state is at hand.
 pub(crate) trait Runnable {
     // The memory of its states.

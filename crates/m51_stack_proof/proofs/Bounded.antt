@@ -1,6 +1,6 @@
 -- The whole run: what holds at the reset, and after each step.
-use Rattle.m51_stack_proof.proofs.Common.{◌≡◌, ◌≤◌, ◌+◌, ℕ, Bool, true, false, not, List, length, refl, sym, ap, subst}
-use Rattle.m51_stack_proof.proofs.Common.{◌∙◌, arith, inl, inr, Some, ◌&&◌, Result, Ok, Err, Event, Instr, Cpu, Effect}
+use Rattle.m51_stack_proof.proofs.Common.{◌≡◌, ◌≤◌, ◌+◌, ℕ, Bool, true, false, not, List, length, refl}
+use Rattle.m51_stack_proof.proofs.Common.{arith, inl, inr, Some, ◌&&◌, Result, Ok, Event, Instr, Cpu, Effect}
 use Rattle.m51_stack_proof.proofs.Common.{Pins, Source, Next, Jump, Always, next_address, sp, LayoutParts, StackBound}
 use Rattle.m51_stack_proof.proofs.Common.{IsSound, Move, root_found, unit_found, Records, interrupts, judged, moved}
 use Rattle.m51_stack_proof.proofs.Common.{IsBound, is_call, is_jump, is_return, target_of}
@@ -14,13 +14,11 @@ use Rattle.m51_flat.specs.declared.state.Level.TheVariants.{Low, High}
 use Rattle.m51_flat.specs.declared.state.Outcome.{Outcome}
 use Rattle.m51_flat.specs.declared.state.Outcome.TheVariants as outcome
 use Rattle.m51_flat.specs.LevelLaws.{LevelsFollow, writes_ie_or_ip}
-use Rattle.m51_flat.specs.Laws.{Follows, HasParity, IfDone}
+use Rattle.m51_flat.specs.Laws.{Follows, HasParity}
 use Rattle.m51_flat.specs.Meaning.{instruction_outcome, plan_of, started}
 use Rattle.m51_flat.specs.Actions.{action_of}
-use Rattle.m51_flat.specs.DeviceLaws.{IsStacked}
 use Rattle.m51_flat.specs.Flags.{idl}
 use Rattle.m51_flat.specs.Sfr.{latch, pcon, with_flag}
-use Rattle.m51_flat.specs.Transfers.{stacked}
 use Rattle.m51_flat.proofs.Devices.{pc_is_stacked}
 use Rattle.m51_flat.proofs.Parity.{IsRight, plan_right}
 use Rattle.m51_irq.specs.Choice.{chosen, is_allowed}
@@ -40,16 +38,12 @@ use Rattle.m51_sim.proofs.Preparing.{done_fact, ended_levels, same_levels}
 use Rattle.m51_sim.proofs.TakenTypes.{taken_by}
 use Rattle.m51_stackbound.specs.Points.{instruction}
 use Rattle.m51_stack_proof.proofs.Instructions.{Calls, instr_calls, instr_jumps, instr_leads, instr_returns, instr_top}
-use Rattle.m51_stack_proof.proofs.Judged.{event_ok}
 use Rattle.m51_stack_proof.proofs.Running as run
 use Rattle.m51_stack_proof.proofs.Stacking.{Leads}
 use Rattle.m51_stack_proof.proofs.Steps.{InStep, computed_none, spoiled_none}
 
 pub few_levels : (low high : Bool) → length (in_progress low high) ≤ 2
-few_levels false false = omega arith
-few_levels true false = omega arith
-few_levels false true = omega arith
-few_levels true true = omega arith
+few_levels low high = grind arith
 
 -- an instruction that continues with the next, jumps, calls or returns
 pub record IsDone (cpu : Cpu) (instr : Instr) (e : Effect) : Type 0 where
@@ -68,7 +62,7 @@ module _ (l : LayoutParts) (image : List ℕ) (sound : IsSound l) (b : StackBoun
     pub parity : HasParity cpu
 
   pub two_levels : (a : Records) (cpu : Cpu) → InOrder a cpu → interrupts a.returns ≤ 2
-  two_levels a cpu h = let k = few_levels cpu.low cpu.high in omega (arith, k, h.counted)
+  two_levels a cpu h = omega (arith, few_levels)
 
   module _ (a : Records) (cpu : Cpu) (h : InOrder a cpu) (instr : Instr) (at : instruction l image cpu.pc ≡ Some instr)
       (e : Effect) (step : Move) (is : Ok step ≡ judged l a cpu e (unit_found l e.cpu.pc) (root_found l e.transfer))
@@ -119,8 +113,7 @@ module _ (l : LayoutParts) (image : List ℕ) (sound : IsSound l) (b : StackBoun
       module _ (cells : States) (barred : Cell → Bool) (ext : Pins)
           (done : instruction_outcome cpu cells barred instr image ext ≡ outcome.Done e) where
         control : Follows (flow_of instr) (next_address cpu instr) (latch cpu sp) e
-        control = subst (λ o. IfDone o (λ e. Follows (flow_of instr) (next_address cpu instr) (latch cpu sp) e)) done
-            (outcome_control cpu cells barred instr image ext h.len)
+        control = rw done at (outcome_control cpu cells barred instr image ext h.len)
 
         by_kind : (ret call : Bool) → is_return instr ≡ ret → is_call instr ≡ call → After
         by_kind true call r c =
@@ -141,21 +134,20 @@ module _ (l : LayoutParts) (image : List ℕ) (sound : IsSound l) (b : StackBoun
             (instr_jumps cpu instr image ext j) done) leads
 
         pub instr_in_order : length e.cpu.regs ≡ 128 → InOrder (moved a e step) e.cpu
-        instr_in_order len = record {
-          step = by_kind (is_return instr) (is_call instr) refl refl;
-          counted = counted (flow_of instr) (writes_ie_or_ip cpu instr) control
-              (done_fact (λ e. LevelsFollow (flow_of instr) (writes_ie_or_ip cpu instr) cpu e) cpu cells barred instr
-              image ext e (levels_are_kept cpu instr image ext) done);
-          len = len;
-          parity = subst (λ o. IfDone o (λ e. HasParity e.cpu)) done
-              (outcome_parity cpu cells barred instr image ext h.len h.parity);
-        }
+        instr_in_order len = grind (
+          arith,
+          by_kind (is_return instr) (is_call instr) refl refl,
+          counted (flow_of instr) (writes_ie_or_ip cpu instr) control
+              (done_fact (λ e. LevelsFollow (flow_of instr) (writes_ie_or_ip cpu instr) cpu e) cpu cells barred
+              instr image ext e (levels_are_kept cpu instr image ext) done),
+          outcome_parity cpu cells barred instr image ext h.len h.parity,
+        )
 
 pub plan_len : (cpu : Cpu) (instr : Instr) (image : List ℕ) (ext : Pins) → length cpu.regs ≡ 128 → HasParity cpu
     → Always (λ e. IsRight e.cpu) (plan_of cpu instr image ext)
 plan_len cpu instr image ext len parity =
     let r = right_of cpu len parity in
-    plan_right image ext (started cpu instr) (action_of instr) (record { len = r.len; parity = r.parity })
+    plan_right image ext (started cpu instr) (action_of instr) (grind arith)
 
 -- an effect and a move that are allowed
 abbrev pub Held : LayoutParts → Separate → Type 0
@@ -168,38 +160,24 @@ pub record IsJudged (l : LayoutParts) (m : Separate) (cpu : Cpu) (o : Outcome) (
 
 judged_by : (l : LayoutParts) (m : Separate) (cpu : Cpu) (e : Effect) (r : Result Move Event) (x : Held l m)
     → judge_of l m.records cpu e ≡ r → with_move e r ≡ Ok x → IsJudged l m cpu (outcome.Done e) x.effect x.step
-judged_by l m cpu e (Ok step) x is h =
-    let same : x ≡ record { effect = e; step = step } = cc h in
-    subst (λ (y : Held l m). IsJudged l m cpu (outcome.Done e) y.effect y.step) (sym same) (record {
-      done = refl;
-      judged_is = event_ok cpu.pc e.cpu.pc (judged l m.records cpu e (unit_found l e.cpu.pc) (root_found l e.transfer))
-          step is;
-    })
-judged_by l m cpu e (Err event) x is h = absurd (cc h)
+judged_by l m cpu e r x is h = grind arith
 
 pub judged_of : (l : LayoutParts) (m : Separate) (cpu : Cpu) (o : Outcome) (x : Held l m) → concludes l m cpu o ≡ Ok x
     → IsJudged l m cpu o x.effect x.step
-judged_of l m cpu (outcome.Done e) x h = judged_by l m cpu e (judge_of l m.records cpu e) x refl h
-judged_of l m cpu (outcome.Outside c) x h = absurd (cc h)
-judged_of l m cpu (outcome.Unset c) x h = absurd (cc h)
-judged_of l m cpu outcome.PowerDown x h = absurd (cc h)
+judged_of l m cpu o x h = grind (arith, judged_by)
 
 added_low : (low high : Bool) → (not low && not high) ≡ true
     → length (in_progress true high) ≡ length (in_progress low high) + 1
-added_low false false h = refl
-added_low false true h = absurd (cc h)
-added_low true high h = absurd (cc h)
+added_low low high h = grind arith
 
 added_high : (low high : Bool) → not high ≡ true → length (in_progress low true) ≡ length (in_progress low high) + 1
-added_high false false h = refl
-added_high true false h = refl
-added_high low true h = absurd (cc h)
+added_high low high h = grind arith
 
 -- a level that is entered is one more
 level_added : (level : Level) (cpu c : Cpu) → c.low ≡ cpu.low → c.high ≡ cpu.high → is_allowed cpu level ≡ true
     → length (levels (entered level c)) ≡ length (levels cpu) + 1
-level_added Low cpu c low high h = ap (λ b. length (in_progress true b)) high ∙ added_low cpu.low cpu.high h
-level_added High cpu c low high h = ap (λ b. length (in_progress b true)) low ∙ added_high cpu.low cpu.high h
+level_added Low cpu c low high h = cc (added_low cpu.low cpu.high h)
+level_added High cpu c low high h = cc (added_high cpu.low cpu.high h)
 
 -- a vectoring
 pub record IsVectored (cpu : Cpu) (s : Source) (e : Effect) : Type 0 where
@@ -213,25 +191,19 @@ vectored_levels : (cpu : Cpu) (s : Source) → length cpu.regs ≡ 128
 unfolding vectoring
 vectored_levels cpu s len =
     let e = interrupted cpu s in
-    let on_stack : IsStacked e (stacked e) = pc_is_stacked e (acknowledged_kept s cpu len).len in (
-      on_stack.registers,
-      ap (λ b. in_progress b (stacked e).cpu.high) on_stack.control.low
-          ∙ ap (λ b. in_progress (acknowledged s cpu).low b) on_stack.control.high,
-    )
+    grind (arith, pc_is_stacked e (acknowledged_kept s cpu len).len)
 
 pub vectored_is : (cpu : Cpu) (barred : Cell → Bool) (s : Source) (e : Effect) → length cpu.regs ≡ 128 → HasParity cpu
     → chosen cpu ≡ Some s → vectored cpu barred s ≡ outcome.Done e → IsVectored cpu s e
 vectored_is cpu barred s e len parity taken h =
-    let same = vectored_done (shut_of barred (vectoring cpu s).first) (shut_of barred (vectoring cpu s).second)
-    (vectoring cpu s) e h in
-    let k = vectored_levels cpu s len in
-    let before = shape_before s cpu in
-    let more = level_added (level_of cpu s) cpu (with_flag (cleared s cpu) pcon idl false) before.low before.high
-    (is_taken cpu s taken).ready.allowed in
-    record {
-      by = subst (λ o. IfDone o (IsVectoring cpu s)) h (vector_control (vectored cpu barred s) cpu barred s refl len);
-      len = subst (λ (f : Effect). length f.cpu.regs ≡ 128) same k.0;
-      counted = subst (λ (f : Effect). length (levels f.cpu) ≡ length (levels cpu) + 1) same (ap length k.1 ∙ more);
-      parity = subst (λ o. IfDone o (λ e. HasParity e.cpu)) h
-          (vector_parity (vectored cpu barred s) cpu barred s refl len parity);
-    }
+    grind (
+      arith,
+      vectored_done (shut_of barred (vectoring cpu s).first) (shut_of barred (vectoring cpu s).second)
+          (vectoring cpu s) e h,
+      vectored_levels cpu s len,
+      level_added (level_of cpu s) cpu
+          (with_flag (cleared s cpu) pcon idl false) (shape_before s cpu).low (shape_before s cpu).high
+          (is_taken cpu s taken).ready.allowed,
+      vector_control (vectored cpu barred s) cpu barred s refl len,
+      vector_parity (vectored cpu barred s) cpu barred s refl len parity,
+    )

@@ -1,5 +1,5 @@
 -- The points that records represent, and how high SP is over them.
-use Rattle.m51_stack_proof.proofs.Common.{◌≡◌, ◌≤◌, ◌+◌, ℕ, suc, List, [], ◌∷◌, length, refl, sym, ap, subst, arith}
+use Rattle.m51_stack_proof.proofs.Common.{◌≡◌, ◌≤◌, ◌+◌, ℕ, suc, List, [], ◌∷◌, length, refl, sym, subst, arith}
 use Rattle.m51_stack_proof.proofs.Common.{inl, inr, Some, Contains, Instr, Source, LayoutParts, StackBound, IsUnitAt}
 use Rattle.m51_stack_proof.proofs.Common.{ByCall, ByInterrupt, ReturnRecord, first_or, named_over, running, interrupts}
 use Rattle.m51_stack_proof.proofs.Common.{Point, IsBound, next_of, call_of, handlers}
@@ -51,7 +51,7 @@ module _ (l : LayoutParts) (image : List ℕ) where
   one_below : (v d : ℕ) (path : List Start) (vs : List ℕ) (more : ℕ) → Contains (handlers l) v
       → Takes l image (At v) path d → (Contains vs v → ⊥) → length vs ≤ 1 → Above vs more
       → Above (v ∷ vs) (2 + d + more)
-  one_below v d path _ _ h t fresh few NoneAbove = subst (λ n. Above (v ∷ []) n) (omega arith) (OneAbove v d path h t)
+  one_below v d path _ _ h t fresh few NoneAbove = grind (arith, OneAbove)
   one_below v d path _ _ h t fresh few (OneAbove w e other k u) =
       TwoAbove v w d e path other h k (λ same. fresh (0, omega arith, sym same)) t u
   one_below v d path _ _ h t fresh few (TwoAbove w x e f other third k m ne u y) = absurd (omega (arith, few))
@@ -69,7 +69,7 @@ module _ (l : LayoutParts) (image : List ℕ) where
     where
       run : (c : Cause) → c ≡ ByInterrupt source → running (record r { cause = c } ∷ rs) ≡ vector_of source ∷ running rs
       run ByCall e = absurd (cc e)
-      run (ByInterrupt s) e = let same : s ≡ source = cc e in ap (λ t. vector_of t ∷ running rs) same
+      run (ByInterrupt s) e = cc
 
   same_count : (r : ReturnRecord) (rs : List ReturnRecord) → r.cause ≡ ByCall → interrupts (r ∷ rs) ≡ interrupts rs
   same_count r rs e = run r.cause e
@@ -128,9 +128,11 @@ module _ (l : LayoutParts) (image : List ℕ) where
     pub room : (reset : List ℕ) (rs : List ReturnRecord) (start : Start) (base : ℕ) → Stands reset rs start base
         → interrupts rs ≤ 2 → (path : List Start) (bytes : ℕ) → Takes l image start path bytes → base + bytes ≤ b.total
     room reset rs start base s few path bytes t =
-        let low = most reset rs start base s path bytes t [] 0 NoneAbove (λ v k m. none_in_empty v k)
-        (omega (arith, few)) in
-        omega (arith, low)
+        omega (
+          arith,
+          most reset rs start base s path bytes t [] 0 NoneAbove (λ v k m. none_in_empty v k)
+              (omega (arith, few)),
+        )
 
     -- and with one more interrupt
     pub room_above : (reset : List ℕ) (rs : List ReturnRecord) (start : Start) (base : ℕ) → Stands reset rs start base
@@ -140,7 +142,6 @@ module _ (l : LayoutParts) (image : List ℕ) where
     room_above reset rs start base s few height v h handler free entry =
         let low = most reset rs start base s [] height (Own start height h) (v ∷ []) (2 + 0)
         (OneAbove v 0 [] handler (Own (At v) 0 entry))
-        (λ w k m. elim (first_or_after v [] w k)
-        [ inl e ↦ free (subst (λ x. Contains (running rs) x) (sym e) m) | inr none ↦ none_in_empty w none ])
+        (grind arith)
         (omega (arith, few)) in
         omega (arith, low)

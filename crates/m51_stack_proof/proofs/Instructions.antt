@@ -1,13 +1,13 @@
 -- Each instruction that is no call, return or computed jump, and does not write SP by an operand but for an immediate
 -- value.
+use Rattle.std.proofs.Common.{arith}
 use Rattle.m51_stack_proof.proofs.Common.{◌≡◌, ◌+◌, ◌*◌, ◌/◌, ◌%◌, ℕ, Bool, true, false, not, length, List, Option}
-use Rattle.m51_stack_proof.proofs.Common.{Some, None, refl, subst, sym, ap, ◌∙◌, ◌⊎◌, inl, inr, eqb-true, ◌==◌, ◌&&◌}
+use Rattle.m51_stack_proof.proofs.Common.{Some, None, refl, ap, ◌⊎◌, inl, inr, eqb-true, ◌==◌, ◌&&◌}
 use Rattle.m51_stack_proof.proofs.Common.{◌||◌, if◌then◌else◌, is_some, unwrap_or, Instr, Cpu, Pins, Effect, Jump, sp}
 use Rattle.m51_stack_proof.proofs.Common.{Always, next_address, is_call, is_jump, is_return, sets_sp, target_of}
 use Rattle.m51_stack_proof.proofs.Common.{writes_sp}
 use Rattle.std.specs.Prelude.{nat_lt, IfSome}
 use Rattle.m51_isa.specs.declared.instr.Instr.TheVariants as names
-use Rattle.m51_isa.specs.declared.instr.Instr.TheVariants.{Nop}
 use Rattle.m51_isa.specs.Changes.{written_of}
 use Rattle.m51_isa.specs.Table.{flow_of}
 use Rattle.m51_flat.specs.declared.state.Transfer.TheVariants.{Ret, Reti}
@@ -20,8 +20,7 @@ use Rattle.m51_flat.specs.Actions.{action_of}
 use Rattle.m51_flat.specs.Meaning.{plan_of, started}
 use Rattle.m51_flat.specs.Transfers.{called}
 use Rattle.m51_flat.specs.Laws.{Follows, IsCall}
-use Rattle.m51_flat.specs.LevelLaws.{is_written}
-use Rattle.m51_flat.proofs.EveryAction.{MayGo, same_written, walk}
+use Rattle.m51_flat.proofs.EveryAction.{MayGo, walk}
 use Rattle.m51_flat.proofs.Flows.{called_calls}
 use Rattle.m51_stackbound.specs.Instructions.{is_computed, is_pop, is_push}
 use Rattle.m51_stack_proof.proofs.Stacking as by
@@ -33,8 +32,7 @@ instr_top instr top = if is_push instr then (top + 1) % 256 else if is_pop instr
     (sets_sp instr) top
 
 pub target_itself : (o : Option ℕ) → IfSome o (λ to. o ≡ Some to)
-target_itself (Some to) = refl
-target_itself None = tt
+target_itself o = grind arith
 
 module _ (cpu : Cpu) (image : List ℕ) (ext : Pins) where
   abbrev LeadsBy : Instr → Type 0
@@ -54,12 +52,12 @@ module _ (cpu : Cpu) (image : List ℕ) (ext : Pins) where
       let top = latch cpu sp in
       let target = target_of instr n in
       let begin : Effect = started cpu instr in
-      subst (λ b. Always (λ e. by.After n top target b e) (plan_of cpu instr image ext))
-      (by.apart_from_sp begin.cpu (written_of instr) p)
-      (subst (λ w. Always (λ e. by.After n top target (is_written by.is_sp begin.cpu w) e)
-      (plan_of cpu instr image ext)) (same_written instr)
-      (walk by.is_sp (by.Before n top target) (by.After n top target) n (by.IsTarget target)
-      (by.leads_kept n top target) image ext begin (action_of instr) refl m (refl, refl, refl)))
+      grind (
+        arith,
+        by.apart_from_sp begin.cpu (written_of instr) p,
+        walk by.is_sp (by.Before n top target) (by.After n top target) n (by.IsTarget target)
+            (by.leads_kept n top target) image ext begin (action_of instr) refl m (refl, refl, refl),
+      )
 
   -- an immediate value is assigned to a direct address
   sp_valued : (v : ℕ) → length cpu.regs ≡ 128
@@ -73,8 +71,7 @@ module _ (cpu : Cpu) (image : List ℕ) (ext : Pins) where
       (unwrap_or (if b then Some v else None) (latch cpu sp)) None e)
       (plan_of cpu (names.MovDirectData a v) image ext)
   value_by a v len true is =
-      subst (λ a. Always (λ e. Leads (next_address cpu (names.MovDirectData a v)) v None e)
-      (plan_of cpu (names.MovDirectData a v) image ext)) (sym (eqb-true a sp is)) (sp_valued v len)
+      rw (eqb-true a sp is) (sp_valued v len)
   value_by a v len false ne = walked (names.MovDirectData a v) (ap (λ b. b && true) ne) tt
 
   popped_follows : (direct : ℕ) → length cpu.regs ≡ 128 → (direct == sp) ≡ false
@@ -125,10 +122,7 @@ module _ (cpu : Cpu) (instr : Instr) (image : List ℕ) (ext : Pins) (len : leng
 
   call_by : (to : ℕ) → target_of instr next ≡ Some to → length cpu.regs ≡ 128 → Calls (called (started cpu instr) to)
   unfolding latch
-  call_by to is len = record {
-    call = called_calls (started cpu instr) to len;
-    target = is ∙ ap Some (sym (called_at (started cpu instr) to));
-  }
+  call_by to is len = grind (arith, called_calls, called_at)
 
 pub instr_calls : (cpu : Cpu) (instr : Instr) (image : List ℕ) (ext : Pins) (len : length cpu.regs ≡ 128)
     → is_call instr ≡ true → Always (λ e. Calls cpu instr image ext len e) (plan_of cpu instr image ext)
@@ -137,8 +131,7 @@ instr_calls cpu (names.AcallAddr11 address) image ext len h =
     (next_address cpu (names.AcallAddr11 address) / 2048 * 2048 + address) refl len
 instr_calls cpu (names.LcallAddr16 address) image ext len h =
     call_by cpu (names.LcallAddr16 address) image ext len address refl len
-instr_calls cpu Nop image ext len h = absurd (cc h)
-instr_calls cpu _ image ext len h = absurd (cc h)
+instr_calls cpu instr image ext len h = absurd (cc h)
 
 -- a return lowers SP by two
 pub record Returns (cpu : Cpu) (e : Effect) : Type 0 where
@@ -149,8 +142,7 @@ pub instr_returns : (cpu : Cpu) (instr : Instr) (e : Effect) → is_return instr
     → Follows (flow_of instr) (next_address cpu instr) (latch cpu sp) e → Returns cpu e
 instr_returns cpu names.Ret e h f = record { transfer = inl f.transfer; stack = f.stack }
 instr_returns cpu names.Reti e h f = record { transfer = inr f.transfer; stack = f.stack }
-instr_returns cpu Nop e h f = absurd (cc h)
-instr_returns cpu _ e h f = absurd (cc h)
+instr_returns cpu instr e h f = absurd (cc h)
 
 -- a jump without a condition is taken
 branch_taken : (rel : ℕ) (e : Effect) → (branched true rel e).transfer ≡ Jump
@@ -159,9 +151,4 @@ branch_taken rel e = refl
 
 pub instr_jumps : (cpu : Cpu) (instr : Instr) (image : List ℕ) (ext : Pins) → is_jump instr ≡ true
     → Always (λ e. e.transfer ≡ Jump) (plan_of cpu instr image ext)
-instr_jumps cpu (names.SjmpRel rel) image ext h = branch_taken rel (started cpu (names.SjmpRel rel))
-instr_jumps cpu (names.AjmpAddr11 address) image ext h = refl
-instr_jumps cpu (names.LjmpAddr16 address) image ext h = refl
-instr_jumps cpu names.JmpAtADptr image ext h = refl
-instr_jumps cpu Nop image ext h = absurd (cc h)
-instr_jumps cpu _ image ext h = absurd (cc h)
+instr_jumps cpu instr image ext h = grind (arith, branch_taken)

@@ -1,26 +1,25 @@
 -- What the table allows, read backwards.
-use Rattle.m51_stack_proof.proofs.Common.{◌≡◌, ℕ, Bool, true, false, not, List, [], ◌∷◌, refl, sym, ap, ◌⊎◌, inl, inr}
-use Rattle.m51_stack_proof.proofs.Common.{Option, Some, None, if◌then◌else◌, Result, Ok, Err, eqb-true, Event, Source}
+use Rattle.std.proofs.Common.{arith}
+use Rattle.m51_stack_proof.proofs.Common.{◌≡◌, ℕ, Bool, true, false, not, List, [], ◌∷◌, ◌⊎◌}
+use Rattle.m51_stack_proof.proofs.Common.{Option, Some, if◌then◌else◌, Result, Ok, Event, Source}
 use Rattle.m51_stack_proof.proofs.Common.{LayoutParts, HasEdge, Move, Stay, ReturnRecord, Records, first_or, named_over}
 use Rattle.m51_stack_proof.proofs.Common.{is_at}
 use Rattle.std.specs.Prelude.{nat_eq}
 use Rattle.std.proofs.lemmas.Bool.{not-false}
 use Rattle.m51_cells.specs.declared.event.Why.{Why}
-use Rattle.m51_cells.specs.declared.event.Why.TheVariants.{NoEdge, NotCalled, WrongAddress, SpMoved, SpBelow, RootBusy}
+use Rattle.m51_cells.specs.declared.event.Why.TheVariants.{NoEdge, NotCalled, WrongAddress, SpMoved, SpBelow}
 use Rattle.m51_cells.specs.declared.event.Why.TheVariants.{PastEnd}
-use Rattle.m51_flat.specs.Vectors.{vector_of}
 use Rattle.m51_module.specs.Walks.{has_edge}
 use Rattle.m51_module.proofs.EdgeTests.{edge_from_test}
 use Rattle.m51_monitor.specs.declared.step.Move.TheVariants.{Return, Interrupt as InterruptTo}
-use Rattle.m51_monitor.specs.Transfers.{as_event, interrupts_to, is_busy, is_by, jump_or_call, move_to}
+use Rattle.m51_monitor.specs.Transfers.{as_event, interrupts_to, is_by, jump_or_call, move_to}
 use Rattle.m51_monitor.specs.Transfers.{return_move, returns_to, refused_if, within}
 use Rattle.m51_monitor.proofs.Moving.{ok_is, unless_ok}
 
 -- the move is no event
 pub event_ok : (from to : ℕ) (r : Result Move Why) (step : Move)
     → ◌≡◌ {A = Result Move Event} (as_event from to r) (Ok step) → Ok step ≡ r
-event_ok from to (Ok other) step h = let same : other ≡ step = cc h in ap Ok (sym same)
-event_ok from to (Err why) step h = absurd (cc h)
+event_ok from to r step h = grind arith
 
 -- control stays in the unit, or goes along an edge
 pub record Way (l : LayoutParts) (from : ℕ) (call : Bool) (at : Option ℕ) (step : Move) : Type 0 where
@@ -34,29 +33,13 @@ way_by : (l : LayoutParts) (from : ℕ) (low call : Bool) (u : ℕ) (at : Option
     ≡ (if same then refused_if low SpBelow (Ok (within call)) else refused_if (not (has_edge l.edges from u)) NoEdge
     (refused_if low SpBelow (Ok (move_to call u)))) → Way l from call at step
 way_by l from low call u at step true e is k =
-    record {
-      unit = u;
-      found = is;
-      way = inl (
-        sym (eqb-true u from e),
-        ok_is step (within call) (unless_ok low SpBelow (Ok (within call)) step k).1,
-      );
-    }
+    grind arith
 way_by l from low call u at step false e is k =
-    let p = unless_ok (not (has_edge l.edges from u)) NoEdge (refused_if low SpBelow (Ok (move_to call u))) step k in
-    record {
-      unit = u;
-      found = is;
-      way = inr (
-        edge_from_test l.edges from u (not-false (has_edge l.edges from u) p.0),
-        ok_is step (move_to call u) (unless_ok low SpBelow (Ok (move_to call u)) step p.1).1,
-      );
-    }
+    grind (arith, edge_from_test l.edges from u)
 
 pub way_of : (l : LayoutParts) (from : ℕ) (low call : Bool) (at o : Option ℕ) (step : Move) → at ≡ o
     → Ok step ≡ jump_or_call l from low call o → Way l from call at step
-way_of l from low call at None step is k = absurd (cc k)
-way_of l from low call at (Some u) step is k = way_by l from low call u at step (nat_eq u from) refl is k
+way_of l from low call at o step is k = grind (arith, way_by)
 
 -- control continues in the unit
 pub record StaysIn (from : ℕ) (at : Option ℕ) (step : Move) : Type 0 where
@@ -69,7 +52,7 @@ stays_in from low at step k =
     let p = unless_ok (not (is_at at from)) PastEnd (refused_if low SpBelow (Ok Stay)) step k in
     record {
       inside = not-false (is_at at from) p.0;
-      step_is = ok_is step Stay (unless_ok low SpBelow (Ok Stay) step p.1).1;
+      step_is = ok_is step Stay (grind arith);
     }
 
 -- control goes back to where the topmost record says
@@ -97,16 +80,7 @@ goes_back reset returns (r ∷ rs) call top to at step are k =
     let q = unless_ok (not (nat_eq to r.return_address)) WrongAddress (refused_if (not inside) PastEnd (Ok Return)) step
     p.1 in
     let s = unless_ok (not inside) PastEnd (Ok Return) step q.1 in
-    record {
-      r = r;
-      rs = rs;
-      are = are;
-      cause = not-false (is_by call r.cause) o.0;
-      stack = eqb-true top r.sp (not-false (nat_eq top r.sp) p.0);
-      back = eqb-true to r.return_address (not-false (nat_eq to r.return_address) q.0);
-      inside = not-false inside s.0;
-      step_is = ok_is step Return s.1;
-    }
+    grind arith
 
 -- an interrupt begins at a root
 pub record Begins (source : Source) (root : Option ℕ) (step : Move) : Type 0 where
@@ -116,13 +90,4 @@ pub record Begins (source : Source) (root : Option ℕ) (step : Move) : Type 0 w
 
 pub begins_at : (a : Records) (source : Source) (low : Bool) (root o : Option ℕ) (step : Move) → root ≡ o
     → Ok step ≡ interrupts_to a source low o → Begins source root step
-begins_at a source low root None step is k = absurd (cc k)
-begins_at a source low root (Some u) step is k =
-    let p = unless_ok (is_busy a.returns (vector_of source)) RootBusy
-    (refused_if low SpBelow (Ok (InterruptTo source u)))
-    step k in
-    record {
-      unit = u;
-      found = is;
-      step_is = ok_is step (InterruptTo source u) (unless_ok low SpBelow (Ok (InterruptTo source u)) step p.1).1;
-    }
+begins_at a source low root o step is k = grind arith

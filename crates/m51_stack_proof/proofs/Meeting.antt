@@ -1,6 +1,7 @@
 -- The same notions in the words of the machine and of the bound: units at addresses, instructions, bytes inside.
-use Rattle.m51_stack_proof.proofs.Common.{◌≡◌, ◌≤◌, ◌+◌, ◌%◌, ◌-◌, ℕ, suc, Bool, true, false, List, [], refl, sym, ap}
-use Rattle.m51_stack_proof.proofs.Common.{subst, ◌∙◌, arith, ◌⊎◌, inl, inr, Option, Some, None, ◌&&◌, ◌||◌}
+use Rattle.std.proofs.lemmas.Grind.{common_steps}
+use Rattle.m51_stack_proof.proofs.Common.{◌≡◌, ◌≤◌, ◌+◌, ◌%◌, ◌-◌, ℕ, suc, Bool, true, false, List, refl, sym, ap}
+use Rattle.m51_stack_proof.proofs.Common.{◌∙◌, arith, ◌⊎◌, Option, Some, None, ◌&&◌, ◌||◌}
 use Rattle.m51_stack_proof.proofs.Common.{if◌then◌else◌, is_some, unwrap_or, Contains, eqb-true, Instr, Source}
 use Rattle.m51_stack_proof.proofs.Common.{LayoutParts, IsUnitAt, IsSound, HasEdge, root_found, unit_found, is_at, Point}
 use Rattle.m51_stack_proof.proofs.Common.{is_call, is_jump, next_of, sets_sp, target_of, writes_sp, call_of, handlers}
@@ -17,16 +18,14 @@ use Rattle.m51_flat.specs.Vectors.{vector_of}
 use Rattle.m51_module.specs.Plan.{IsRootAt}
 use Rattle.m51_module.specs.Roots.{vectors}
 use Rattle.m51_module.specs.Walks.{has_edge}
-use Rattle.m51_module.proofs.EdgeTests.{test_from_edge}
 use Rattle.m51_module.proofs.Units.{one_root, one_unit}
 use Rattle.m51_monitor.specs.Transfers.{IsFoundAt}
 use Rattle.m51_monitor.proofs.Finding.{same_root_found, unit_found_is}
 use Rattle.m51_sim.specs.Effects as machine
 use Rattle.m51_sim.specs.SeparateMachine as separate
-use Rattle.m51_sim.proofs.Agreeing.{if_some}
 use Rattle.m51_stackbound.specs.Instructions.{instr_at}
-use Rattle.m51_stackbound.specs.Points.{after_call, after_instr, at_next, at_target, call_by, called, ends_at}
-use Rattle.m51_stackbound.specs.Points.{entry_at, follow, follow_by, height_after, if_inside, instruction, point_at}
+use Rattle.m51_stackbound.specs.Points.{after_instr, at_next, at_target, call_by, ends_at}
+use Rattle.m51_stackbound.specs.Points.{follow_by, height_after, instruction, point_at}
 use Rattle.m51_stackbound.specs.Points.{successors}
 use Rattle.m51_stackbound.specs.Units.{counts, in_one_unit, interrupts, same_or_edge, lie_inside, root_of}
 use Rattle.m51_stackbound.specs.Units.{same}
@@ -34,7 +33,6 @@ use Rattle.m51_stackbound.specs.Units.{unit_of}
 use Rattle.m51_stackbound.proofs.Finding.{root_found as root_there, root_is, unit_is}
 use Rattle.m51_stackbound.proofs.Inside.{interrupt_is_vector}
 use Rattle.m51_stackbound.proofs.Raised.{call_goes}
-use Rattle.m51_cells.proofs.Small.{contains_after}
 use Rattle.m51_cells.proofs.ListsAndOptions.{filter_keeps}
 use Rattle.m51_stack_proof.proofs.Instructions.{instr_top}
 
@@ -44,34 +42,29 @@ module _ (l : LayoutParts) (sound : IsSound l) where
 
   pub in_one : (from to u : ℕ) → IsUnitAt l from u → IsUnitAt l to u → in_one_unit l from to ≡ true
   unfolding in_one_unit
-  in_one from to u h k = ap (λ o. same o (unit_of l to)) (unit_at from u h)
-      ∙ (ap (λ o. same (Some u) o) (unit_at to u k) ∙ eq-eqb u u refl)
+  in_one from to u h k = cc (unit_at from u h, unit_at to u k, eq-eqb u u refl)
 
   or_holds : (a b : Bool) → (a ≡ true) ⊎ (b ≡ true) → (a || b) ≡ true
-  or_holds true b h = refl
-  or_holds false b (inl e) = absurd (cc e)
-  or_holds false b (inr e) = e
+  or_holds a b h = grind arith
 
   pub target_counts : (from to u v : ℕ) → IsUnitAt l from u → IsUnitAt l to v → (u ≡ v) ⊎ HasEdge l.edges u v
       → counts l from to ≡ true
   unfolding counts
   target_counts from to u v h k way =
       ap (λ o. same_or_edge l.edges o (unit_of l to)) (unit_at from u h)
-      ∙ (ap (λ o. same_or_edge l.edges (Some u) o) (unit_at to v k)
+      ∙ (cc (unit_at to v k)
       ∙ or_holds (nat_eq u v) (has_edge l.edges u v)
-      (elim way
-      [ inl e ↦ inl (eq-eqb u v e) | inr edge ↦ inr (test_from_edge l.edges u v edge) ]))
+      (grind (arith, common_steps)))
 
   pub found_unit : (address unit : ℕ) → is_at (unit_found l address) unit ≡ true → IsUnitAt l address unit
   found_unit address unit h = by (unit_found l address) (unit_found_is l address) h
     where
       by : (o : Option ℕ) → IsFoundAt l address o → is_at o unit ≡ true → IsUnitAt l address unit
       by None found h = absurd (cc h)
-      by (Some v) found h = subst (λ u. IsUnitAt l address u) (eqb-true v unit h) found
+      by (Some v) found h = rw (eqb-true v unit h) at found
 
   both : (a b : Bool) → a ≡ true → b ≡ true → (a && b) ≡ true
-  both true b h k = k
-  both false b h k = absurd (cc h)
+  both a b h k = cc
 
   bytes_inside : (unit pc count : ℕ) → IsUnitAt l pc unit → separate.lie_inside l unit pc count ≡ true
       → lie_inside l pc count ≡ true
@@ -92,8 +85,7 @@ module _ (l : LayoutParts) (sound : IsSound l) where
       → instruction l image pc ≡ Some instr
   unfolding instruction
   instruction_is image pc unit instr e at h =
-      ap (if_inside l pc) (sym (same_instr image pc) ∙ e)
-      ∙ ap (λ b. if b then Some instr else None) (bytes_inside unit pc (length_of instr) at h)
+      cc (same_instr image pc, bytes_inside unit pc (length_of instr) at h)
 
   is_interrupt : (source : Source) → Contains interrupts (vector_of source)
   unfolding vector_of
@@ -118,11 +110,13 @@ module _ (l : LayoutParts) (sound : IsSound l) where
   root_at source u e =
       let v = vector_of source in
       let k = is_interrupt source in
-      let is : Contains vectors v = subst (λ n. Contains vectors n) k.2 (interrupt_is_vector k.0 v k.1) in
-      let same : root_of l v ≡ root_found l (Vector source) =
-      same_root_found l source (root_of l v) (some v is (root_of l v) refl)
-      (λ w h. sym (root_is l sound v (Some w) is h (λ x n. ap Some (one_root l sound v w x h n)))) in
-      root_there l sound v u is (same ∙ e)
+      let is : Contains vectors v = rw k.2 at (interrupt_is_vector k.0 v k.1) in
+      grind (
+        arith,
+        same_root_found l source (root_of l v) (some v is (root_of l v) refl)
+            (λ w h. sym (root_is l sound v (Some w) is h (λ x n. ap Some (one_root l sound v w x h n)))),
+        root_there l sound v u is,
+      )
     where
       some : (v : ℕ) → Contains vectors v → (o : Option ℕ) → root_of l v ≡ o → IfSome o (λ u. IsRootAt l v u)
       some v is None h = tt
@@ -138,10 +132,7 @@ module _ (l : LayoutParts) (image : List ℕ) (p : Point) (instr : Instr)
     after_is : successors l image p ≡ after_instr l p instr next
     unfolding follow_by
     after_is =
-        ap (follow_by l p) at
-        ∙ (ap (λ b. if b then [] else follow l p instr next) goes
-        ∙ ap (λ b. if b then after_call l p next (called l p (target_of instr next)) else after_instr l p instr next)
-        call)
+        cc
 
     next_listed : in_one_unit l p.address next ≡ true → (h : ℕ)
         → Contains (at_next l p next h) (point_at p.start next h)
@@ -151,7 +142,7 @@ module _ (l : LayoutParts) (image : List ℕ) (p : Point) (instr : Instr)
     target_listed : (to : ℕ) → target_of instr next ≡ Some to → counts l p.address to ≡ true → (h : ℕ)
         → Contains (at_target l p (target_of instr next) h) (point_at p.start to h)
     unfolding at_target
-    target_listed to is count h = rw (is, count) (0, omega arith, refl)
+    target_listed to is count h = grind arith
 
     abbrev height : ℕ
     height = height_after p.height instr
@@ -159,17 +150,17 @@ module _ (l : LayoutParts) (image : List ℕ) (p : Point) (instr : Instr)
     pub next_there : is_jump instr ≡ false → in_one_unit l p.address next ≡ true
         → Contains (successors l image p) (point_at p.start next height)
     next_there jump one =
-        subst (λ ps. Contains ps (point_at p.start next height)) (sym after_is)
-        (subst (λ b. Contains
-        (if b then at_target l p (target_of instr next) p.height else at_next l p next height
-        ++ at_target l p (target_of instr next) height) (point_at p.start next height)) (sym jump)
-        (Contains-append_left (at_next l p next height) (at_target l p (target_of instr next) height)
-        (point_at p.start next height) (next_listed one height)))
+        grind (
+          arith,
+          after_is,
+          Contains-append_left (at_next l p next height)
+              (at_target l p (target_of instr next) height) (point_at p.start next height) (next_listed one height),
+        )
 
     pub target_there : (to : ℕ) → target_of instr next ≡ Some to → counts l p.address to ≡ true → height ≡ p.height
         → Contains (successors l image p) (point_at p.start to p.height)
     target_there to is count same =
-        subst (λ ps. Contains ps (point_at p.start to p.height)) (sym after_is) (by (is_jump instr))
+        rw after_is (by (is_jump instr))
       where
         by : (b : Bool) → Contains
             (if b then at_target l p (target_of instr next) p.height else at_next l p next height
@@ -178,8 +169,7 @@ module _ (l : LayoutParts) (image : List ℕ) (p : Point) (instr : Instr)
         by false =
             Contains-append_right (at_next l p next height) (at_target l p (target_of instr next) height)
             (point_at p.start to p.height)
-            (subst (λ h. Contains (at_target l p (target_of instr next) h) (point_at p.start to p.height)) (sym same)
-            (target_listed to is count p.height))
+            (rw same (target_listed to is count p.height))
 
 -- a branch keeps SP
 pub branch_keeps : (instr : Instr) (n to h : ℕ) → target_of instr n ≡ Some to
@@ -191,24 +181,18 @@ branch_keeps (names.MovDirectData a v) n to h e = absurd (cc e)
 branch_keeps Nop n to h e = absurd (cc e)
 branch_keeps _ n to h e = (refl, refl)
 
-sets_by : (b : Bool) (v : ℕ) → is_some (if b then Some v else None) ≡ true → b ≡ true
-sets_by true v h = refl
-sets_by false v h = absurd (cc h)
-
 -- an immediate value for SP is a write of SP
 pub sets_writes : (instr : Instr) → is_some (sets_sp instr) ≡ true → writes_sp instr ≡ true
-sets_writes (names.MovDirectData a v) h = sets_by (nat_eq a 0x81) v h
-sets_writes Nop h = absurd (cc h)
-sets_writes _ h = absurd (cc h)
+sets_writes instr h = grind arith
 
 -- SP and the height go together
 pub tops : (push pop : Bool) (o : Option ℕ) (base h : ℕ) → (push ≡ true → base + (h + 1) ≤ 255) → (pop ≡ true → 1 ≤ h)
     → base + h ≤ 255 → (is_some o ≡ true → base ≡ 0)
     → (if push then (base + h + 1) % 256 else if pop then (base + h + 255) % 256 else unwrap_or o (base + h))
     ≡ base + (if push then h + 1 else if pop then h - 1 else unwrap_or o h)
-tops true pop o base h up down few low = let k = up refl in omega (arith, k)
-tops false true o base h up down few low = let k = down refl in omega (arith, k, few)
-tops false false (Some v) base h up down few low = let k = low refl in omega (arith, k)
+tops true pop o base h up down few low = omega (arith, up refl)
+tops false true o base h up down few low = omega (arith, down refl)
+tops false false (Some v) base h up down few low = omega (arith, low refl)
 tops false false None base h up down few low = refl
 
 -- after a call whose target counts, control comes back to the next address
@@ -219,14 +203,4 @@ pub call_returns : (l : LayoutParts) (image : List ℕ) (p : Point) (instr : Ins
 unfolding follow_by call_by at_next
 call_returns l image p instr to at calls one =
     let next = next_of instr p.address in
-    let target = called l p (target_of instr next) in
-    let by : (is_call instr ≡ true) × (target ≡ Some to) =
-    if_some (is_call instr) target to (sym (ap (call_by l p) at) ∙ calls) in
-    let is : successors l image p ≡ after_call l p next (Some to) =
-    ap (follow_by l p) at
-    ∙ (ap (λ b. if b then [] else follow l p instr next) (call_goes p instr by.0)
-    ∙ (ap (λ b. if b then after_call l p next target else after_instr l p instr next) by.0
-    ∙ ap (after_call l p next) by.1)) in
-    subst (λ ps. Contains ps (point_at p.start next p.height)) (sym is)
-    (contains_after (entry_at to) (at_next l p next p.height) (point_at p.start next p.height)
-    (rw one (0, omega arith, refl)))
+    grind (arith, call_goes p instr)

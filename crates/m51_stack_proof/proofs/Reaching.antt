@@ -1,21 +1,18 @@
 -- From the reset on: what holds after each step, and so the law.
-use Rattle.m51_stack_proof.proofs.Common.{◌≡◌, ◌≤◌, ◌+◌, ◌*◌, ◌/◌, ◌%◌, ℕ, suc, List, [], ◌∷◌, length, refl, sym, ap}
-use Rattle.m51_stack_proof.proofs.Common.{subst, ◌∙◌, arith, Option, Some, None, Result, Ok, Err, Contains, Event}
+use Rattle.m51_stack_proof.proofs.Common.{◌≡◌, ◌≤◌, ◌+◌, ◌*◌, ◌/◌, ◌%◌, ℕ, suc, List, [], ◌∷◌, length, refl}
+use Rattle.m51_stack_proof.proofs.Common.{arith, Option, Some, None, Result, Ok, Err, Contains, Event}
 use Rattle.m51_stack_proof.proofs.Common.{Instr, Cpu, Effect, Pins, Source, sp, LayoutParts, StackBound, IsUnitAt}
 use Rattle.m51_stack_proof.proofs.Common.{IsSound, Move, Stay, ByInterrupt, root_found, unit_found, ReturnRecord}
 use Rattle.m51_stack_proof.proofs.Common.{Records, current, running, interrupts, byte_put, judged, moved, IsBound}
 use Rattle.std.proofs.Common.{zero}
-use Rattle.std.proofs.Common.{lit≤}
-use Rattle.std.specs.Int.{bit_at}
 use Rattle.std.proofs.lemmas.Bool.{cond_both}
 use Rattle.std.proofs.Math.Nat.{mod-add-div}
-use Rattle.m51_alu.specs.Arithmetic.{bit_of, parity_of}
 use Rattle.m51_isa.specs.Table.{length_of}
 use Rattle.m51_flat.specs.declared.state.Transfer.TheVariants.{Vector}
 use Rattle.m51_flat.specs.Laws.{HasParity}
 use Rattle.m51_flat.specs.Reset.{reset_cpu}
 use Rattle.m51_flat.specs.Flags.{idl}
-use Rattle.m51_flat.specs.Sfr.{acc, flag, has_register, latch, pcon, psw}
+use Rattle.m51_flat.specs.Sfr.{flag, has_register, latch, pcon}
 use Rattle.m51_flat.specs.Vectors.{vector_of}
 use Rattle.m51_flat.proofs.Parity.{IsRight}
 use Rattle.m51_irq.specs.Choice.{chosen}
@@ -24,15 +21,14 @@ use Rattle.m51_module.specs.declared.start.Start.TheVariants.{Reset}
 use Rattle.m51_module.specs.Plan.{IsRootAt}
 use Rattle.m51_monitor.specs.declared.step.Move.TheVariants.{Interrupt as InterruptTo}
 use Rattle.m51_monitor.specs.Resolved.{outside_of}
-use Rattle.m51_monitor.specs.Rising.{in_progress}
 use Rattle.m51_monitor.specs.Transfers.{IsFoundAt, is_sp_below, judged_as, return_address_of}
 use Rattle.m51_monitor.proofs.Finding.{unit_found_is}
 use Rattle.m51_monitor.proofs.Moving.{Allowed as Permitted, IsInterrupt, allowed}
 use Rattle.m51_sim.specs.Cycles.{Inputs, cycle_passed, cycles_passed, next_cycle}
-use Rattle.m51_sim.specs.Effects.{attempt_by, attempt_of, changed_by, executing, idle_effect, instr_at, performed}
+use Rattle.m51_sim.specs.Effects.{attempt_by, attempt_of, changed_by, executing, idle_effect, instr_at}
 use Rattle.m51_sim.specs.FlatMachine.{reset_with}
 use Rattle.m51_sim.specs.Runs.{State, Performed, record_from, record_of}
-use Rattle.m51_sim.specs.SeparateMachine.{Separate, cells_of, concludes, instr_outcome, lie_inside, memory_after}
+use Rattle.m51_sim.specs.SeparateMachine.{Separate, cells_of, concludes, instr_outcome, lie_inside}
 use Rattle.m51_sim.specs.SeparateMachine.{or_zero, separate_effect, separate_machine, separate_performs, separate_start}
 use Rattle.m51_sim.proofs.Fitting.{KeepsControl}
 use Rattle.m51_sim.proofs.Keeping.{inside_ok}
@@ -47,7 +43,7 @@ use Rattle.m51_stack_proof.proofs.Bounded.{two_levels, vectored_is}
 use Rattle.m51_stack_proof.proofs.Frames.{AtReset}
 use Rattle.m51_stack_proof.proofs.Judged.{begins_at}
 use Rattle.m51_stack_proof.proofs.Meeting.{handler_is, instruction_is, root_at}
-use Rattle.m51_stack_proof.proofs.Steps.{InStep, in_room, interrupted as interrupted_at, put_byte}
+use Rattle.m51_stack_proof.proofs.Steps.{in_room, interrupted as interrupted_at, put_byte}
 
 module _ (l : LayoutParts) (image : List ℕ) (sound : IsSound l) (b : StackBound) (bounded : IsBound l image b)
     (few : b.total ≤ 255) where
@@ -62,20 +58,15 @@ module _ (l : LayoutParts) (image : List ℕ) (sound : IsSound l) (b : StackBoun
       let v = vector_of source in
       let at : Ok step ≡ judged_as l a (latch cpu sp) (latch e.cpu sp) e.cpu.pc (Vector source) (unit_found l e.cpu.pc)
       (root_found l (Vector source)) =
-      subst (λ t. Ok step ≡ judged_as l a (latch cpu sp) (latch e.cpu sp) e.cpu.pc t (unit_found l e.cpu.pc)
-      (root_found l t)) k.by.transfer is in
+      cc in
       let low = is_sp_below a.returns 2 (latch e.cpu sp) in
       let begins = begins_at a source low (root_found l (Vector source)) (root_found l (Vector source)) step refl at in
       let root : IsRootAt l v begins.unit = root_there source begins.unit begins.found in
       let allowed_it = allowed l a (latch cpu sp) (latch e.cpu sp) e.cpu.pc (Vector source) (unit_found l e.cpu.pc)
       (Some begins.unit) (InterruptTo source begins.unit) root
-      (subst (λ o. Ok (InterruptTo source begins.unit) ≡ judged_as l a (latch cpu sp) (latch e.cpu sp) e.cpu.pc
-      (Vector source) (unit_found l e.cpu.pc) o) begins.found
-      (subst (λ m. Ok m ≡ judged_as l a (latch cpu sp) (latch e.cpu sp) e.cpu.pc (Vector source) (unit_found l e.cpu.pc)
-      (root_found l (Vector source))) begins.step_is at)) in
+      (cc) in
       let free = free_of source begins.unit allowed_it in
-      let one : interrupts a.returns ≤ 1 = let two = few_levels e.cpu.low e.cpu.high in
-      omega (arith, two, k.counted, h.counted) in
+      let one : interrupts a.returns ≤ 1 = omega (arith, few_levels) in
       let r : ReturnRecord =
       record {
         cause = ByInterrupt source;
@@ -83,18 +74,13 @@ module _ (l : LayoutParts) (image : List ℕ) (sound : IsSound l) (b : StackBoun
         sp = latch e.cpu sp;
         units = begins.unit ∷ [];
       } in
-      let new = interrupted_at l image sound b bounded few a cpu.pc (latch cpu sp) h.step
-      (two_levels l image sound b bounded few a cpu h) r (moved a e (InterruptTo source begins.unit)) source
-      (latch e.cpu sp) one
-      (handler_is l sound source begins.unit root) free refl (back_is) refl k.by.stack refl refl
-      (root_covers l sound v begins.unit root) in
-      subst (λ m. Order (moved a e m) e.cpu) (sym begins.step_is) (record {
-        step = subst (λ n. InStep l image sound b bounded few (moved a e (InterruptTo source begins.unit)) n
-            (latch e.cpu sp)) (sym k.by.at) new;
-        counted = omega (arith, h.counted, k.counted);
-        len = k.len;
-        parity = k.parity;
-      })
+      grind (
+        arith,
+        interrupted_at l image sound b bounded few a cpu.pc (latch cpu sp) h.step
+            (two_levels l image sound b bounded few a cpu h) r (moved a e (InterruptTo source begins.unit)) source
+            (latch e.cpu sp) one (handler_is l sound source begins.unit root) free refl (back_is) refl k.by.stack
+            refl refl (root_covers l sound v begins.unit root),
+      )
     where
       back_is : return_address_of e ≡ cpu.pc
       back_is = two (byte_put e.first) (byte_put e.second)
@@ -102,7 +88,7 @@ module _ (l : LayoutParts) (image : List ℕ) (sound : IsSound l) (b : StackBoun
           (put_byte e.second ((latch cpu sp + 2) % 256) (cpu.pc / 256) k.by.high)
         where
           two : (x y : ℕ) → x ≡ cpu.pc % 256 → y ≡ cpu.pc / 256 → x + 256 * y ≡ cpu.pc
-          two x y p q = ap (λ x. x + 256 * y) p ∙ (ap (λ y. cpu.pc % 256 + 256 * y) q ∙ mod-add-div cpu.pc 256)
+          two x y p q = cc (mod-add-div cpu.pc 256)
 
       root_there : (source : Source) (u : ℕ) → root_found l (Vector source) ≡ Some u → IsRootAt l (vector_of source) u
       root_there source u e = root_at l sound source u e
@@ -115,7 +101,7 @@ module _ (l : LayoutParts) (image : List ℕ) (sound : IsSound l) (b : StackBoun
   -- after an idle cycle
   idle_in_order : (a : Records) (cpu : Cpu) → Order a cpu → Order (moved a (idle_effect cpu) Stay) (idle_effect cpu).cpu
   unfolding latch
-  idle_in_order a cpu h = record { step = h.step; counted = h.counted; len = h.len; parity = h.parity }
+  idle_in_order a cpu h = grind arith
 
   -- after each effect that is allowed
   module _ (m : Separate) (cpu : Cpu) (pins : Pins) (x : Held l m) (h : Order m.records cpu) where
@@ -143,10 +129,7 @@ module _ (l : LayoutParts) (image : List ℕ) (sound : IsSound l) (b : StackBoun
     by_idle : separate_effect l image cpu m pins (attempt_by image cpu None) ≡ Ok x → Then
     unfolding separate_effect
     by_idle = cond_both (flag cpu pcon idl) _ _ (λ t. separate_effect l image cpu m pins t ≡ Ok x → Then)
-        (λ yes done.
-        let same : x ≡ record { effect = idle_effect cpu; step = Stay } = cc done in
-        subst (λ (y : Held l m). Order (moved m.records y.effect y.step) y.effect.cpu) (sym same)
-        (idle_in_order m.records cpu h))
+        (grind (arith, idle_in_order m.records cpu h))
         (λ no. by_instr (instr_at image cpu.pc) refl)
 
     by_chosen : (o : Option Source) → chosen cpu ≡ o → separate_effect l image cpu m pins (attempt_by image cpu o)
@@ -175,34 +158,16 @@ module _ (l : LayoutParts) (image : List ℕ) (sound : IsSound l) (b : StackBoun
   cycles_keep_all : (inputs : Inputs) (n : ℕ) (p : Passed inputs) → Keeps p.cpu (cycles_passed inputs n p).cpu
   unfolding cycles_passed cycle_passed
   cycles_keep_all inputs zero p =
-      record { control = record { pc = refl; low = refl; high = refl; stack = refl }; len = refl; parity = λ h. h }
+      grind arith
   cycles_keep_all inputs (suc n) p =
       let q = cycles_passed inputs n p in
       let before = cycles_keep_all inputs n p in
       let cycle = next_cycle q.cycle in
       let k = the_rest_is_kept q.cpu (inputs.pins cycle) (inputs.frames cycle) q.periph in
-      let c = before.control in
-      record {
-        control = record {
-          pc = k.pc ∙ c.pc;
-          low = k.low ∙ c.low;
-          high = k.high ∙ c.high;
-          stack = k.latches sp (lit≤ tt) refl ∙ c.stack;
-        };
-        len = k.size ∙ before.len;
-        parity = λ h. ap (λ n. bit_at n 0) (k.latches psw (lit≤ tt) refl)
-            ∙ (before.parity h ∙ ap (λ n. bit_of (parity_of n)) (sym (k.latches acc (lit≤ tt) refl)));
-      }
+      grind arith
 
   kept_in_order : (a : Records) (old new : Cpu) → Keeps old new → Order a old → Order a new
-  kept_in_order a old new k h = record {
-    step = subst (λ n. InStep l image sound b bounded few a new.pc n) (sym k.control.stack)
-        (subst (λ n. InStep l image sound b bounded few a n (latch old sp)) (sym k.control.pc) h.step);
-    counted = h.counted ∙ ap length
-        (sym (ap (λ x. in_progress x new.high) k.control.low ∙ ap (λ x. in_progress old.low x) k.control.high));
-    len = k.len ∙ h.len;
-    parity = k.parity h.parity;
-  }
+  kept_in_order a old new k h = grind arith
 
   module _ (inputs : Inputs) where
     step_in_order : (s : State Separate) (r : Result (Held l s.memory) Event) (done : Performed Separate)
@@ -210,11 +175,12 @@ module _ (l : LayoutParts) (image : List ℕ) (sound : IsSound l) (b : StackBoun
         → Order s.memory.records s.cpu
         → separate_performs l inputs s r ≡ Ok done → Order done.state.memory.records done.state.cpu
     step_in_order s (Ok x) done is h e =
-        let same : performed inputs s x.effect (memory_after l s.memory x) ≡ done = cc e in
-        let after = effect_in_order s.memory s.cpu (inputs.pins s.cycle) x h is in
-        subst (λ (d : Performed Separate). Order d.state.memory.records d.state.cpu) same
-        (kept_in_order (moved s.memory.records x.effect x.step) x.effect.cpu _
-        (cycles_keep_all inputs x.effect.cycles (changed_by s.cycle s.periph x.effect)) after)
+        grind (
+          arith,
+          kept_in_order (moved s.memory.records x.effect x.step) x.effect.cpu _
+              (cycles_keep_all inputs x.effect.cycles (changed_by s.cycle s.periph x.effect))
+              (effect_in_order s.memory s.cpu (inputs.pins s.cycle) x h is),
+        )
     step_in_order s (Err event) done is h e = absurd (cc e)
 
     abbrev Ends : ℕ → State Separate → Type 0

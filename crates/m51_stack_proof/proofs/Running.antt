@@ -2,8 +2,8 @@
 use Rattle.m51_stack_proof.proofs.Common.{◌≡◌, ◌≤◌, ◌+◌, ◌*◌, ◌/◌, ◌%◌, ℕ, Bool, true, false, List, [], ◌∷◌, length}
 use Rattle.m51_stack_proof.proofs.Common.{refl, sym, ap, subst, ◌∙◌, arith, inl, inr, Some, Ok, Instr, Cpu, Effect}
 use Rattle.m51_stack_proof.proofs.Common.{Next, Jump, next_address, sp, LayoutParts, StackBound, IsUnitAt, IsSound}
-use Rattle.m51_stack_proof.proofs.Common.{Move, Stay, ByCall, ByInterrupt, root_found, unit_found, ReturnRecord}
-use Rattle.m51_stack_proof.proofs.Common.{Records, current, first_or, named_over, interrupts, byte_put, is_at, judged}
+use Rattle.m51_stack_proof.proofs.Common.{Move, Stay, ByCall, root_found, unit_found, ReturnRecord}
+use Rattle.m51_stack_proof.proofs.Common.{Records, current, first_or, named_over, interrupts, byte_put, judged}
 use Rattle.m51_stack_proof.proofs.Common.{moved, IsBound}
 use Rattle.std.proofs.Common.{drop}
 use Rattle.std.proofs.lemmas.Bool.{eq-eqb}
@@ -23,19 +23,16 @@ use Rattle.m51_monitor.proofs.Levels.{jumped_count}
 use Rattle.m51_stackbound.specs.Instructions as bound
 use Rattle.m51_stackbound.specs.Points.{instruction}
 use Rattle.m51_stack_proof.proofs.Instructions.{Returns, instr_top}
-use Rattle.m51_stack_proof.proofs.Frames.{Stands}
 use Rattle.m51_stack_proof.proofs.Judged.{GoesBack, Way, goes_back, stays_in, way_of}
 use Rattle.m51_stack_proof.proofs.Meeting.{found_unit}
 use Rattle.m51_stack_proof.proofs.Steps.{InStep, call_made, in_room, jumped_stands, put_byte, returned, went_on}
 use Rattle.m51_stack_proof.proofs.Steps.{went_to}
 
 call_count : (cause : Cause) (n : ℕ) → is_by true cause ≡ true → one_more cause n ≡ n
-call_count ByCall n e = refl
-call_count (ByInterrupt source) n e = absurd (cc e)
+call_count cause n e = grind arith
 
 interrupt_count : (cause : Cause) (n : ℕ) → is_by false cause ≡ true → one_more cause n ≡ n + 1
-interrupt_count ByCall n e = absurd (cc e)
-interrupt_count (ByInterrupt source) n e = refl
+interrupt_count cause n e = grind arith
 
 -- an instruction that was performed: its effect, and the move that the table allowed
 module _ (l : LayoutParts) (image : List ℕ) (sound : IsSound l) (b : StackBound) (bounded : IsBound l image b)
@@ -51,12 +48,10 @@ module _ (l : LayoutParts) (image : List ℕ) (sound : IsSound l) (b : StackBoun
   as_transfer : (t : Transfer) → e.transfer ≡ t
       → Ok step ≡ judged_as l a (latch cpu sp) (latch e.cpu sp) e.cpu.pc t (unit_found l e.cpu.pc)
       (root_found l e.transfer)
-  as_transfer t h = subst
-      (λ t. Ok step ≡ judged_as l a (latch cpu sp) (latch e.cpu sp) e.cpu.pc t (unit_found l e.cpu.pc)
-      (root_found l e.transfer)) h is
+  as_transfer t h = cc
 
   found_at : (u : ℕ) → unit_found l e.cpu.pc ≡ Some u → IsUnitAt l e.cpu.pc u
-  found_at u h = found_unit l sound e.cpu.pc u (subst (λ o. is_at o u ≡ true) (sym h) (eq-eqb u u refl))
+  found_at u h = found_unit l sound e.cpu.pc u (cc (eq-eqb u u refl))
 
   -- control went on to the next instruction
   pub by_next : bound.is_return instr ≡ false → bound.is_call instr ≡ false → bound.is_jump instr ≡ false
@@ -64,12 +59,7 @@ module _ (l : LayoutParts) (image : List ℕ) (sound : IsSound l) (b : StackBoun
   by_next ret call jump t pc top =
       let k = stays_in (current a) (is_sp_below a.returns 0 (latch e.cpu sp)) (unit_found l e.cpu.pc) step
       (as_transfer Next t) in
-      let there : IsUnitAt l next (current a) =
-      subst (λ n. IsUnitAt l n (current a)) pc (found_unit l sound e.cpu.pc (current a) k.inside) in
-      let new = went_on l image sound b bounded few a cpu.pc (latch cpu sp) s count instr at ret call jump there in
-      subst (λ m. InStep l image sound b bounded few (moved a e m) e.cpu.pc (latch e.cpu sp)) (sym k.step_is)
-      (subst (λ n. InStep l image sound b bounded few a n (latch e.cpu sp)) (sym pc)
-      (subst (λ n. InStep l image sound b bounded few a next n) (sym top) new))
+      grind (arith, found_unit, went_on, latch)
 
   -- control went to the target
   pub by_jump : bound.is_return instr ≡ false → bound.is_call instr ≡ false → e.transfer ≡ Jump
@@ -81,18 +71,16 @@ module _ (l : LayoutParts) (image : List ℕ) (sound : IsSound l) (b : StackBoun
       elim w.way [
         | inl own ↦
             let new = went_to l image sound b bounded few a cpu.pc (latch cpu sp) s count instr at a e.cpu.pc w.unit ret
-            call target s.stands there (inl own.0) (subst (λ u. IsUnitAt l e.cpu.pc u) (sym own.0) there) in
-            subst (λ m. InStep l image sound b bounded few (moved a e m) e.cpu.pc (latch e.cpu sp)) (sym own.1)
-            (subst (λ n. InStep l image sound b bounded few a e.cpu.pc n) (sym top) new)
+            call target s.stands there (inl own.0) (rw own.0 there) in
+            grind arith
         | inr edge ↦
             let c = jumped a.reset a.returns w.unit in
             let new = went_to l image sound b bounded few a cpu.pc (latch cpu sp) s count instr at c e.cpu.pc w.unit ret
             call target
             (jumped_stands l image sound b bounded few a.reset a.returns s.start s.base w.unit s.stands) there
-            (inr edge.0) (subst (λ u. IsUnitAt l e.cpu.pc u) (sym (jumped_current a.reset a.returns w.unit)) there)
+            (inr edge.0) (rw (jumped_current a.reset a.returns w.unit) there)
             in
-            subst (λ m. InStep l image sound b bounded few (moved a e m) e.cpu.pc (latch e.cpu sp)) (sym edge.1)
-            (subst (λ n. InStep l image sound b bounded few c e.cpu.pc n) (sym top) new)
+            grind arith
       ]
 
   -- a call
@@ -107,10 +95,9 @@ module _ (l : LayoutParts) (image : List ℕ) (sound : IsSound l) (b : StackBoun
         | inl own ↦
             let r : ReturnRecord =
             record { cause = ByCall; return_address = return_address_of e; sp = latch e.cpu sp; units = [] } in
-            subst (λ m. InStep l image sound b bounded few (moved a e m) e.cpu.pc (latch e.cpu sp)) (sym own.1)
-            (call_made l image sound b bounded few a cpu.pc (latch cpu sp) s count instr at r (moved a e Local) e.cpu.pc
-            w.unit (latch e.cpu sp) call target there (inl own.0) refl back refl h.stack refl refl
-            (subst (λ u. IsUnitAt l e.cpu.pc u) (sym own.0) there))
+            rw own.1 (call_made l image sound b bounded few a cpu.pc (latch cpu sp) s count instr at r
+            (moved a e Local) e.cpu.pc w.unit (latch e.cpu sp) call target there (inl own.0) refl back refl
+            h.stack refl refl (subst (λ u. IsUnitAt l e.cpu.pc u) (sym own.0) there))
         | inr edge ↦
             let r : ReturnRecord =
             record {
@@ -119,8 +106,7 @@ module _ (l : LayoutParts) (image : List ℕ) (sound : IsSound l) (b : StackBoun
               sp = latch e.cpu sp;
               units = w.unit ∷ [];
             } in
-            subst (λ m. InStep l image sound b bounded few (moved a e m) e.cpu.pc (latch e.cpu sp)) (sym edge.1)
-            (call_made l image sound b bounded few a cpu.pc (latch cpu sp) s count instr at r
+            rw edge.1 (call_made l image sound b bounded few a cpu.pc (latch cpu sp) s count instr at r
             (moved a e (CallTo w.unit)) e.cpu.pc w.unit (latch e.cpu sp) call target there (inr edge.0) refl back
             refl h.stack refl refl there)
       ]
@@ -131,25 +117,20 @@ module _ (l : LayoutParts) (image : List ℕ) (sound : IsSound l) (b : StackBoun
           (put_byte e.second ((latch cpu sp + 2) % 256) (next / 256) h.high)
         where
           two : (x y : ℕ) → x ≡ next % 256 → y ≡ next / 256 → x + 256 * y ≡ next
-          two x y p q = ap (λ x. x + 256 * y) p ∙ (ap (λ y. next % 256 + 256 * y) q ∙ mod-add-div next 256)
+          two x y p q = cc (mod-add-div next 256)
 
   -- a return
   back_to : (t : Transfer) (call : Bool) → e.transfer ≡ t → latch e.cpu sp ≡ (latch cpu sp + 254) % 256
       → GoesBack a.reset a.returns call (latch cpu sp) e.cpu.pc (unit_found l e.cpu.pc) step → After
   back_to t call h top k =
       let there : IsUnitAt l k.r.return_address (first_or (named_over a.reset k.rs) 0) =
-      subst (λ n. IsUnitAt l n (first_or (named_over a.reset k.rs) 0)) k.back
-      (found_unit l sound e.cpu.pc (first_or (named_over a.reset k.rs) 0) k.inside) in
+      rw k.back at (found_unit l sound e.cpu.pc (first_or (named_over a.reset k.rs) 0) k.inside) in
       let c : Records = record { reset = a.reset; returns = without_top a.returns } in
-      let rest : c.returns ≡ k.rs = ap without_top k.are in
-      let now : IsUnitAt l k.r.return_address (current c) =
-      subst (λ q. IsUnitAt l k.r.return_address (first_or (named_over a.reset q) 0)) (sym rest) there in
-      let stands = subst (λ q. Stands l image a.reset q s.start s.base) k.are s.stands in
-      let low = in_room l image sound b bounded few a cpu.pc (latch cpu sp) s count in
-      let new = returned l image sound b bounded few a.reset k.r k.rs s.start s.base c (latch e.cpu sp) stands
-      (omega (arith, low, few, k.stack)) (top ∙ ap (λ n. (n + 254) % 256) k.stack) refl rest now in
-      subst (λ m. InStep l image sound b bounded few (moved a e m) e.cpu.pc (latch e.cpu sp)) (sym k.step_is)
-      (subst (λ n. InStep l image sound b bounded few c n (latch e.cpu sp)) (sym k.back) new)
+      grind (
+        arith,
+        in_room l image sound b bounded few a cpu.pc (latch cpu sp) s count,
+        returned l image sound b bounded few a.reset k.r k.rs s.start s.base c (latch e.cpu sp),
+      )
 
   pub by_return : Returns cpu e → After
   by_return h = elim h.transfer [
@@ -182,11 +163,10 @@ module _ (l : LayoutParts) (image : List ℕ) (sound : IsSound l) (b : StackBoun
 
   back_count : (call : Bool) (k : GoesBack a.reset a.returns call (latch cpu sp) e.cpu.pc (unit_found l e.cpu.pc) step)
       → interrupts (moved a e step).returns ≡ interrupts k.rs
-  back_count call k = ap (λ m. interrupts (moved a e m).returns) k.step_is ∙ ap (λ q. interrupts (without_top q)) k.are
+  back_count call k = cc
 
   drop_one : (xs : List Level) (n : ℕ) → n + 1 ≡ length xs → n ≡ length (drop 1 xs)
-  drop_one [] n h = absurd (omega (arith, h))
-  drop_one (x ∷ xs) n h = omega (arith, h)
+  drop_one xs n h = grind arith
 
   pub count_next : e.transfer ≡ Next → levels e.cpu ≡ levels cpu → interrupts a.returns ≡ length (levels cpu) → Counted
   count_next t same have =

@@ -1,6 +1,6 @@
 -- What an instruction does with SP, and where it leads, whatever is read.
 use Rattle.m51_stack_proof.proofs.Common.{◌≡◌, ◌+◌, ◌%◌, ◌-◌, ℕ, Bool, true, false, List, length, Option, Some, None}
-use Rattle.m51_stack_proof.proofs.Common.{refl, sym, ap, ◌∙◌, arith, ◌⊎◌, inl, inr, ◌==◌, ◌&&◌, ◌||◌, Cpu, Pins, Effect}
+use Rattle.m51_stack_proof.proofs.Common.{refl, ◌∙◌, arith, ◌⊎◌, ◌==◌, ◌&&◌, ◌||◌, Cpu, Pins, Effect}
 use Rattle.m51_stack_proof.proofs.Common.{Next, Jump, sp, Always}
 use Rattle.std.proofs.Common.{◌≢◌, ◌<◌, cond, get_or}
 use Rattle.std.proofs.Common.{get_or-set_other, rules, lit<}
@@ -8,24 +8,18 @@ use Rattle.std.proofs.lemmas.Bool.{ne_eqb}
 use Rattle.std.specs.Prelude.{slice_set}
 use Rattle.std.specs.Option.{option_or}
 use Rattle.m51_isa.specs.declared.instr.Written.{Written}
-use Rattle.m51_isa.specs.declared.instr.Written.TheVariants.{Nothing, Direct, Bit, BitIfSet}
-use Rattle.m51_isa.specs.Targets.{relative}
+use Rattle.m51_isa.specs.declared.instr.Written.TheVariants.{Direct}
 use Rattle.m51_flat.specs.Reads.{Reads, Ends, Read, then_read}
-use Rattle.m51_flat.specs.Sfr.{flag, has_register, ie, ip, latch, port_of, sbuf, with_parity, with_sfr}
-use Rattle.m51_flat.specs.Operands.{byte_of_bit, with_location}
+use Rattle.m51_flat.specs.Sfr.{has_register, ie, ip, latch, port_of, sbuf, with_parity, with_sfr}
+use Rattle.m51_flat.specs.Operands.{with_location}
 use Rattle.m51_flat.specs.Parts.{jumped}
 use Rattle.m51_flat.specs.Moves.{pushed}
 use Rattle.m51_flat.specs.LevelLaws.{is_written}
 use Rattle.m51_flat.proofs.EveryAction.{IsKept}
 use Rattle.m51_flat.proofs.Flows.{sp_written}
 
--- the byte at 81H is register 1 of 128
-latch_is : (cpu : Cpu) → latch cpu sp ≡ get_or cpu.regs 1 0
-unfolding latch has_register
-latch_is cpu = refl
-
 other_place : (a : ℕ) → (a == sp) ≡ false → 1 ≢ a - 128
-other_place a h e = let same : a ≡ 129 = omega (arith, e) in absurd (cc (h, ap (λ n. n == sp) same))
+other_place a h e = grind arith
 
 far : (n : ℕ) → n < 80 → n ≢ 80
 far n h e = omega (arith, h, e)
@@ -66,7 +60,7 @@ module _ (n top : ℕ) (target : Option ℕ) where
   AlwaysFollows p = Always (λ e. Follows e) p
 
   pub good_of : (e : Effect) → Follows e → Leads n top target e
-  good_of e h = record { stack = h.0; goes = inl (h.1, h.2) }
+  good_of e h = grind arith
 
   pub follows_then : {A : Type 0} (p : Reads A) (go : A → Reads Effect) → ((a : A) → AlwaysFollows (go a))
       → AlwaysFollows (then_read p go)
@@ -78,9 +72,7 @@ module _ (n top : ℕ) (target : Option ℕ) where
   follows_good (Read x go) h = λ v. follows_good (go v) (h v)
 
   pick : (b c : Bool) (x y z : Effect) → Follows x → Follows y → Follows z → Follows (cond b x (cond c y z))
-  pick true c x y z hx hy hz = hx
-  pick false true x y z hx hy hz = hy
-  pick false false x y z hx hy hz = hz
+  pick b c x y z hx hy hz = grind arith
 
   register_follows : (a v : ℕ) (e : Effect) (held : Bool) (port : Option ℕ) → (a == sp) ≡ false → Follows e
       → Follows (record e {
@@ -99,12 +91,10 @@ module _ (n top : ℕ) (target : Option ℕ) where
   -- a direct address is in internal RAM, or a register
   pub either_follows : {L : Type 0} (write : L → ℕ → Effect → Effect) (ram sfr : L) (v : ℕ) (b : Bool) (e : Effect)
       → Follows (write ram v e) → Follows (write sfr v e) → Follows (write (cond b ram sfr) v e)
-  either_follows write ram sfr v true e h k = h
-  either_follows write ram sfr v false e h k = k
+  either_follows write ram sfr v b e h k = grind arith
 
   register_before : (a v : ℕ) (b : Bool) (e : Effect) → is_sp a ≡ b → Follows e → Before b (with_sfr a v e)
-  register_before a v true e is h = tt
-  register_before a v false e ne h = plain_follows a v e ne h
+  register_before a v b e is h = grind (arith, plain_follows)
 
   ends_after : (b : Bool) (e : Effect) → Before b e → After b e
   ends_after true e h = tt
@@ -112,28 +102,10 @@ module _ (n top : ℕ) (target : Option ℕ) where
 
   jumps_after : (b : Bool) (to : ℕ) (e : Effect) → IsTarget target to → Before b e → After b (jumped to Jump e)
   unfolding latch
-  jumps_after true to e is h = tt
-  jumps_after false to e is h = record { stack = h.0; goes = inr (refl, is) }
-
-  branches_after : (b : Bool) (rel : ℕ) (e : Effect) → IsTarget target (relative n rel) → Before b e
-      → After b (jumped (relative e.cpu.pc rel) Jump e)
-  branches_after true rel e is h = tt
-  branches_after false rel e is h =
-      jumps_after false (relative e.cpu.pc rel) e (is ∙ ap (λ k. Some (relative k rel)) (sym h.2)) h
+  jumps_after b to e is h = grind arith
 
   pub leads_kept : IsKept is_sp Before After n (IsTarget target)
-  leads_kept = record {
-    apart = (refl, refl, refl, refl, refl);
-    low = λ a h. ne_eqb a sp (λ e. omega (arith, h, e));
-    register = λ a v e h. register_before a v (a == sp) e refl h;
-    memory = λ put e h. h;
-    ends = ends_after;
-    jump = jumps_after;
-    branch = branches_after;
-  }
-
-bit_is_other : (bit : ℕ) → (byte_of_bit bit == sp) ≡ false
-bit_is_other bit = ne_eqb (byte_of_bit bit) sp (λ e. omega (arith, e))
+  leads_kept = grind (arith, ne_eqb, sp, register_before, ends_after, jumps_after)
 
 -- what is written at an address of an operand is SP
 abbrev pub direct_sp : Written → Bool
@@ -141,14 +113,10 @@ direct_sp (Direct a) = a == sp
 direct_sp _ = false
 
 pub other_than : (b : Bool) → (b && true) ≡ false → b ≡ false
-other_than false h = refl
-other_than true h = h
+other_than b h = grind arith
 
 pub apart_from_sp : (cpu : Cpu) (w : Written) → (direct_sp w && true) ≡ false → is_written is_sp cpu w ≡ false
-apart_from_sp cpu (Direct a) h = other_than (a == sp) h
-apart_from_sp cpu (Bit bit) h = bit_is_other bit
-apart_from_sp cpu (BitIfSet bit) h = ap (λ b. b && flag cpu (byte_of_bit bit) (bit % 8)) (bit_is_other bit)
-apart_from_sp cpu Nothing h = refl
+apart_from_sp cpu w h = grind arith
 
 sp_transfer : (v : ℕ) (e : Effect) → (with_sfr sp v e).transfer ≡ e.transfer
 unfolding with_sfr has_register

@@ -1,12 +1,11 @@
 -- Each step that is performed keeps the points that records and processor represent.
-use Rattle.m51_stack_proof.proofs.Common.{◌≡◌, ◌≤◌, ◌+◌, ◌%◌, ◌-◌, ℕ, Bool, true, false, not, List, [], ◌∷◌, refl, sym}
-use Rattle.m51_stack_proof.proofs.Common.{ap, subst, ◌∙◌, arith, ◌⊎◌, Some, None, ◌==◌, ◌&&◌, ◌||◌, if◌then◌else◌}
+use Rattle.m51_stack_proof.proofs.Common.{◌≡◌, ◌≤◌, ◌+◌, ◌%◌, ◌-◌, ℕ, Bool, true, false, not, List, [], ◌∷◌, refl}
+use Rattle.m51_stack_proof.proofs.Common.{ap, ◌∙◌, arith, ◌⊎◌, Some, ◌==◌, ◌&&◌, ◌||◌, if◌then◌else◌}
 use Rattle.m51_stack_proof.proofs.Common.{is_some, unwrap_or, Contains, Instr, Source, LayoutParts, StackBound}
 use Rattle.m51_stack_proof.proofs.Common.{IsUnitAt, IsSound, HasEdge, ByCall, ByInterrupt, ReturnRecord, Records}
 use Rattle.m51_stack_proof.proofs.Common.{current, first_or, named_over, running, interrupts, byte_put, Point, IsBound}
 use Rattle.m51_stack_proof.proofs.Common.{is_call, is_jump, is_return, next_of, sets_sp, target_of, writes_sp, call_of}
 use Rattle.m51_stack_proof.proofs.Common.{handlers}
-use Rattle.std.proofs.lemmas.Grind.{common_steps}
 use Rattle.m51_flat.specs.declared.state.Put.{Put}
 use Rattle.m51_flat.specs.declared.state.Put.TheVariants.{Byte}
 use Rattle.m51_flat.specs.Vectors.{vector_of}
@@ -45,8 +44,7 @@ module _ (l : LayoutParts) (image : List ℕ) (sound : IsSound l) (b : StackBoun
   reset_base : (reset : List ℕ) (rs : List ReturnRecord) (start : Start) (base : ℕ) → Stands l image reset rs start base
       → is_reset start ≡ true → base ≡ 0
   reset_base reset _ _ _ AtReset h = refl
-  reset_base reset _ _ _ (AfterCall r rs p base to instr cause below is calls at back high) h = absurd (cc h)
-  reset_base reset _ _ _ (AfterInterrupt r rs p base source cause below is back high handler free) h = absurd (cc h)
+  reset_base reset _ start base s h = absurd (cc h)
 
   -- a unit is appended to the top record
   pub jumped_stands : (reset : List ℕ) (rs : List ReturnRecord) (start : Start) (base u : ℕ)
@@ -61,21 +59,23 @@ module _ (l : LayoutParts) (image : List ℕ) (sound : IsSound l) (b : StackBoun
   has_height : (start : Start) (pc height : ℕ) → IsPoint l image (point_at start pc height)
       → HasHeight l image start height
   has_height start pc height is =
-      record { point = point_at start pc height; is_point = is; start_is = refl; height_is = refl }
+      grind arith
 
   -- SP is at most the bound
   pub in_room : (a : Records) (pc top : ℕ) → InStep a pc top → interrupts a.returns ≤ 2 → top ≤ b.total
   in_room a pc top s count =
-      let low = room l image b bound a.reset a.returns s.start s.base s.stands count [] s.height
-      (Own s.start s.height (has_height s.start pc s.height s.is_point)) in
-      omega (arith, low, s.stack)
+      omega (
+        arith,
+        room l image b bound a.reset a.returns s.start s.base s.stands count [] s.height
+            (Own s.start s.height (has_height s.start pc s.height s.is_point)),
+      )
 
   module _ (a : Records) (pc top : ℕ) (s : InStep a pc top) (count : interrupts a.returns ≤ 2) where
     abbrev here : Point
     here = point_at s.start pc s.height
 
     low_now : s.base + s.height ≤ 255
-    low_now = let low = in_room a pc top s count in omega (arith, low, s.stack, few)
+    low_now = omega (arith, in_room a pc top s count)
 
     module _ (instr : Instr) (at : instruction l image pc ≡ Some instr) where
       abbrev next : ℕ
@@ -117,12 +117,11 @@ module _ (l : LayoutParts) (image : List ℕ) (sound : IsSound l) (b : StackBoun
       goes_on h = all_false (is_return instr) h
 
       part : (x y : Bool) → x ≡ true → (x && y) ≡ false → y ≡ false
-      part true y h k = k
-      part false y h k = absurd (cc h)
+      part x y h k = cc
 
       pop_high : is_pop instr ≡ true → 1 ≤ s.height
       unfolding pops_below
-      pop_high h = let none = part (is_pop instr) (s.height == 0) h no_pop in grind (arith, common_steps, none)
+      pop_high h = let none = part (is_pop instr) (s.height == 0) h no_pop in grind arith
 
       reset_only : is_some (sets_sp instr) ≡ true → s.base ≡ 0
       unfolding sets_stack
@@ -138,15 +137,7 @@ module _ (l : LayoutParts) (image : List ℕ) (sound : IsSound l) (b : StackBoun
       moved : (b : Records) (to height top : ℕ) → Stands l image b.reset b.returns s.start s.base
           → Contains (successors l image here) (point_at s.start to height) → top ≡ s.base + height
           → IsUnitAt l to (current b) → InStep b to top
-      moved b to height top stands after stack covers = record {
-        start = s.start;
-        base = s.base;
-        height = height;
-        stands = stands;
-        is_point = After here (point_at s.start to height) s.is_point after;
-        stack = stack;
-        covers = covers;
-      }
+      moved b to height top stands after stack covers = grind (arith, After)
 
       -- control continues with the next instruction
       pub went_on : is_return instr ≡ false → is_call instr ≡ false → is_jump instr ≡ false
@@ -161,8 +152,8 @@ module _ (l : LayoutParts) (image : List ℕ) (sound : IsSound l) (b : StackBoun
           (Own s.start height (has_height s.start next height new)) in
           let up : is_push instr ≡ true → s.base + (s.height + 1) ≤ 255 = λ h. ups (is_push instr) h low in
           moved a next height (instr_top instr top) s.stands after
-          (ap (instr_top instr) s.stack ∙ tops (is_push instr) (is_pop instr) (sets_sp instr) s.base s.height up
-          pop_high low_now reset_only) at_next
+          (cc (tops (is_push instr) (is_pop instr) (sets_sp instr) s.base s.height up pop_high low_now reset_only))
+          at_next
         where
           ups : (x : Bool) → x ≡ true
               → s.base + (if x then s.height + 1 else if is_pop instr then s.height - 1 else unwrap_or (sets_sp instr)
@@ -187,10 +178,7 @@ module _ (l : LayoutParts) (image : List ℕ) (sound : IsSound l) (b : StackBoun
           → (current a ≡ u) ⊎ HasEdge l.edges (current a) u → call_of l image here ≡ Some to
       unfolding call_by called
       calls_it to u call target there way =
-          ap (call_by l here) at
-          ∙ (ap (λ x. if x then called l here (target_of instr next) else None) call
-          ∙ (ap (called l here) target
-          ∙ ap (λ x. if x then Some to else None) (target_counts l sound pc to (current a) u s.covers there way)))
+          cc (target_counts l sound pc to (current a) u s.covers there way)
 
       pub call_made : (r : ReturnRecord) (c : Records) (to u new : ℕ) → is_call instr ≡ true
           → target_of instr next ≡ Some to → IsUnitAt l to u → (current a ≡ u) ⊎ HasEdge l.edges (current a) u
@@ -200,18 +188,19 @@ module _ (l : LayoutParts) (image : List ℕ) (sound : IsSound l) (b : StackBoun
           let calls = calls_it to u call target there way in
           let at_entry = entered l image here to s.is_point calls in
           let called_here : CallsAt l image s.start s.height to =
-          record { point = here; is_point = s.is_point; start_is = refl; height_is = refl; calls = calls } in
+          grind arith in
           let low = room l image b bound a.reset a.returns s.start s.base s.stands count (At to ∷ []) (s.height + 2 + 0)
           (Call s.start s.height to [] 0 called_here (Own (At to) 0 at_entry)) in
-          let high : r.sp ≡ s.base + s.height + 2 = omega (arith, sp_is, new_is, s.stack, low, few) in
+          let high : r.sp ≡ s.base + s.height + 2 = omega arith in
           record {
             start = At to;
             base = r.sp;
             height = 0;
-            stands = subst (λ rs. Stands l image c.reset rs (At to) r.sp) (sym returns)
-                (subst (λ us. Stands l image us (r ∷ a.returns) (At to) r.sp) (sym reset)
-                (AfterCall r a.returns here s.base to instr cause s.stands
-                (record { is_point = s.is_point; covered = s.covers }) calls at back high));
+            stands = grind (
+              arith,
+              AfterCall r a.returns here s.base to instr cause s.stands
+                  (record { is_point = s.is_point; covered = s.covers }) calls at back high,
+            );
             is_point = After here (entry_at to) s.is_point (call_enters l here to (instruction l image pc) calls);
             stack = omega (arith, sp_is);
             covers = covers;
@@ -227,16 +216,17 @@ module _ (l : LayoutParts) (image : List ℕ) (sound : IsSound l) (b : StackBoun
         let entry = handler_first l image v handler in
         let low = room_above l image b bound a.reset a.returns s.start s.base s.stands one s.height v
         (has_height s.start pc s.height s.is_point) handler free
-        (record { point = entry_at v; is_point = entry; start_is = refl; height_is = refl }) in
-        let high : r.sp ≡ s.base + s.height + 2 = omega (arith, sp_is, new_is, s.stack, low, few) in
+        (grind arith) in
+        let high : r.sp ≡ s.base + s.height + 2 = omega arith in
         record {
           start = At v;
           base = r.sp;
           height = 0;
-          stands = subst (λ rs. Stands l image c.reset rs (At v) r.sp) (sym returns)
-              (subst (λ us. Stands l image us (r ∷ a.returns) (At v) r.sp) (sym reset)
-              (AfterInterrupt r a.returns here s.base source cause s.stands
-              (record { is_point = s.is_point; covered = s.covers }) back high handler free));
+          stands = grind (
+            arith,
+            AfterInterrupt r a.returns here s.base source cause s.stands
+                (record { is_point = s.is_point; covered = s.covers }) back high handler free,
+          );
           is_point = entry;
           stack = omega (arith, sp_is);
           covers = covers;
@@ -255,31 +245,19 @@ module _ (l : LayoutParts) (image : List ℕ) (sound : IsSound l) (b : StackBoun
   returned reset _ _ _ _ c new (AfterCall r rs p base to instr cause below is calls at back high) fits new_is same
       returns covers =
       let same_current : current c ≡ first_or (named_over reset rs) 0 =
-      ap (λ us. first_or (named_over us c.returns) 0) same ∙ ap (λ q. first_or (named_over reset q) 0) returns in
+      cc in
       let here : IsUnitAt l (next_of instr p.address) (first_or (named_over reset rs) 0) =
-      subst (λ u. IsUnitAt l (next_of instr p.address) u) same_current
-      (subst (λ n. IsUnitAt l n (current c)) back covers) in
+      grind arith in
       let after = back_there p instr to at calls
       (in_one l sound p.address (next_of instr p.address) (first_or (named_over reset rs) 0) is.covered here) in
-      record {
-        start = p.start;
-        base = base;
-        height = p.height;
-        stands = subst (λ q. Stands l image c.reset q p.start base) (sym returns)
-            (subst (λ us. Stands l image us rs p.start base) (sym same) below);
-        is_point = subst (λ n. IsPoint l image (point_at p.start n p.height)) (sym back)
-            (After p (point_at p.start (next_of instr p.address) p.height) is.is_point after);
-        stack = omega (arith, new_is, high, fits);
-        covers = covers;
-      }
+      grind (arith, After p (point_at p.start (next_of instr p.address) p.height) is.is_point after)
   returned reset _ _ _ _ c new (AfterInterrupt r rs p base source cause below is back high handler free) fits new_is
       same returns covers = record {
         start = p.start;
         base = base;
         height = p.height;
-        stands = subst (λ q. Stands l image c.reset q p.start base) (sym returns)
-            (subst (λ us. Stands l image us rs p.start base) (sym same) below);
-        is_point = subst (λ n. IsPoint l image (point_at p.start n p.height)) (sym back) is.is_point;
-        stack = omega (arith, new_is, high, fits);
+        stands = grind arith;
+        is_point = rw back is.is_point;
+        stack = omega arith;
         covers = covers;
       }

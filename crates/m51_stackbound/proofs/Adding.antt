@@ -1,8 +1,7 @@
 -- The two greatest numbers that interrupts add.
 use Rattle.m51_stackbound.proofs.Common.{◌≡◌, ◌≢◌, ◌<◌, ◌≤◌, ◌+◌, ℕ, Bool, true, false, List, [], length, get_or, take}
-use Rattle.m51_stackbound.proofs.Common.{refl, sym, subst, ◌∙◌, arith, ◌⊎◌, inl, inr, if◌then◌else◌, nat_lt, Contains}
-use Rattle.m51_stackbound.proofs.Common.{common_steps, At, Rises, depth_in, rank, AreGreatest}
-use Rattle.std.specs.Prelude.{slice_index}
+use Rattle.m51_stackbound.proofs.Common.{refl, sym, arith, inl, inr, if◌then◌else◌, nat_lt, Contains}
+use Rattle.m51_stackbound.proofs.Common.{common_steps, Rises, AreGreatest}
 use Rattle.std.proofs.lemmas.List.{length-take-le}
 use Rattle.m51_stackbound.specs.declared.totals.Greatest.{Greatest}
 use Rattle.m51_stackbound.specs.Totals.{added, with_bytes, OneAdds, TwoAdd}
@@ -10,13 +9,7 @@ use Rattle.m51_stackbound.proofs.Leasts.{front_cases, front_kept, front_next}
 
 module _ (depths : List ℕ) where
   pub greatest_none : AreGreatest depths [] (record { first = 0; second = 0 })
-  greatest_none = record {
-    one = inl refl;
-    two = inl refl;
-    order = omega arith;
-    most = λ v k. absurd (omega (arith, k.1));
-    sum = λ v w k m n. absurd (omega (arith, k.1));
-  }
+  greatest_none = grind (arith, common_steps)
 
   module _ (vectors : List ℕ) (i : ℕ) (below : i < length vectors) (rising : Rises vectors) where
     abbrev here : ℕ
@@ -35,20 +28,13 @@ module _ (depths : List ℕ) where
     fresh : (v : ℕ) → Contains front v → v ≢ here
     fresh v k e =
         let low : k.0 < i = omega (arith, k.1, length-take-le i vectors (omega (arith, below))) in
-        let at : get_or vectors k.0 v ≡ v = grind (arith, common_steps, k.2, low, below) in
-        let less : get_or vectors k.0 v < get_or vectors i v = rising k.0 i v low below in
-        let same : get_or vectors i v ≡ here = grind (arith, common_steps, below) in
-        omega (arith, at, less, same, e)
+        grind (arith, common_steps, rising k.0 i v low below)
 
     kept : (b : ℕ) → OneAdds depths front b → OneAdds depths longer b
-    kept b o = record {
-      vector = o.vector;
-      listed = front_kept vectors i 0 o.vector below o.listed;
-      bytes_are = o.bytes_are;
-    }
+    kept b o = grind (arith, common_steps, front_kept vectors i 0 o.vector below o.listed)
 
     newest : OneAdds depths longer bytes
-    newest = record { vector = here; listed = front_next vectors i 0 below; bytes_are = refl }
+    newest = grind (arith, common_steps, here, front_next vectors i 0 below)
 
     kept_two : (a b : ℕ) → TwoAdd depths front a b → TwoAdd depths longer a b
     unfolding kept
@@ -56,10 +42,7 @@ module _ (depths : List ℕ) where
 
     -- what holds of each vector before and of the newest, holds of each
     each : (P : ℕ → Type 0) → ((v : ℕ) → Contains front v → P v) → P here → (v : ℕ) → Contains longer v → P v
-    each P old new v k = elim (front_cases vectors i 0 v below k) [
-      | inl before ↦ old v before
-      | inr is ↦ subst P is new
-    ]
+    each P old new v k = grind (arith, common_steps, front_cases vectors i 0 v below k, old v)
 
     -- sums of two different vectors
     sums : (most : ℕ) → ((v w : ℕ) → Contains front v → Contains front w → v ≢ w
@@ -67,16 +50,15 @@ module _ (depths : List ℕ) where
         → ((v : ℕ) → Contains front v → added depths v + bytes ≤ most) → (v w : ℕ) → Contains longer v
         → Contains longer w → v ≢ w → added depths v + added depths w ≤ most
     sums most old new v w k m other =
-        elim (front_cases vectors i 0 v below k) [
-          | inl one ↦ elim (front_cases vectors i 0 w below m) [
-            | inl two ↦ old v w one two other
-            | inr is ↦ subst (λ x. added depths v + added depths x ≤ most) is (new v one)
-          ]
-          | inr is ↦ elim (front_cases vectors i 0 w below m) [
-            | inl two ↦ let h = new w two in subst (λ x. added depths x + added depths w ≤ most) is (omega (arith, h))
-            | inr same ↦ absurd (other (sym is ∙ same))
-          ]
-        ]
+        grind (
+          arith,
+          common_steps,
+          front_cases vectors i 0 v below k,
+          front_cases vectors i 0 w below m,
+          old v w,
+          new v,
+          new w,
+        )
 
     module _ (g : Greatest) (h : AreGreatest depths front g) where
       greater : g.first < bytes → AreGreatest depths longer (record { first = bytes; second = g.first })
@@ -92,42 +74,36 @@ module _ (depths : List ℕ) where
           })
         ];
         order = omega (arith, more);
-        most = each (λ v. added depths v ≤ bytes) (λ v k. let m = h.most v k in omega (arith, more, m)) (omega arith);
-        sum = sums (bytes + g.first) (λ v w k m other. let s = h.sum v w k m other in omega (arith, s, more, h.order))
-            (λ v k. let m = h.most v k in omega (arith, m));
+        most = each (λ v. added depths v ≤ bytes) (λ v k. omega (arith, h.most v k)) (omega arith);
+        sum = sums (bytes + g.first) (λ v w k m other. omega (arith, h.sum v w k m other))
+            (λ v k. omega (arith, h.most v k));
       }
 
       between : bytes ≤ g.first → g.second < bytes
           → AreGreatest depths longer (record { first = g.first; second = bytes })
       unfolding kept newest
       between few more = record {
-        one = elim h.one [
-          | inl none ↦ inl none
-          | inr o ↦ inr (kept g.first o)
-        ];
+        one = grind (arith, common_steps, kept g.first);
         two = elim h.one [
           | inl none ↦ absurd (omega (arith, none, few))
           | inr o ↦ inr (record { first = kept g.first o; second = newest; different = fresh o.vector o.listed })
         ];
         order = few;
         most = each (λ v. added depths v ≤ g.first) h.most few;
-        sum = sums (g.first + bytes) (λ v w k m other. let s = h.sum v w k m other in omega (arith, s, more))
-            (λ v k. let m = h.most v k in omega (arith, m));
+        sum = sums (g.first + bytes) (λ v w k m other. omega (arith, h.sum v w k m other))
+            (λ v k. omega (arith, h.most v k));
       }
 
       less : bytes ≤ g.second → AreGreatest depths longer g
       less few = record {
-        one = elim h.one [
-          | inl none ↦ inl none
-          | inr o ↦ inr (kept g.first o)
-        ];
+        one = grind (arith, common_steps, kept g.first);
         two = elim h.two [
           | inl none ↦ inl none
           | inr t ↦ inr (kept_two g.first g.second t)
         ];
         order = h.order;
         most = each (λ v. added depths v ≤ g.first) h.most (omega (arith, few, h.order));
-        sum = sums (g.first + g.second) h.sum (λ v k. let m = h.most v k in omega (arith, m, few));
+        sum = sums (g.first + g.second) h.sum (λ v k. omega (arith, h.most v k));
       }
 
       pub greatest_more : AreGreatest depths longer (with_bytes g bytes)
@@ -136,24 +112,12 @@ module _ (depths : List ℕ) where
         where
           second : (b : Bool) → nat_lt g.second bytes ≡ b → bytes ≤ g.first
               → AreGreatest depths longer (if b then record { first = g.first; second = bytes } else g)
-          second true e few = between few (grind (arith, common_steps, e))
-          second false e few = less (grind (arith, common_steps, e))
+          second true e few = between few (grind arith)
+          second false e few = less (grind arith)
 
           by : (b : Bool) → nat_lt g.first bytes ≡ b
               → AreGreatest depths longer
               (if b then record { first = bytes; second = g.first } else if nat_lt g.second bytes then
               record { first = g.first; second = bytes } else g)
-          by true e = greater (grind (arith, common_steps, e))
-          by false e = second (nat_lt g.second bytes) refl (grind (arith, common_steps, e))
-
-  -- a depth is at most 256 where each in the table is
-  pub depth_few : ((i : ℕ) → i < length depths → slice_index depths i ≤ 256) → (vector : ℕ)
-      → depth_in depths (At vector) ≤ 256
-  depth_few most vector = let h = most (rank (At vector)) in grind (arith, common_steps, h)
-
-  pub first_few : (vectors : List ℕ) (g : Greatest) → AreGreatest depths vectors g
-      → ((i : ℕ) → i < length depths → slice_index depths i ≤ 256) → g.first ≤ 258
-  first_few vectors g h most = elim h.one [
-    | inl none ↦ omega (arith, none)
-    | inr o ↦ let few = depth_few most o.vector in omega (arith, o.bytes_are, few)
-  ]
+          by true e = greater (grind arith)
+          by false e = second (nat_lt g.second bytes) refl (grind arith)

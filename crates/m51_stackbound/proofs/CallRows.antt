@@ -1,46 +1,35 @@
 -- The calls of points, and the rows of them.
-use Rattle.m51_stackbound.proofs.Common.{◌≡◌, ◌<◌, ◌+◌, ℕ, List, [], ◌∷◌, ◌++◌, length, get_or, set, take, refl, sym}
-use Rattle.m51_stackbound.proofs.Common.{ap, subst, ◌∙◌, arith, ◌⊎◌, inl, inr, Option, Some, None, Contains}
+use Rattle.std.proofs.lemmas.Grind.{common_steps}
+use Rattle.m51_stackbound.proofs.Common.{◌≡◌, ◌<◌, ◌+◌, ℕ, List, [], ◌∷◌, ◌++◌, length, get_or, set, take, refl}
+use Rattle.m51_stackbound.proofs.Common.{subst, ◌∙◌, arith, ◌⊎◌, inl, inr, Option, Some, None, Contains}
 use Rattle.m51_stackbound.proofs.Common.{get_or-set_same, get_or-set_other, length-set, take_more, Contains-push}
 use Rattle.m51_stackbound.proofs.Common.{Contains-push_cases, Contains-append_left, contains_after, first_or_after}
 use Rattle.m51_stackbound.proofs.Common.{none_in_empty, LayoutParts, Start, Reset, At, same_or_not, Call, Point}
-use Rattle.m51_stackbound.proofs.Common.{AreCallRows, calls_of, callee_row, CallsAt, call_of, IsPoint, rank, ArePoints}
+use Rattle.m51_stackbound.proofs.Common.{AreCallRows, calls_of, callee_row, CallsAt, call_of, IsPoint, ArePoints}
 use Rattle.std.specs.List.{cons_option}
 use Rattle.std.proofs.lemmas.List.Elements.{filter_map-append}
 use Rattle.std.proofs.lemmas.List.Sorted.{Contains-permutation, IsPermutation-sym}
-use Rattle.std.proofs.lemmas.Option.{same_Some}
 use Rattle.m51_module.specs.Kept.{AreEmptyRows}
 use Rattle.m51_stackbound.specs.Callers.{AreCallsOf, AreRowsOf, call_from, IsCalled}
 use Rattle.m51_stackbound.specs.Callers.{with_call}
 use Rattle.m51_stackbound.specs.Climb.{AreCalls}
 
-same_At : (a b : ℕ) → At a ≡ At b → a ≡ b
-same_At a b e = let ranks : rank (At a) ≡ rank (At b) = ap rank e in omega (arith, ranks)
-
 -- of a list that begins with a value if there is one
 cons_cases : {X : Type 0} (o : Option X) (xs : List X) (x : X) → Contains (cons_option o xs) x
     → (o ≡ Some x) ⊎ Contains xs x
-cons_cases None xs x k = inr k
-cons_cases (Some y) xs x k = elim (first_or_after y xs x k) [
-  | inl here ↦ inl (ap Some here)
-  | inr after ↦ inr after
-]
+cons_cases o xs x k = grind arith
 
 cons_later : {X : Type 0} (o : Option X) (xs : List X) (x : X) → Contains xs x → Contains (cons_option o xs) x
 cons_later None xs x k = k
 cons_later (Some y) xs x k = contains_after y xs x k
 
 cons_here : {X : Type 0} (o : Option X) (xs : List X) (x : X) → o ≡ Some x → Contains (cons_option o xs) x
-cons_here o xs x is = subst (λ p. Contains (cons_option p xs) x) (sym is) (0, omega arith, refl)
+cons_here o xs x is = grind arith
 
 module _ (l : LayoutParts) (image : List ℕ) where
   call_at : (p : Point) (o : Option ℕ) (c : Call) → IsPoint l image p → call_of l image p ≡ o → call_from p o ≡ Some c
       → CallsAt l image c.from c.height c.to
-  call_at p None c is calls e = absurd (cc e)
-  call_at p (Some to) c is calls e =
-      subst (λ (d : Call). CallsAt l image d.from d.height d.to)
-      (same_Some (record { from = p.start; height = p.height; to = to }) c e)
-      (record { point = p; is_point = is; start_is = refl; height_is = refl; calls = calls })
+  call_at p o c is calls e = grind arith
 
   -- the calls of points of the program are calls of the program
   pub calls_only : (points : List Point) → ((p : Point) → Contains points p → IsPoint l image p)
@@ -68,15 +57,17 @@ module _ (l : LayoutParts) (image : List ℕ) where
       by : (q ≡ p) ⊎ Contains ps p → (Contains ps p → Contains (calls_of l image ps) c)
           → Contains (calls_of l image (q ∷ ps)) c
       by (inl here) on = cons_here (call_from q (call_of l image q)) (calls_of l image ps) c
-          (ap (λ (r : Point). call_from r (call_of l image r)) here ∙ ap (call_from p) calls)
+          (cc)
       by (inr after) on = cons_later (call_from q (call_of l image q)) (calls_of l image ps) c (on after)
 
   -- the calls of one more point
   pub calls_more : (points : List Point) (i : ℕ) (d : Point) → i < length points
       → calls_of l image (take (i + 1) points) ≡ calls_of l image (take i points)
       ++ cons_option (call_from (get_or points i d) (call_of l image (get_or points i d))) []
-  calls_more points i d below = ap (calls_of l image) (take_more points i d below)
-      ∙ filter_map-append (λ p. call_from p (call_of l image p)) (take i points) (get_or points i d ∷ [])
+  calls_more points i d below = cc (
+    take_more points i d below,
+    filter_map-append (λ p. call_from p (call_of l image p)) (take i points) (get_or points i d ∷ []),
+  )
 
   -- the list has these calls and no others
   pub calls_in : (points : List Point) (calls : List Call) (c : Call) → AreCallsOf l image points calls
@@ -95,37 +86,23 @@ module _ (l : LayoutParts) (image : List ℕ) where
   rows_are points calls rows are is r = record {
     only = λ from to k.
         let d = r.only from to k in
-        let c = are_calls points calls is are.only d.call d.listed in (
-          d.call.height,
-          subst (λ n. CallsAt l image (At from) d.call.height n) d.to_is
-              (subst (λ s. CallsAt l image s d.call.height d.call.to) d.from_is c),
-        );
+        grind (arith, are_calls points calls is are.only d.call d.listed);
     all = λ from to k.
         let g = k.1 in
-        r.all from to (record {
-          call = record { from = g.point.start; height = g.point.height; to = to };
-          listed = calls_in points calls (record { from = g.point.start; height = g.point.height; to = to }) is
-              (calls_all points g.point to (are.all g.point g.is_point) g.calls);
-          from_is = g.start_is;
-          to_is = refl;
-        });
+        r.all from to
+        (grind (
+          arith,
+          calls_in points calls (record { from = g.point.start; height = g.point.height; to = to })
+              is (calls_all points g.point to (are.all g.point g.is_point) g.calls),
+        ));
   }
 
 pub rows_none : (count : ℕ) (rows : List (List ℕ)) → count ≡ 65536 → AreEmptyRows count rows → AreRowsOf [] rows
-rows_none count rows is h = record {
-  len = h.len ∙ is;
-  only = λ from to k. absurd (none_in_empty to (subst (λ (row : List ℕ). Contains row to) (h.each from) k));
-  all = λ from to k. absurd (none_in_empty k.call k.listed);
-}
+rows_none count rows is h = grind arith
 
 one_more : (calls : List Call) (c : Call) (from to : ℕ) → IsCalled calls from to → IsCalled (calls ++ c ∷ []) from to
 one_more calls c from to k =
-    record {
-      call = k.call;
-      listed = Contains-append_left calls (c ∷ []) k.call k.listed;
-      from_is = k.from_is;
-      to_is = k.to_is;
-    }
+    grind (arith, common_steps)
 
 -- one more call
 pub rows_more : (calls : List Call) (c : Call) (rows : List (List ℕ)) → ((from : ℕ) → c.from ≡ At from → from < 65536)
@@ -136,33 +113,24 @@ rows_more calls c rows few h = by c.from refl
     by Reset e = record {
       len = h.len;
       only = λ from to k. one_more calls c from to (h.only from to k);
-      all = λ from to k. elim (Contains-push_cases calls c k.call k.listed) [
-        | inl early ↦ h.all from to (record { call = k.call; listed = early; from_is = k.from_is; to_is = k.to_is })
-        | inr here ↦ absurd (cc (sym e ∙ ap (λ (x : Call). x.from) here ∙ k.from_is))
-      ];
+      all = grind (arith, common_steps);
     }
     by (At a) e = record {
       len = length-set rows a row ∙ h.len;
       only = λ from to k. elim (same_or_not from a) [
-        | inl same ↦ newest from to same (subst (λ (r : List ℕ). Contains r to) (ap (callee_row new) same ∙ set_row) k)
+        | inl same ↦ newest from to same (grind (arith, set_row))
         | inr ne ↦ one_more calls c from to
-            (h.only from to (subst (λ (r : List ℕ). Contains r to) (get_or-set_other rows a from row [] ne) k))
+            (h.only from to (rw (get_or-set_other rows a from row [] ne) at k))
       ];
       all = λ from to k. elim (same_or_not from a) [
-        | inl same ↦ subst (λ (r : List ℕ). Contains r to) (sym (ap (callee_row new) same ∙ set_row))
+        | inl same ↦ subst (λ (r : List ℕ). Contains r to) (cc set_row)
             (elim (Contains-push_cases calls c k.call k.listed) [
               | inl early ↦ Contains-append_left (callee_row rows a) (c.to ∷ []) to
                   (subst (λ n. Contains (callee_row rows n) to) same
-                  (h.all from to (record { call = k.call; listed = early; from_is = k.from_is; to_is = k.to_is })))
-              | inr here ↦ subst (λ n. Contains row n) (ap (λ (x : Call). x.to) here ∙ k.to_is)
-                  (Contains-push (callee_row rows a) c.to)
+                  (h.all from to (grind arith)))
+              | inr here ↦ grind (arith, Contains-push (callee_row rows a) c.to)
             ])
-        | inr ne ↦ subst (λ (r : List ℕ). Contains r to) (sym (get_or-set_other rows a from row [] ne))
-            (elim (Contains-push_cases calls c k.call k.listed) [
-              | inl early ↦ h.all from to
-                  (record { call = k.call; listed = early; from_is = k.from_is; to_is = k.to_is })
-              | inr here ↦ absurd (ne (same_At from a (sym k.from_is ∙ ap (λ (x : Call). x.from) (sym here) ∙ e)))
-            ])
+        | inr ne ↦ grind (arith, common_steps, h.all from to)
       ];
     }
       where
@@ -179,7 +147,6 @@ rows_more calls c rows few h = by c.from refl
         newest from to same k =
             elim (Contains-push_cases (callee_row rows a) c.to to k) [
               | inl early ↦ one_more calls c from to
-                  (h.only from to (subst (λ n. Contains (callee_row rows n) to) (sym same) early))
-              | inr here ↦ record
-                  { call = c; listed = Contains-push calls c; from_is = e ∙ ap At (sym same); to_is = here }
+                  (h.only from to (rw same early))
+              | inr here ↦ grind (arith, Contains-push)
             ]

@@ -1,13 +1,11 @@
 -- Which unit covers a start, which root a handler is, and in which order the handlers are.
 use Rattle.m51_stackbound.proofs.Common.{◌≡◌, ◌<◌, ◌+◌, ℕ, zero, suc, Bool, true, false, List, [], ◌∷◌, length, get_or}
-use Rattle.m51_stackbound.proofs.Common.{refl, sym, ap, subst, ◌∙◌, arith, inl, inr, Option, Some, None, is_some}
-use Rattle.m51_stackbound.proofs.Common.{Contains, common_steps, LayoutParts, Reset, At, IsRootAt, IsUnitAt, Rises}
-use Rattle.m51_stackbound.proofs.Common.{vectors, IsSound, Point, entry_at, IsPoint, First, After, handlers, interrupts}
+use Rattle.m51_stackbound.proofs.Common.{refl, sym, ap, subst, ◌∙◌, arith, inl, inr, Option, Some, is_some}
+use Rattle.m51_stackbound.proofs.Common.{Contains, LayoutParts, Reset, At, IsRootAt, IsUnitAt, Rises}
+use Rattle.m51_stackbound.proofs.Common.{IsSound, Point, entry_at, IsPoint, First, After, handlers, interrupts}
 use Rattle.std.proofs.Common.{cond}
 use Rattle.std.specs.Prelude.{filter}
 use Rattle.std.proofs.lemmas.List.Kept.{AllPairs-filter, AllPairs-from_increasing}
-use Rattle.m51_cells.specs.Extent.{Covers, extent_of}
-use Rattle.m51_module.specs.Cells.{code_cell}
 use Rattle.m51_stackbound.specs.Bounds.{IsStart}
 use Rattle.m51_stackbound.specs.Units.{root_of, unit_of}
 use Rattle.m51_stackbound.proofs.Finding.{root_found, unit_found_at}
@@ -28,7 +26,7 @@ filtered_first : (test : ℕ → Bool) (y : ℕ) (xs : List ℕ) (x : ℕ) → t
     → (Contains (filter test xs) x → IsFiltered test xs x) → Contains (y ∷ filter test xs) x
     → IsFiltered test (y ∷ xs) x
 filtered_first test y xs x e rest (zero, below, is) =
-    record { listed = (0, omega arith, is); passes = ap test (sym is) ∙ e }
+    grind arith
 filtered_first test y xs x e rest (suc k, below, is) = filtered_rest test y xs x (rest (k, omega (arith, below), is))
 
 filtered_by : (test : ℕ → Bool) (y : ℕ) (xs : List ℕ) (x : ℕ) (b : Bool) → test y ≡ b
@@ -42,7 +40,7 @@ filtered test [] x h = absurd (omega (arith, h.1))
 filtered test (y ∷ xs) x h = filtered_by test y xs x (test y) refl (filtered test xs x) h
 
 each_less : (k : ℕ) → k + 1 < length interrupts → get_or interrupts k 0 < get_or interrupts (k + 1) 0
-each_less k h = grind (arith, common_steps, h)
+each_less k h = grind arith
 
 -- the handlers are in ascending order
 pub handlers_rise : (l : LayoutParts) → Rises (handlers l)
@@ -55,8 +53,7 @@ record HasValue (o : Option ℕ) : Type 0 where
   pub is : o ≡ Some value
 
 with_value : (o : Option ℕ) → is_some o ≡ true → HasValue o
-with_value (Some v) h = record { value = v; is = refl }
-with_value None h = absurd (cc h)
+with_value o h = grind arith
 
 module _ (l : LayoutParts) (sound : IsSound l) where
   -- a handler is a root
@@ -66,19 +63,13 @@ module _ (l : LayoutParts) (sound : IsSound l) where
       let u = with_value (root_of l v) f.passes in (
         u.value,
         root_found l sound v u.value
-            (subst (λ w. Contains vectors w) f.listed.2 (interrupt_is_vector f.listed.0 v f.listed.1)) u.is,
+            (rw f.listed.2 at (interrupt_is_vector f.listed.0 v f.listed.1)) u.is,
       )
 
   -- a root covers its vector
   pub root_covers : (v unit : ℕ) → IsRootAt l v unit → IsUnitAt l v unit
   root_covers v unit r =
-      let some = (sound.fit r.unit_is.segment r.is r.unit_is.placed).absolute r.absolute in
-      record {
-        is = r.is;
-        unit_is = r.unit_is;
-        covers = subst (λ k. Covers (extent_of k r.is.base r.is.size) (code_cell v)) (sym r.code)
-            (record { space = refl; from = omega (arith, r.base); below = omega (arith, r.base, some) });
-      }
+      grind arith
 
   covered : (address : ℕ) → is_some (unit_of l address) ≡ true → (unit : ℕ) × IsUnitAt l address unit
   covered address h = let u = with_value (unit_of l address) h in (u.value, unit_found_at l sound address u.value u.is)

@@ -1,15 +1,14 @@
 -- From the tables to the answers of the bound.
 use Rattle.m51_stackbound.proofs.Common.{◌≡◌, ◌<◌, ◌≤◌, ℕ, zero, suc, Bool, true, false, List, [], ◌∷◌, ◌++◌, length}
-use Rattle.m51_stackbound.proofs.Common.{get_or, map, refl, sym, ap, subst, ◌∙◌, arith, inl, inr, nat_lt, Contains}
-use Rattle.m51_stackbound.proofs.Common.{list_any, cases_lt, common_steps, LayoutParts, Proc, RootDepth, StackBound}
-use Rattle.m51_stackbound.proofs.Common.{Start, Reset, At, IsRootAt, IsUnitAt, Rises, IsSound, Next, Point, IsCyclic}
-use Rattle.m51_stackbound.proofs.Common.{IsTotal, Keeps, cap, depth_in, AreSettled, CallsThrough, HasHeight, IsDepth}
-use Rattle.m51_stackbound.proofs.Common.{is_noted, AreStarts, AreListed, AreNexts, AreRootRows, entry_at, point_at}
+use Rattle.m51_stackbound.proofs.Common.{get_or, refl, sym, ap, ◌∙◌, arith, inr, nat_lt, Contains}
+use Rattle.m51_stackbound.proofs.Common.{list_any, common_steps, LayoutParts, Proc, RootDepth, StackBound}
+use Rattle.m51_stackbound.proofs.Common.{Start, Reset, At, IsUnitAt, IsSound, Next, Point, IsCyclic}
+use Rattle.m51_stackbound.proofs.Common.{Keeps, cap, depth_in, AreSettled, CallsThrough, HasHeight, IsDepth}
+use Rattle.m51_stackbound.proofs.Common.{is_noted, AreStarts, AreListed, AreNexts, AreRootRows}
 use Rattle.m51_stackbound.proofs.Common.{rank, ArePoints, IsSum, handlers}
 use Rattle.std.specs.Prelude.{slice_index}
 use Rattle.std.specs.List.{Any}
-use Rattle.std.proofs.lemmas.List.Folds.{Any-from_list_any, list_any_at}
-use Rattle.std.proofs.lemmas.List.{get_or_past}
+use Rattle.std.proofs.lemmas.List.Folds.{Any-from_list_any}
 use Rattle.m51_stackbound.specs.Above.{AreLow, HasLists, IsAbove}
 use Rattle.m51_stackbound.specs.Bounds.{AreEach, IsFirstCyclic, IsRootDepth, IsStart, IsTooDeep, KeepsHeights}
 use Rattle.m51_stackbound.specs.Bounds.{IsBound}
@@ -32,25 +31,14 @@ cap_above depth n e h = grind (arith, e, h)
 
 -- no depth is above 255 where the test finds none
 pub all_low : (depths : List ℕ) → list_any (λ depth. nat_lt 255 depth) depths ≡ false → AreLow depths
-all_low depths none start = elim (cases_lt (depth_in depths start) 256) [
-  | inl low ↦ omega (arith, low)
-  | inr high ↦ elim (cases_lt (rank start) (length depths)) [
-    | inl below ↦
-        let passes : nat_lt 255 (get_or depths (rank start) 0) ≡ true = grind (arith, common_steps, high) in
-        absurd (cc (none, list_any_at (λ depth. nat_lt 255 depth) depths (rank start) 0 below passes))
-    | inr past ↦ absurd (omega (arith, high, get_or_past depths (rank start) 0 past))
-  ]
-]
+all_low depths none start = grind (arith, common_steps)
 
 module _ (l : LayoutParts) (image : List ℕ) where
   -- a depth above 255 in the table is one of a start that takes as much
   taken_by : (points : List Point) (depths : List ℕ) (s : AreSettled l image points depths) (start : Start)
       → 255 < depth_in depths start → TakesDepth l image start (depth_in depths start)
   taken_by points depths s start high =
-      elim (s.are.taken start) [
-        | inl none ↦ absurd (omega (arith, none, high))
-        | inr t ↦ t
-      ]
+      grind arith
 
   -- so SP may get a value above 255
   pub depth_above : (points : List Point) (depths : List ℕ) (s : AreSettled l image points depths)
@@ -81,10 +69,7 @@ module _ (l : LayoutParts) (image : List ℕ) where
     where
       least : (other : Start) → IsCyclic l image other → rank (At a) ≤ rank other
       least Reset k = absurd k
-      least (At b) k = elim (cases_lt b a) [
-        | inl less ↦ absurd (before b less k)
-        | inr not_less ↦ omega (arith, not_less)
-      ]
+      least (At b) k = grind arith
 
 each_push : (Is : ℕ → RootDepth → Type 0) (vs : List ℕ) (v : ℕ) (rs : List RootDepth) (r : RootDepth) → AreEach Is vs rs
     → Is v r → AreEach Is (vs ++ v ∷ []) (rs ++ r ∷ [])
@@ -97,26 +82,14 @@ each_push Is (w ∷ vs) v (q ∷ rs) r h k = (h.0, each_push Is vs v rs r h.1 k)
 pub none_is : (l : LayoutParts) (image : List ℕ) (points : List Point) (depths : List ℕ) → ArePoints l image points
     → AreSettled l image points depths → ((a : ℕ) → a < 65536 → IsCyclic l image (At a) → ⊥)
     → (start : Start) → IsCyclic l image start → ⊥
-none_is l image points depths are s none Reset h = h
-none_is l image points depths are s none (At a) h = elim (cases_lt a 65536) [
-  | inl below ↦ none a below h
-  | inr past ↦
-      let zero : depth_in depths (At a) ≡ 0 = get_or_past depths (rank (At a)) 0 (omega (arith, past, s.are.len)) in
-      low_not_cyclic l image points depths are s (At a) (omega (arith, zero)) h
-]
+none_is l image points depths are s none start h =
+    grind (arith, common_steps, low_not_cyclic l image points depths are s)
 
 -- one more root
 pub rows_more : (l : LayoutParts) (depths : List ℕ) (nexts : List Next) (vs : List ℕ) (v : ℕ) (roots : List RootDepth)
     (r : RootDepth) → AreRootRows l depths nexts vs roots → IsRowAt l depths nexts (At v) v r
     → AreRootRows l depths nexts (vs ++ v ∷ []) (roots ++ r ∷ [])
-rows_more l depths nexts vs v roots r h row = record {
-  reset = h.reset;
-  interrupts = h.interrupts ++ r ∷ [];
-  roots_are = ap (λ rs. rs ++ r ∷ []) h.roots_are;
-  reset_is = h.reset_is;
-  interrupts_are = each_push (λ vector. IsRowAt l depths nexts (At vector) vector) vs v h.interrupts r h.interrupts_are
-      row;
-}
+rows_more l depths nexts vs v roots r h row = grind (arith, each_push)
 
 -- each of a list by another fact
 pub each_more : (Is New : ℕ → RootDepth → Type 0) (vs : List ℕ) (rs : List RootDepth)
@@ -133,29 +106,18 @@ module _ (l : LayoutParts) (image : List ℕ) (points : List Point) (depths : Li
   row_is : (start : Start) (vector height : ℕ) (r : RootDepth) → HasHeight l image start height
       → IsRowAt l depths nexts start vector r → IsRootDepth l image start vector r
   row_is start vector height r h row =
-      let is = row.row in
-      record {
-        root = subst (λ u. IsRootAt l vector u) (sym is.root_is) row.is_root;
-        depth = subst (λ d. IsDepth l image start d) (sym is.depth)
-            (depth_is l image points depths nexts are s low n start height h);
-        path = path_is l image points depths nexts are s low n start height r.path is.more h is.path_is is.leads;
-      }
+      grind (
+        arith,
+        depth_is l image points depths nexts are s low n start height h,
+        path_is l image points depths nexts are s low n start height r.path row.row.more h row.row.path_is
+            row.row.leads,
+      )
 
   reset_height : HasHeight l image Reset 7
-  reset_height = record {
-    point = point_at Reset 0 7;
-    is_point = reset_first l image;
-    start_is = refl;
-    height_is = refl;
-  }
+  reset_height = grind (arith, reset_first l image)
 
   handler_height : (v : ℕ) → Contains (handlers l) v → HasHeight l image (At v) 0
-  handler_height v h = record {
-    point = entry_at v;
-    is_point = handler_first l image v h;
-    start_is = refl;
-    height_is = refl;
-  }
+  handler_height v h = grind (arith, handler_first l image v h)
 
   -- a noted start is one of the program
   noted_start : (starts : List Bool) → AreStarts points starts → (at : ℕ) → is_noted starts at ≡ true
@@ -163,30 +125,16 @@ module _ (l : LayoutParts) (image : List ℕ) (points : List Point) (depths : Li
   noted_start starts ss at h =
       let k = ss.only at h in (
         k.point.height,
-        record {
-          point = k.point;
-          is_point = are.only k.point k.listed;
-          start_is = k.start_is;
-          height_is = refl;
-        },
+        grind arith,
       )
 
   start_noted : (starts : List Bool) → AreStarts points starts → (at : ℕ) → IsStart l image (At at)
       → is_noted starts at ≡ true
   start_noted starts ss at (height, h) =
-      ss.all at (record { point = h.point; listed = are.all h.point h.is_point; start_is = h.start_is })
+      ss.all at (grind arith)
 
   few_addresses : (starts : List Bool) → length starts ≡ 65536 → (at : ℕ) → is_noted starts at ≡ true → at < 65536
-  few_addresses starts len at h = elim (cases_lt at (length starts)) [
-    | inl below ↦ omega (arith, below, len)
-    | inr past ↦ absurd (not_past (is_noted starts at) h (past_noted starts at past))
-  ]
-    where
-      past_noted : (xs : List Bool) (k : ℕ) → length xs ≤ k → is_noted xs k ≡ false
-      past_noted xs k below = grind (arith, common_steps, below)
-
-      not_past : (b : Bool) → b ≡ true → b ≡ false → ⊥
-      not_past b e k = absurd (cc (e, k))
+  few_addresses starts len at h = grind (arith, common_steps)
 
   pub covered_noted : IsSound l → (starts : List Bool) → AreStarts points starts → (at : ℕ) → is_noted starts at ≡ true
       → (unit : ℕ) × IsUnitAt l at unit
@@ -198,20 +146,14 @@ module _ (l : LayoutParts) (image : List ℕ) (points : List Point) (depths : Li
       → HasLists l image total b
   lists starts procs roots total b ss listed rows total_is procs_are roots_are = record {
     total_is = total_is;
-    rising = subst (λ ps. Rises (map (λ (p : Proc). p.at) ps)) (sym procs_are) listed.rising;
+    rising = rw procs_are listed.rising;
     procs = λ p k.
-        let is = listed.each p (subst (λ ps. Contains ps p) procs_are k) in
+        let is = listed.each p (rw procs_are at k) in
         let start = noted_start starts ss p.at is.noted in
-        record {
-          is_start = start;
-          unit = is.unit;
-          depth = subst (λ d. IsDepth l image (At p.at) d) (sym is.depth)
-              (depth_is l image points depths nexts are s low n (At p.at) start.0 start.1);
-        };
+        grind (arith, depth_is l image points depths nexts are s low n (At p.at) start.0 start.1);
     all = λ at k.
         let noted = start_noted starts ss at k in
-        subst (λ ps. Contains (map (λ (p : Proc). p.at) ps) at) (sym procs_are)
-        (listed.all at (few_addresses starts ss.len at noted) noted);
+        rw procs_are (listed.all at (few_addresses starts ss.len at noted) noted);
     reset = rows.reset;
     interrupts = rows.interrupts;
     roots = roots_are ∙ rows.roots_are;
@@ -226,26 +168,11 @@ module _ (l : LayoutParts) (image : List ℕ) (points : List Point) (depths : Li
     (s : AreSettled l image points depths) (low : AreLow depths) where
   deep : (start : Start) (height : ℕ) → HasHeight l image start height → IsDepth l image start (depth_in depths start)
   deep start height h =
-      elim (settled_says l image points depths are s start height h) [
-        | inl t ↦ t.1
-        | inr t ↦ absurd (omega (arith, t.0, low start))
-      ]
+      grind (arith, settled_says l image points depths are s start height h)
 
   pub total_above : (total : ℕ) → IsSum depths (handlers l) total → 255 < total → IsTooDeep l image
   total_above total sum high = inr (total, comes_total l image depths deep total sum, high)
 
   pub bound_is : (total : ℕ) (b : StackBound) → IsSum depths (handlers l) total → KeepsHeights l image
       → Keeps l image PushesAbove → HasLists l image total b → IsBound l image b
-  bound_is total b sum kept no_push h = record {
-    kept = kept;
-    no_push = no_push;
-    total = subst (λ t. IsTotal l image t) (sym h.total_is) (is_total l image depths deep total sum);
-    rising = h.rising;
-    procs = h.procs;
-    all = h.all;
-    reset = h.reset;
-    interrupts = h.interrupts;
-    roots = h.roots;
-    reset_is = h.reset_is;
-    interrupts_are = h.interrupts_are;
-  }
+  bound_is total b sum kept no_push h = grind (arith, is_total l image depths deep total sum)

@@ -1,6 +1,6 @@
 -- The first reached address that two points have.
 use Rattle.m51_stackbound.proofs.Common.{◌≡◌, ◌<◌, ◌+◌, ℕ, Bool, true, false, not, List, [], ◌∷◌, ◌++◌, length, get_or}
-use Rattle.m51_stackbound.proofs.Common.{take, refl, sym, ap, subst, ◌∙◌, arith, ◌⊎◌, inl, inr, Option, Some, None}
+use Rattle.m51_stackbound.proofs.Common.{take, refl, sym, ap, subst, arith, ◌⊎◌, inl, inr, Option, Some}
 use Rattle.m51_stackbound.proofs.Common.{Contains, list_any, cases_lt, common_steps, Contains-push, Contains-push_cases}
 use Rattle.m51_stackbound.proofs.Common.{Contains-append_left, Contains-from_any, list_any-from_Contains}
 use Rattle.m51_stackbound.proofs.Common.{ReachedAddress, Point, IsLeast, reached_address, HasTwo, NotesPlace}
@@ -11,7 +11,7 @@ use Rattle.m51_stackbound.specs.Rules.{lesser}
 use Rattle.m51_stackbound.proofs.Leasts.{front_cases, front_kept, front_next, least_more, least_same}
 
 pub same_place : (x y : ReachedAddress) → place_eq.it x y ≡ true → x ≡ y
-same_place x y h = grind (arith, common_steps, h)
+same_place x y h = grind arith
 
 pub notes_place : (old : List ReachedAddress) (reached : ReachedAddress) (added : Bool)
     → added ≡ not (list_any (place_eq.it reached) old)
@@ -20,9 +20,8 @@ notes_place old reached added h = by (list_any (place_eq.it reached) old) refl
   where
     by : (b : Bool) → list_any (place_eq.it reached) old ≡ b
         → NotesPlace old reached (insert_key place_eq.it old reached) (not added)
-    by true e = rw e (inl (ap not (h ∙ ap not e), refl, Contains-from_any same_place reached old e))
-    by false e = rw e (inr
-        (ap not (h ∙ ap not e), refl, λ k. absurd (cc (e, list_any-from_Contains laws-law reached old k))))
+    by true e = grind (arith, common_steps, Contains-from_any same_place reached old e)
+    by false e = grind (arith, common_steps, list_any-from_Contains laws-law reached old, laws-law)
 
 -- one of the first points, of this number, has the reached address
 pub record HasPlace (points : List Point) (count : ℕ) (reached : ReachedAddress) : Type 0 where
@@ -37,44 +36,23 @@ pub record IsDoubling (points : List Point) (count : ℕ) (addresses : List Reac
   pub all : (reached : ReachedAddress) → HasPlace points count reached → Contains addresses reached
   pub first : IsLeast (HasTwo points count) least
 
-pub doubling_none : (points : List Point) → IsDoubling points 0 [] None
-doubling_none points = record {
-  only = λ reached h. absurd (omega (arith, h.1));
-  all = λ reached h. absurd (none reached h);
-  first = λ reached h. absurd (omega (arith, h.below));
-}
-  where
-    none : (reached : ReachedAddress) → HasPlace points 0 reached → ⊥
-    none reached h = omega (arith, h.before.1)
-
 module _ (points : List Point) (i : ℕ) (d : Point) (below : i < length points) where
   abbrev here : ReachedAddress
   here = reached_address (get_or points i d)
 
   wider : (reached : ReachedAddress) → HasTwo points i reached → HasTwo points (i + 1) reached
-  wider reached h = record {
-    second = h.second;
-    below = omega (arith, h.below);
-    inside = h.inside;
-    one = h.one;
-    before = h.before;
-    place_one = h.place_one;
-    place_two = h.place_two;
-  }
+  wider reached h = grind (arith, common_steps)
 
   later : (reached : ReachedAddress) → HasPlace points i reached → HasPlace points (i + 1) reached
-  later reached h = record { point = h.point; before = front_kept points i d h.point below h.before; is = h.is }
+  later reached h = grind (arith, common_steps, front_kept points i d h.point below h.before)
 
   newest : HasPlace points (i + 1) here
-  newest = record { point = get_or points i d; before = front_next points i d below; is = refl }
+  newest = grind (arith, common_steps, get_or points i d, front_next points i d below)
 
   places_cases : (reached : ReachedAddress) → HasPlace points (i + 1) reached
       → HasPlace points i reached ⊎ (here ≡ reached)
   places_cases reached h =
-      elim (front_cases points i d h.point below h.before) [
-        | inl before ↦ inl (record { point = h.point; before = before; is = h.is })
-        | inr is ↦ inr (ap reached_address is ∙ h.is)
-      ]
+      grind (arith, common_steps, front_cases points i d h.point below h.before)
 
   -- what two of the longer prefix have, two of the shorter one have, or the newest point and one before it
   two_cases : (reached : ReachedAddress) → HasTwo points (i + 1) reached
@@ -140,17 +118,15 @@ module _ (points : List Point) (i : ℕ) (d : Point) (below : i < length points)
       → Contains addresses here → IsDoubling points i addresses least
       → IsDoubling points (i + 1) new (Some (lesser least here))
   doubling_again addresses new least is there h = record {
-    only = λ reached k. later reached (h.only reached (subst (λ ps. Contains ps reached) is k));
-    all = λ reached k. subst (λ ps. Contains ps reached) (sym is)
+    only = λ reached k. later reached (h.only reached (rw is at k));
+    all = λ reached k. rw is
         (elim (places_cases reached k) [
           | inl old ↦ h.all reached old
-          | inr e ↦ subst (λ p. Contains addresses p) e there
+          | inr e ↦ subst (λ p. Contains addresses p) e
+              there
         ]);
     first = least_more (HasTwo points i) (HasTwo points (i + 1)) least here h.first
-        (λ reached k. elim (two_cases reached k) [
-          | inl old ↦ inl old
-          | inr e ↦ inr e.0
-        ])
+        (grind (arith, common_steps, two_cases))
         wider
         (two_here (h.only here there));
   }

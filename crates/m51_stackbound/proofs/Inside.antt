@@ -1,6 +1,6 @@
 -- Bytes of an instruction in its unit, and vectors of interrupts.
-use Rattle.m51_stackbound.proofs.Common.{◌≡◌, ℕ, zero, suc, ◌+◌, ◌<◌, Bool, true, false, length, get_or, refl, ap}
-use Rattle.m51_stackbound.proofs.Common.{subst, arith, nat_eq, Contains, common_steps, LayoutParts, vectors, interrupts}
+use Rattle.m51_stackbound.proofs.Common.{◌≡◌, ℕ, zero, suc, ◌+◌, ◌<◌, Bool, true, false, length, get_or}
+use Rattle.m51_stackbound.proofs.Common.{arith, nat_eq, Contains, LayoutParts, vectors, interrupts}
 use Rattle.std.proofs.Common.{◌%◌}
 use Rattle.std.proofs.Common.{⊎_elim}
 use Rattle.std.specs.Prelude.{◌&&◌}
@@ -8,8 +8,7 @@ use Rattle.std.proofs.lemmas.Bool.Decides.{eqb_tells}
 use Rattle.m51_stackbound.specs.Units.{in_one_unit, lie_inside}
 
 and_false : (b c : Bool) → c ≡ false → (b && c) ≡ false
-and_false true c e = e
-and_false false c e = refl
+and_false b c e = grind arith
 
 -- one byte outside is enough
 pub one_outside : (layout : LayoutParts) (at index count : ℕ) → index < count
@@ -19,12 +18,10 @@ one_outside layout at index (suc count) h e =
     ⊎_elim
     (λ (t : (nat_eq index count ≡ true) × (index ≡ count)). and_false (lie_inside layout at count)
     (in_one_unit layout at ((at + count) % 65536))
-    (subst (λ k. in_one_unit layout at ((at + k) % 65536) ≡ false) t.1 e))
-    (λ (t : (nat_eq index count ≡ false) × (index ≡ count → ⊥)).
-    let below : index < count = omega (arith, h, t.1) in
-    ap (λ b. b && in_one_unit layout at ((at + count) % 65536)) (one_outside layout at index count below e))
+    (cc))
+    (grind (arith, one_outside layout at index count))
     (eqb_tells index count)
 
 -- an interrupt begins at a vector
 pub interrupt_is_vector : (i d : ℕ) → i < length interrupts → Contains vectors (get_or interrupts i d)
-interrupt_is_vector i d below = (suc i, omega (arith, below), grind (arith, common_steps, below))
+interrupt_is_vector i d below = (suc i, omega (arith, below), grind arith)

@@ -1,5 +1,6 @@
 -- What a program with a bound keeps at each of its points.
-use Rattle.m51_stackbound.proofs.Common.{◌≡◌, ℕ, Bool, true, false, List, Some, refl, ap, ◌∙◌, Instr, LayoutParts, Rule}
+use Rattle.std.proofs.Common.{arith}
+use Rattle.m51_stackbound.proofs.Common.{◌≡◌, ℕ, Bool, true, false, List, Some, refl, Instr, LayoutParts, Rule}
 use Rattle.m51_stackbound.proofs.Common.{Point, Keeps, IsPoint, reached_address}
 use Rattle.m51_stackbound.specs.declared.judging.Rule.TheVariants.{WritesSp, Computed, PopsBelow, PushesAbove}
 use Rattle.m51_stackbound.specs.Bounds.{KeepsRules}
@@ -16,7 +17,7 @@ module _ (l : LayoutParts) (image : List ℕ) (p : Point) (instr : Instr) (is : 
       by : (b : Bool) → breaks rule p instr ≡ b → b ≡ false
       by false e = refl
       by true e = absurd (keeps (reached_address p)
-          (record { point = p; is_point = is; breaks = ap (breaks_by rule p) at ∙ e; place_is = refl }))
+          (grind arith))
 
   pub stack_kept : KeepsRules l image → sets_stack p instr ≡ false
   stack_kept h = kept WritesSp h.writes

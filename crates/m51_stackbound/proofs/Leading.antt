@@ -1,8 +1,9 @@
 -- The path in the table takes the depth of its start, and comes first of those that do.
-use Rattle.m51_stackbound.proofs.Common.{◌≡◌, ◌≢◌, ◌<◌, ◌≤◌, ◌+◌, ℕ, List, [], ◌∷◌, ◌++◌, refl, sym, ap, subst, ◌∙◌}
-use Rattle.m51_stackbound.proofs.Common.{arith, ◌⊎◌, inl, inr, Some, None, Contains, cases_lt, LayoutParts, Start, At}
-use Rattle.m51_stackbound.proofs.Common.{Next, Point, cap, depth_in, AreSettled, CallsAt, HasHeight, IsDepth, Takes}
-use Rattle.m51_stackbound.proofs.Common.{Own, next_in, AreNexts, call_of, rank, ArePoints}
+use Rattle.std.proofs.lemmas.Grind.{common_steps}
+use Rattle.m51_stackbound.proofs.Common.{◌≡◌, ◌≢◌, ◌<◌, ◌≤◌, ◌+◌, ℕ, List, [], ◌∷◌, ◌++◌, refl, subst}
+use Rattle.m51_stackbound.proofs.Common.{arith, Some, None, Contains, LayoutParts, Start, At}
+use Rattle.m51_stackbound.proofs.Common.{Next, Point, depth_in, AreSettled, CallsAt, HasHeight, IsDepth, Takes}
+use Rattle.m51_stackbound.proofs.Common.{Own, next_in, AreNexts, call_of, ArePoints}
 use Rattle.m51_stackbound.specs.declared.paths.Next.TheVariants.{Unknown, Ends, Calls}
 use Rattle.m51_stackbound.specs.Above.{AreLow}
 use Rattle.m51_stackbound.specs.Depths.{IsPath, Call, ComesFirst}
@@ -12,40 +13,32 @@ use Rattle.m51_stackbound.proofs.Raised.{at_most, entered, settled_call, settled
 use Rattle.m51_stackbound.proofs.Ways.{ends_from, calls_from, ends_height, calls_giving}
 
 calls_of_next : (n : Next) (to : ℕ) → called_next n ≡ Some to → n ≡ Calls to
-calls_of_next Unknown to h = absurd (cc h)
-calls_of_next Ends to h = absurd (cc h)
-calls_of_next (Calls t) to h = let e : t ≡ to = cc h in ap Calls e
-
-cap_most : (n : ℕ) → cap n ≤ n
-cap_most n = grind arith
+calls_of_next n to h = grind arith
 
 join : {X : Type 0} (done : List X) (x : X) (more : List X) → (done ++ x ∷ []) ++ more ≡ done ++ x ∷ more
-join [] x more = refl
-join (s ∷ done) x more = ap (λ ss. s ∷ ss) (join done x more)
+join done x more = grind (arith, common_steps)
 
 join_none : {X : Type 0} (done : List X) → done ++ [] ≡ done
-join_none [] = refl
-join_none (s ∷ done) = ap (λ ss. s ∷ ss) (join_none done)
+join_none done = grind (arith, common_steps)
 
 module _ (nexts : List Next) (first : Start) where
   -- a path of one start
   pub passed_none : (path : List Start) → path ≡ first ∷ [] → IsPassed nexts first first path
-  passed_none path is = record { done = []; path_is = is; leads = λ more h. h }
+  passed_none path is = grind arith
 
   -- the path continues
   pub passed_more : (last : Start) (path new : List Start) (to : ℕ) → IsPassed nexts first last path
       → called_next (next_in nexts last) ≡ Some to → new ≡ path ++ At to ∷ [] → IsPassed nexts first (At to) new
   passed_more last path new to h is new_is = record {
     done = h.done ++ At to ∷ [];
-    path_is = new_is ∙ ap (λ ss. ss ++ At to ∷ []) h.path_is;
-    leads = λ more rest. subst (λ ss. Leads nexts first ss) (sym (join h.done (At to) more))
-        (h.leads (At to ∷ more) (Go last to more is rest));
+    path_is = cc;
+    leads = λ more rest. rw (join h.done (At to) more) (h.leads (At to ∷ more) (Go last to more is rest));
   }
 
   -- the path ends
   pub passed_all : (last : Start) (path : List Start) (h : IsPassed nexts first last path)
       → called_next (next_in nexts last) ≡ None → Leads nexts first h.done
-  passed_all last path h none = subst (λ ss. Leads nexts first ss) (join_none h.done) (h.leads [] (Stop last none))
+  passed_all last path h none = rw (join_none h.done) at (h.leads [] (Stop last none))
 
 module _ (l : LayoutParts) (image : List ℕ) (points : List Point) (depths : List ℕ) (nexts : List Next)
     (are : ArePoints l image points) (s : AreSettled l image points depths) (low : AreLow depths)
@@ -54,30 +47,24 @@ module _ (l : LayoutParts) (image : List ℕ) (points : List Point) (depths : Li
   pub depth_is : (start : Start) (height : ℕ) → HasHeight l image start height
       → IsDepth l image start (depth_in depths start)
   depth_is start height h =
-      elim (settled_says l image points depths are s start height h) [
-        | inl t ↦ t.1
-        | inr t ↦ absurd (omega (arith, t.0, low start))
-      ]
+      grind (arith, settled_says l image points depths are s start height h)
 
   given_by : (start : Start) (next : Next) → next_in nexts start ≡ next → next ≢ Unknown
       → Gives l image points depths start next
-  given_by start next e other = elim (n.each start).given [
-    | inl none ↦ absurd (other (sym e ∙ none))
-    | inr g ↦ subst (λ t. Gives l image points depths start t) e g
-  ]
+  given_by start next e other = grind arith
 
   earliest_by : (start : Start) (next : Next) (p : Point) (way : Next) → next_in nexts start ≡ next → Contains points p
       → p.start ≡ start → next_by depths p (call_of l image p) ≡ way → IsNoLater next way
   earliest_by start next p way e listed is w =
       subst (λ t. IsNoLater t way) e
-      (subst (λ t. IsNoLater (next_in nexts start) t) w ((n.each start).earliest p listed is))
+      (rw w at ((n.each start).earliest p listed is))
 
   -- what a call gives is at most the depth
   call_most : (start : Start) (height to bytes : ℕ) → CallsAt l image start height to → bytes ≤ depth_in depths (At to)
       → height + 2 + bytes ≤ depth_in depths start
   call_most start height to bytes c below =
       at_most (depth_in depths start) (height + 2 + bytes) (low start)
-      (settled_call l image points depths are s start height to bytes c (omega (arith, cap_most bytes, below)))
+      (settled_call l image points depths are s start height to bytes c (omega arith))
 
   pub called_most : (start : Start) (path : List Start) (bytes : ℕ) → Takes l image start path bytes
       → bytes ≤ depth_in depths start
@@ -90,16 +77,13 @@ module _ (l : LayoutParts) (image : List ℕ) (points : List Point) (depths : Li
   own_way start height h e next is =
       earliest_by start next h.point Ends is (are.all h.point h.is_point) h.start_is
       (ends_from depths h.point (call_of l image h.point)
-      (h.height_is ∙ (e ∙ ap (depth_in depths) (sym h.start_is))))
+      (cc))
 
   call_way : (start : Start) (height to : ℕ) → CallsAt l image start height to
       → height + 2 + depth_in depths (At to) ≡ depth_in depths start → (next : Next) → next_in nexts start ≡ next
       → IsNoLater next (Calls to)
   call_way start height to c e next is =
-      let sum : c.point.height + 2 + depth_in depths (At to) ≡ depth_in depths c.point.start =
-      ap (λ k. k + 2 + depth_in depths (At to)) c.height_is ∙ (e ∙ ap (depth_in depths) (sym c.start_is)) in
-      earliest_by start next c.point (Calls to) is (are.all c.point c.is_point) c.start_is
-      (calls_from depths c.point (call_of l image c.point) to c.calls sum)
+      grind (arith, earliest_by, Calls, calls_from, call_of)
 
   -- a call of a path, with its point
   record IsCall (start : Start) (to : ℕ) : Type 0 where
@@ -113,20 +97,14 @@ module _ (l : LayoutParts) (image : List ℕ) (points : List Point) (depths : Li
       let giving = calls_giving depths g.point (call_of l image g.point) to g.next_is in
       record {
         height = g.point.height;
-        calls = record {
-          point = g.point;
-          is_point = are.only g.point g.listed;
-          start_is = g.start_is;
-          height_is = refl;
-          calls = giving.calls;
-        };
-        sum = giving.sum ∙ ap (depth_in depths) g.start_is;
+        calls = grind arith;
+        sum = cc;
       }
 
   -- depths fall along a path
   pub falls : (start : Start) (to : ℕ) → called_next (next_in nexts start) ≡ Some to
       → depth_in depths (At to) < depth_in depths start
-  falls start to h = let c = call_of_next start to (calls_of_next (next_in nexts start) to h) in omega (arith, c.sum)
+  falls start to h = omega (arith, call_of_next start to (calls_of_next (next_in nexts start) to h))
 
   pub tables : AreTables depths nexts
   tables = record { depths_len = s.are.len; most = s.are.most; nexts_len = n.len; falls = falls }
@@ -135,17 +113,12 @@ module _ (l : LayoutParts) (image : List ℕ) (points : List Point) (depths : Li
   ends_by : (start : Start) (path : List Start) (bytes : ℕ) → Takes l image start path bytes
       → bytes ≡ depth_in depths start → (next : Next) → next_in nexts start ≡ next → called_next next ≡ None
       → Takes l image start [] (depth_in depths start)
-  ends_by start _ bytes (Own _ _ h) e next is none = subst (λ b. Takes l image start [] b) e (Own start bytes h)
+  ends_by start _ bytes (Own _ _ h) e next is none = rw e at (Own start bytes h)
   ends_by start _ _ (Call _ height to more bytes c rest) e Ends is none =
       let g = given_by start Ends is (λ k. absurd (cc k)) in
       let same = ends_height depths g.point (call_of l image g.point) g.next_is in
       Own start (depth_in depths start)
-      (record {
-        point = g.point;
-        is_point = are.only g.point g.listed;
-        start_is = g.start_is;
-        height_is = same ∙ ap (depth_in depths) g.start_is;
-      })
+      (grind arith)
   ends_by start _ _ (Call _ height to more bytes c rest) e Unknown is none =
       let most = called_most (At to) more bytes rest in
       let sum : height + 2 + depth_in depths (At to) ≡ depth_in depths start =
@@ -162,8 +135,7 @@ module _ (l : LayoutParts) (image : List ℕ) (points : List Point) (depths : Li
       let c = call_of_next start to (calls_of_next (next_in nexts start) to is) in
       let call = c.calls in
       let inside = entered l image call.point to call.is_point call.calls in
-      subst (λ b. Takes l image start (At to ∷ more) b) c.sum
-      (Call start c.height to more (depth_in depths (At to)) call (leads_takes (At to) more 0 rest inside))
+      rw c.sum at (Call start c.height to more (depth_in depths (At to)) call (leads_takes (At to) more 0 rest inside))
 
   pub leads_first : (start : Start) (more : List Start) → Leads nexts start more → (other : List Start) (bytes : ℕ)
       → Takes l image start other bytes → bytes ≡ depth_in depths start → ComesFirst more other
@@ -174,27 +146,14 @@ module _ (l : LayoutParts) (image : List ℕ) (points : List Point) (depths : Li
       let most = called_most (At other) path bytes taken in
       let high = call_most start height other (depth_in depths (At other)) c (omega arith) in
       let sum : height + 2 + depth_in depths (At other) ≡ depth_in depths start = omega (arith, e, most, high) in
-      let same : bytes ≡ depth_in depths (At other) = omega (arith, e, most, high) in
-      let order : to ≤ other =
-      call_way start height other c sum (Calls to) (calls_of_next (next_in nexts start) to is) in
-      elim (cases_lt to other) [
-        | inl less ↦ inl (omega (arith, less))
-        | inr not_less ↦
-            let equal : to ≡ other = omega (arith, not_less, order) in
-            inr (
-              ap At equal,
-              leads_first (At to) more rest path bytes (subst (λ k. Takes l image (At k) path bytes) (sym equal) taken)
-                  (same ∙ ap (λ k. depth_in depths (At k)) (sym equal)),
-            )
-      ]
+      grind (
+        arith,
+        call_way start height other c sum (Calls to) (calls_of_next (next_in nexts start) to is),
+        leads_first (At to) more rest path bytes,
+        At to,
+      )
 
   pub path_is : (start : Start) (height : ℕ) (path more : List Start) → HasHeight l image start height
       → path ≡ start ∷ more → Leads nexts start more → IsPath l image start path
-  path_is start height path more h is leads = record {
-    depth = depth_in depths start;
-    is_depth = depth_is start height h;
-    more = more;
-    path_is = is;
-    takes = leads_takes start more height leads h;
-    first = λ other t. leads_first start more leads other (depth_in depths start) t refl;
-  }
+  path_is start height path more h is leads =
+      grind (arith, depth_is start height h, leads_takes start more height leads h, leads_first start more leads)

@@ -1,6 +1,6 @@
 -- What holds of the listed points holds of the points of the program.
-use Rattle.m51_stackbound.proofs.Common.{◌≡◌, ◌≢◌, ◌<◌, ℕ, List, Option, length, get_or, sym, ap, ◌∙◌, arith, inl, inr}
-use Rattle.m51_stackbound.proofs.Common.{cases_lt, common_steps, Contains-get_or, Result, Ok, Err, Contains}
+use Rattle.m51_stackbound.proofs.Common.{◌≡◌, ◌≢◌, ◌<◌, ℕ, List, Option, length, get_or, ◌∙◌, arith}
+use Rattle.m51_stackbound.proofs.Common.{cases_lt, common_steps, Contains-get_or, Result, Contains}
 use Rattle.m51_stackbound.proofs.Common.{LayoutParts, Rule, ReachedAddress, Point, HasTwoHeights, IsFirstBreach}
 use Rattle.m51_stackbound.proofs.Common.{IsLeast, reached_address, ArePoints, HasTwo}
 use Rattle.std.proofs.lemmas.List.{length-take-le}
@@ -14,18 +14,8 @@ pub first_of_points : (l : LayoutParts) (image : List ℕ) (rule : Rule) (points
     → ArePoints l image points → IsFirstBreach l image rule points r → IsLeast (Breaks l image rule) r
 first_of_points l image rule points r are h =
     least_same (IsBroken l image rule (Contains points)) (Breaks l image rule) r h
-    (λ reached b. record {
-      point = b.point;
-      is_point = are.all b.point b.is_point;
-      breaks = b.breaks;
-      place_is = b.place_is;
-    })
-    (λ reached b. record {
-      point = b.point;
-      is_point = are.only b.point b.is_point;
-      breaks = b.breaks;
-      place_is = b.place_is;
-    })
+    (grind (arith, common_steps))
+    (grind (arith, common_steps))
 
 -- two of the listed points have the reached address exactly if two points of the program have it with different heights
 module _ (l : LayoutParts) (image : List ℕ) (points : List Point) (are : ArePoints l image points) where
@@ -33,11 +23,11 @@ module _ (l : LayoutParts) (image : List ℕ) (points : List Point) (are : ArePo
       ≡ reached
       → p.height ≢ q.height
   apart_heights p q reached other h k e =
-      other (same p q (ap (λ (r : ReachedAddress). r.start) (h ∙ sym k))
-      (ap (λ (r : ReachedAddress). r.address) (h ∙ sym k)) e)
+      other (same p q (grind (arith, common_steps))
+      (grind (arith, common_steps)) e)
     where
       same : (p q : Point) → p.start ≡ q.start → p.address ≡ q.address → p.height ≡ q.height → p ≡ q
-      same p q a b c = λ i. record { start = a i; address = b i; height = c i }
+      same p q a b c = grind (arith, common_steps)
 
   heights_from_two : (reached : ReachedAddress) → HasTwo points (length points) reached → HasTwoHeights l image reached
   heights_from_two reached h =
@@ -67,7 +57,7 @@ module _ (l : LayoutParts) (image : List ℕ) (points : List Point) (are : ArePo
     one = p;
     before = (i, grind (arith, common_steps, low, below), grind (arith, common_steps, low, below, at p));
     place_one = h;
-    place_two = λ d. ap reached_address (there d) ∙ k;
+    place_two = λ d. cc (there d);
   }
 
   at_any : (p : Point) (h : Contains points p) (d : Point) → get_or points h.0 d ≡ p
@@ -79,19 +69,18 @@ module _ (l : LayoutParts) (image : List ℕ) (points : List Point) (are : ArePo
   two_from_heights reached h =
       let a = are.all h.one h.one_is in
       let b = are.all h.two h.two_is in
-      elim (cases_lt a.0 b.0) [
-        | inl low ↦ two_from reached h.one h.two a.0 b.0 low b.1 (at_any h.one a) (at_any h.two b) h.place_one
-            h.place_two
-        | inr high ↦ elim (cases_lt b.0 a.0) [
-          | inl low ↦ two_from reached h.two h.one b.0 a.0 low a.1 (at_any h.two b) (at_any h.one a) h.place_two
-              h.place_one
-          | inr equal ↦
-              let is : a.0 ≡ b.0 = omega (arith, high, equal) in
-              let e : h.one ≡ h.two = sym (at_any h.one a h.one) ∙ ap (λ k. get_or points k h.one) is
-              ∙ at_any h.two b h.one in
-              absurd (h.heights (ap (λ (p : Point). p.height) e))
-        ]
-      ]
+      grind (
+        arith,
+        common_steps,
+        cases_lt a.0 b.0,
+        two_from reached h.one h.two a.0 b.0,
+        at_any h.one a,
+        at_any h.two b,
+        cases_lt b.0 a.0,
+        two_from reached h.two h.one b.0 a.0,
+        at_any h.one a h.one,
+        at_any h.two b h.one,
+      )
 
   pub first_heights : (r : Option ReachedAddress) → IsLeast (HasTwo points (length points)) r
       → IsLeast (HasTwoHeights l image) r
@@ -100,5 +89,4 @@ module _ (l : LayoutParts) (image : List ℕ) (points : List Point) (are : ArePo
 
   pub ok_heights : (r : Result (Option ReachedAddress) NoMemory) → IfOk r (IsLeast (HasTwo points (length points)))
       → IfOk r (IsLeast (HasTwoHeights l image))
-  ok_heights (Ok reached) h = first_heights reached h
-  ok_heights (Err error) h = h
+  ok_heights r h = grind (arith, common_steps, first_heights)

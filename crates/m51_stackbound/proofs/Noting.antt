@@ -1,25 +1,25 @@
 -- What a set of points holds after one is added.
-use Rattle.m51_stackbound.proofs.Common.{◌≡◌, Bool, true, false, List, [], ◌∷◌, ◌++◌, refl, subst, arith, inl, inr}
-use Rattle.m51_stackbound.proofs.Common.{list_any, common_steps, Contains-from_any, list_any-from_Contains, Point}
+use Rattle.m51_stackbound.proofs.Common.{◌≡◌, Bool, true, false, List, [], ◌∷◌, ◌++◌, refl, arith, inl, inr}
+use Rattle.m51_stackbound.proofs.Common.{list_any, Contains-from_any, list_any-from_Contains, Point}
 use Rattle.m51_stackbound.proofs.Common.{Notes, NotesAll}
 use Rattle.indexmap.specs.IndexSet.{insert_key}
 use Rattle.m51_stackbound.specs.contracts.point.PointPartialEq.TheImpl.{eq-value as point_eq}
 use Rattle.m51_stackbound.specs.contracts.point.PointEq.TheImpl.Laws.{laws-law}
 
 pub same_point : (x y : Point) → point_eq.it x y ≡ true → x ≡ y
-same_point x y h = grind (arith, common_steps, h)
+same_point x y h = grind arith
 
 pub notes_key : (old : List Point) (p : Point) → Notes old p (insert_key point_eq.it old p)
 notes_key old p = by (list_any (point_eq.it p) old) refl
   where
     by : (b : Bool) → list_any (point_eq.it p) old ≡ b → Notes old p (insert_key point_eq.it old p)
     by true e = rw e (inl (refl, Contains-from_any same_point p old e))
-    by false e = rw e (inr (refl, λ h. absurd (cc (e, list_any-from_Contains laws-law p old h))))
+    by false e = rw e (inr (refl, λ h. cc (list_any-from_Contains laws-law p old h)))
 
 -- adding the points of one list and then those of another
 pub notes_both : (ps qs old middle new : List Point) → NotesAll old ps middle → NotesAll middle qs new
     → NotesAll old (ps ++ qs) new
-notes_both [] qs old middle new h k = subst (λ l. NotesAll l qs new) h k
+notes_both [] qs old middle new h k = rw h at k
 notes_both (p ∷ ps) qs old middle new h k = (h.0, h.1, notes_both ps qs h.0 middle new h.2 k)
 
 -- one more point after those of a list

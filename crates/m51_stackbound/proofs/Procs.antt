@@ -1,6 +1,7 @@
 -- The starts in a table by addresses, and their list.
+use Rattle.std.proofs.lemmas.Grind.{common_steps}
 use Rattle.m51_stackbound.proofs.Common.{◌≡◌, ◌<◌, ◌+◌, ℕ, zero, suc, Bool, true, false, List, [], ◌∷◌, ◌++◌, length}
-use Rattle.m51_stackbound.proofs.Common.{get_or, set, take, map, replicate, refl, sym, ap, subst, ◌∙◌, arith, ◌⊎◌, inl}
+use Rattle.m51_stackbound.proofs.Common.{get_or, take, map, replicate, refl, sym, ap, subst, ◌∙◌, arith, ◌⊎◌, inl}
 use Rattle.m51_stackbound.proofs.Common.{inr, Contains, cases_lt, get_or-set_same, get_or-set_other, length-set}
 use Rattle.m51_stackbound.proofs.Common.{length-replicate, Contains-append_left, Contains-push, Contains-push_cases}
 use Rattle.m51_stackbound.proofs.Common.{LayoutParts, Proc, Start, Reset, At, same_or_not, Rises, Point, is_noted}
@@ -12,71 +13,55 @@ use Rattle.m51_stackbound.proofs.Leasts.{front_cases, front_kept, front_next}
 use Rattle.m51_stackbound.proofs.Rooted.{same_address}
 
 blank_start : (n k : ℕ) → get_or (replicate n false) k false ≡ false
-blank_start zero k = refl
-blank_start (suc n) zero = refl
-blank_start (suc n) (suc k) = blank_start n k
+blank_start n k = grind (arith, common_steps)
 
 pub starts_none : (count : ℕ) (starts : List Bool) → count ≡ 65536 → starts ≡ replicate count false
     → AreStarts [] starts
-starts_none count starts is e = subst (λ ss. AreStarts [] ss) (sym e) (record {
-  len = length-replicate {A = Bool} count false ∙ is;
-  only = λ at k. absurd (cc (k, blank_start count at));
-  all = λ at h. absurd (none_in_empty h.point h.listed);
-})
+starts_none count starts is e =
+    grind (arith, common_steps, length-replicate {A = Bool} count false, blank_start count, none_in_empty)
 
 module _ (points : List Point) (i : ℕ) (d : Point) (below : i < length points) where
   abbrev here : Point
   here = get_or points i d
 
   kept : (at : ℕ) → HasStart (take i points) at → HasStart (take (i + 1) points) at
-  kept at h = record { point = h.point; listed = front_kept points i d h.point below h.listed; start_is = h.start_is }
+  kept at h = grind (arith, common_steps, front_kept points i d h.point below h.listed)
 
   newest : (at : ℕ) → here.start ≡ At at → HasStart (take (i + 1) points) at
-  newest at s = record { point = here; listed = front_next points i d below; start_is = s }
+  newest at s = grind (arith, common_steps, here, front_next points i d below)
 
   start_cases : (at : ℕ) → HasStart (take (i + 1) points) at → HasStart (take i points) at ⊎ (here.start ≡ At at)
-  start_cases at h = elim (front_cases points i d h.point below h.listed) [
-    | inl before ↦ inl (record { point = h.point; listed = before; start_is = h.start_is })
-    | inr is ↦ inr (ap (λ (p : Point). p.start) is ∙ h.start_is)
-  ]
+  start_cases at h = grind (arith, common_steps, front_cases points i d h.point below h.listed)
 
   pub starts_more : (old : List Bool) (start : Start) → here.start ≡ start → ((at : ℕ) → start ≡ At at → at < 65536)
       → AreStarts (take i points) old → AreStarts (take (i + 1) points) (with_start old start)
   starts_more old Reset s few h = record {
     len = h.len;
     only = λ at k. kept at (h.only at k);
-    all = λ at k. elim (start_cases at k) [
-      | inl before ↦ h.all at before
-      | inr is ↦ absurd (cc (s, is))
-    ];
+    all = λ at k. grind (arith, common_steps, start_cases at k, h.all at);
   }
   starts_more old (At a) s few h =
-      let inside : a < length old = let f = few a refl in omega (arith, f, h.len) in
+      let inside : a < length old = omega (arith, few a refl) in
       record {
         len = length-set old a true ∙ h.len;
         only = λ at k. elim (same_or_not at a) [
           | inl e ↦ newest at (s ∙ ap At (sym e))
           | inr ne ↦ kept at (h.only at (sym (get_or-set_other old a at true false ne) ∙ k))
         ];
-        all = λ at k. elim (same_or_not at a) [
-          | inl e ↦ subst (λ n. get_or (set old a true) n false ≡ true) (sym e)
-              (get_or-set_same old a true false inside)
-          | inr ne ↦ elim (start_cases at k) [
-            | inl before ↦ get_or-set_other old a at true false ne ∙ h.all at before
-            | inr is ↦ absurd (ne (same_address at a (sym is ∙ s)))
-          ]
-        ];
+        all = λ at k. grind (
+          arith,
+          common_steps,
+          same_or_not at a,
+          get_or-set_same old a true false inside,
+          start_cases at k,
+          get_or-set_other old a at true false,
+          h.all at,
+          same_address at a,
+        );
       }
 
 abbrev at_of : Proc → ℕ
 at_of p = p.at
-
--- an address in a list of procedures
-contains_at : (ps : List Proc) (p : Proc) → Contains ps p → Contains (map at_of ps) p.at
-contains_at [] p h = absurd (omega (arith, h.1))
-contains_at (q ∷ ps) p (zero, below, is) = (0, omega arith, ap at_of is)
-contains_at (q ∷ ps) p (suc k, below, is) = let r = contains_at ps p (k, omega (arith, below), is) in
-    (suc r.0, omega (arith, r.1), r.2)
 
 -- each address in the list is one of a procedure
 below_all : (ps : List Proc) (end : ℕ) → ((p : Proc) → Contains ps p → p.at < end) → (k d : ℕ)
@@ -88,12 +73,7 @@ below_all (p ∷ ps) end h (suc k) d below =
 
 module _ (l : LayoutParts) (starts : List Bool) (depths : List ℕ) where
   pub listed_none : AreListed l starts depths 0 []
-  listed_none = record {
-    rising = λ i j d lt within. absurd (omega (arith, within));
-    below = λ p h. absurd (omega (arith, h.1));
-    each = λ p h. absurd (omega (arith, h.1));
-    all = λ at h k. absurd (omega (arith, h));
-  }
+  listed_none = grind (arith, common_steps)
 
   -- the next address is that of a start
   pub listed_more : (end : ℕ) (procs : List Proc) (p : Proc) → p.at ≡ end → IsListed l starts depths p
@@ -126,10 +106,7 @@ module _ (l : LayoutParts) (starts : List Bool) (depths : List ℕ) where
       → AreListed l starts depths (end + 1) procs
   listed_same end procs none h = record {
     rising = h.rising;
-    below = λ q k. let less = h.below q k in omega (arith, less);
+    below = λ q k. omega (arith, h.below q k);
     each = h.each;
-    all = λ at below k. elim (cases_lt at end) [
-      | inl early ↦ h.all at early k
-      | inr late ↦ let same : at ≡ end = omega (arith, late, below) in absurd (cc (none, k, same))
-    ];
+    all = grind (arith, common_steps, cases_lt);
   }

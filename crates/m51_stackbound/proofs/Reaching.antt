@@ -1,12 +1,12 @@
 -- The search for points finds those that are, and no others.
-use Rattle.m51_stackbound.proofs.Common.{◌≡◌, ◌≢◌, ◌<◌, ◌≤◌, ◌+◌, ℕ, List, [], ◌∷◌, ◌++◌, length, get_or, refl, sym}
+use Rattle.m51_stackbound.proofs.Common.{◌≡◌, ◌≢◌, ◌<◌, ◌≤◌, ◌+◌, ℕ, List, [], ◌∷◌, ◌++◌, length, get_or, sym}
 use Rattle.m51_stackbound.proofs.Common.{subst, ◌∙◌, arith, ◌⊎◌, inl, inr, Contains, cases_lt, common_steps}
-use Rattle.m51_stackbound.proofs.Common.{Contains-get_or, Contains-push, Contains-push_cases, Contains-append_left}
-use Rattle.m51_stackbound.proofs.Common.{contains_after, first_or_after, none_in_empty, Result, Ok, Err, LayoutParts}
+use Rattle.m51_stackbound.proofs.Common.{Contains-get_or, Contains-push, Contains-push_cases}
+use Rattle.m51_stackbound.proofs.Common.{contains_after, first_or_after, none_in_empty, Result, LayoutParts}
 use Rattle.m51_stackbound.proofs.Common.{Point, successors, IsReached, First, After, Notes, NotesAll}
 use Rattle.std.proofs.lemmas.List.Quantifiers.{all_pairs_push}
 use Rattle.m51_cells.specs.declared.limits.TheConstants.{MOST_POINTS}
-use Rattle.std.specs.Prelude.{IfOk, Option, Some, None}
+use Rattle.std.specs.Prelude.{IfOk, Option}
 use Rattle.m51_cells.specs.declared.memory.NoMemory.{NoMemory}
 use Rattle.m51_stackbound.specs.Search.{AreDifferent, AreReached, AreTooMany, Finds}
 
@@ -24,23 +24,16 @@ pub new_differs : (old : List Point) (p : Point) → (Contains old p → ⊥) �
     → AreDifferent (old ++ p ∷ [])
 new_differs old p new h =
     all_pairs_push (λ a b. a ≢ b) old p h
-    (λ k d below e. new (k, below, subst (λ q. get_or old k q ≡ q) e (grind (arith, common_steps, below))))
+    (λ k d below e. new (k, below, grind (arith, common_steps)))
 
 pub note_grows : (old new : List Point) (p : Point) → Notes old p new → Grows old new (λ q. p ≡ q)
-note_grows old new p (inl (same, there)) = subst (λ l. Grows old l (λ q. p ≡ q)) (sym same) (record {
-  front = λ i d below. refl;
-  longer = omega arith;
-  from = λ q h. inl h;
-  kept = λ q h. h;
-  all = λ q e. subst (λ q. Contains old q) e there;
-  different = λ h. h;
-})
+note_grows old new p (inl (same, there)) = subst (λ l. Grows old l (λ q. p ≡ q)) (sym same) (grind arith)
 note_grows old new p (inr (is, absent)) = subst (λ l. Grows old l (λ q. p ≡ q)) (sym is) (record {
-  front = λ i d below. grind (arith, common_steps, below);
+  front = grind (arith, common_steps);
   longer = grind (arith, common_steps);
   from = λ q h. Contains-push_cases old p q h;
-  kept = λ q h. Contains-append_left old (p ∷ []) q h;
-  all = λ q e. subst (λ q. Contains (old ++ p ∷ []) q) e (Contains-push old p);
+  kept = grind (arith, common_steps);
+  all = λ q e. rw (← e) (Contains-push old p);
   different = λ h. new_differs old p absent h;
 })
 
@@ -48,20 +41,11 @@ note_grows old new p (inr (is, absent)) = subst (λ l. Grows old l (λ q. p ≡ 
 pub grows_twice : (old middle new : List Point) (one two : Point → Type 0) → Grows old middle one → Grows middle new two
     → Grows old new (λ p. one p ⊎ two p)
 grows_twice old middle new one two g h = record {
-  front = λ i d below. h.front i d (omega (arith, below, g.longer)) ∙ g.front i d below;
-  longer = omega (arith, g.longer, h.longer);
-  from = λ p k. elim (h.from p k) [
-    | inl before ↦ elim (g.from p before) [
-      | inl first ↦ inl first
-      | inr added ↦ inr (inl added)
-    ]
-    | inr added ↦ inr (inr added)
-  ];
+  front = λ i d below. h.front i d (omega arith) ∙ g.front i d below;
+  longer = omega arith;
+  from = grind (arith, common_steps);
   kept = λ p k. h.kept p (g.kept p k);
-  all = λ p k. elim k [
-    | inl added ↦ h.kept p (g.all p added)
-    | inr added ↦ h.all p added
-  ];
+  all = grind arith;
   different = λ k. h.different (g.different k);
 }
 
@@ -70,14 +54,7 @@ pub contains_first : (p : Point) (ps : List Point) (q : Point) → p ≡ q → C
 contains_first p ps q e = (0, omega arith, e)
 
 pub notes_grow : (ps old new : List Point) → NotesAll old ps new → Grows old new (λ q. Contains ps q)
-notes_grow [] old new same = subst (λ l. Grows old l (λ q. Contains [] q)) (sym same) (record {
-  front = λ i d below. refl;
-  longer = omega arith;
-  from = λ q h. inl h;
-  kept = λ q h. h;
-  all = λ q h. absurd (none_in_empty q h);
-  different = λ h. h;
-})
+notes_grow [] old new same = subst (λ l. Grows old l (λ q. Contains [] q)) (sym same) (grind arith)
 notes_grow (p ∷ ps) old new (middle, first, rest) =
     let g = grows_twice old middle new (λ q. p ≡ q) (λ q. Contains ps q) (note_grows old middle p first)
     (notes_grow ps middle new rest) in
@@ -112,7 +89,7 @@ module _ (l : LayoutParts) (image : List ℕ) (firsts : List Point) where
   search_first different = record {
     only = λ p k. First p k;
     begun = λ p k. k;
-    looked = λ i d p below inside k. absurd (omega (arith, below));
+    looked = grind arith;
     different = different;
     next_few = omega arith;
   }
@@ -132,12 +109,11 @@ module _ (l : LayoutParts) (image : List ℕ) (firsts : List Point) where
         looked = λ i d p before inside k. elim (cases_lt i next) [
           | inl early ↦ g.kept p
               (s.looked i d p early (omega (arith, early, below))
-              (subst (λ q. Contains (successors l image q) p) (g.front i d (omega (arith, early, below))) k))
+              (rw (g.front i d (omega (arith, early, below))) at k))
           | inr late ↦
               let is : i ≡ next = omega (arith, late, before) in
-              let same : get_or new i d ≡ at = g.front i d (omega (arith, is, below))
-              ∙ grind (arith, common_steps, is, below) in
-              g.all p (subst (λ q. Contains (successors l image q) p) same k)
+              let same : get_or new i d ≡ at = grind (arith, common_steps, g.front i d (omega (arith, is, below))) in
+              g.all p (rw same at k)
         ];
         different = g.different s.different;
         next_few = omega (arith, below, few);
@@ -162,7 +138,7 @@ module _ (l : LayoutParts) (image : List ℕ) (firsts : List Point) where
 
   pub search_stops : (points : List Point) (next : ℕ) → IsSearching l image firsts points next
       → MOST_POINTS < length points → AreTooMany l image firsts
-  search_stops points next s many = record { points = points; only = s.only; different = s.different; many = many }
+  search_stops points next s many = grind arith
 
 -- what is reached from points is reached from those that have them
 pub reached_more : (l : LayoutParts) (image : List ℕ) (fs gs : List Point)
@@ -183,23 +159,11 @@ module _ (l : LayoutParts) (image : List ℕ) (firsts noted : List Point) (h : N
   ]
 
   pub noted_differ : AreDifferent noted
-  noted_differ = (notes_grow firsts [] noted h).different (λ i j d lt within. absurd (omega (arith, within)))
+  noted_differ = (notes_grow firsts [] noted h).different (grind arith)
 
   pub finds_noted : (r : Option (List Point)) → Finds l image noted r → Finds l image firsts r
-  finds_noted (Some points) f = record {
-    only = λ p k. reached_more l image noted firsts back p (f.only p k);
-    all = λ p k. f.all p (reached_more l image firsts noted on p k);
-    different = f.different;
-    few = f.few;
-  }
-  finds_noted None f = record {
-    points = f.points;
-    only = λ p k. reached_more l image noted firsts back p (f.only p k);
-    different = f.different;
-    many = f.many;
-  }
+  finds_noted r f = grind (arith, reached_more l image noted firsts back, reached_more l image firsts noted on, on)
 
   pub finds_ok : (r : Result (Option (List Point)) NoMemory) → IfOk r (Finds l image noted)
       → IfOk r (Finds l image firsts)
-  finds_ok (Ok found) f = finds_noted found f
-  finds_ok (Err error) f = f
+  finds_ok r f = grind (arith, finds_noted)

@@ -1,5 +1,6 @@
 -- Points and the starts that they are of: what is entered, what covers it, and which root leads to it.
-use Rattle.m51_stackbound.proofs.Common.{◌≡◌, ◌≤◌, ◌+◌, ℕ, zero, suc, List, [], ◌∷◌, map, refl, sym, ap, subst, ◌∙◌}
+use Rattle.std.proofs.lemmas.Grind.{common_steps}
+use Rattle.m51_stackbound.proofs.Common.{◌≡◌, ◌≤◌, ◌+◌, ℕ, suc, List, [], ◌∷◌, map, refl, sym, ap, ◌∙◌}
 use Rattle.m51_stackbound.proofs.Common.{arith, ◌⊎◌, inl, inr, Contains, LayoutParts, Start, Reset, At, Point, Nothing}
 use Rattle.m51_stackbound.proofs.Common.{One, ComesTo, CallsAt, HasHeight, Takes, Own, entry_at, first_points, point_at}
 use Rattle.m51_stackbound.proofs.Common.{IsPoint, IsReached, First, After, handlers, contains_after, first_or_after}
@@ -23,13 +24,7 @@ entry_of (v ∷ vs) p h = elim (first_or_after (entry_at v) (map entry_at vs) p 
 ]
 
 entry_listed : (vs : List ℕ) (v : ℕ) → Contains vs v → Contains (map entry_at vs) (entry_at v)
-entry_listed [] v h = absurd (omega (arith, h.1))
-entry_listed (w ∷ vs) v (zero, below, is) = contains_first (entry_at w) (map entry_at vs) (entry_at v) (ap entry_at is)
-entry_listed (w ∷ vs) v (suc k, below, is) =
-    contains_after (entry_at w) (map entry_at vs) (entry_at v) (entry_listed vs v (k, omega (arith, below), is))
-
-reset_point : Point
-reset_point = point_at Reset 0 7
+entry_listed vs v h = grind (arith, common_steps)
 
 -- starts at one address
 pub same_address : (a b : ℕ) → At a ≡ At b → a ≡ b
@@ -64,9 +59,8 @@ module _ (l : LayoutParts) (image : List ℕ) where
 
   entry_under : (a to : ℕ) (p : Point) → p ≡ entry_at to → p.start ≡ At a → IsPoint l image p → IsUnder a p
   entry_under a to p e s is =
-      let same : to ≡ a = same_address to a (sym (ap (λ (q : Point). q.start) e) ∙ s) in
-      let here : p ≡ entry_at a = e ∙ ap entry_at same in
-      subst (λ (q : Point). IsUnder a q) (sym here) (itself a (subst (λ (q : Point). IsPoint l image q) here is))
+      let same : to ≡ a = same_address to a (cc) in
+      grind (arith, itself)
 
   -- each point of a start is reached from the start's entry
   pub under : (a : ℕ) (p : Point) → IsPoint l image p → p.start ≡ At a → IsUnder a p
@@ -89,7 +83,7 @@ module _ (l : LayoutParts) (image : List ℕ) where
 
   reset_takes : Takes l image Reset [] 7
   reset_takes = Own Reset 7
-      (record { point = point_at Reset 0 7; is_point = reset_first; start_is = refl; height_is = refl })
+      (grind (arith, reset_first))
 
   reset_above : (path : List Start) (bytes : ℕ) → Takes l image Reset path bytes → ComesAbove bytes
   reset_above path bytes t = record {
@@ -102,14 +96,7 @@ module _ (l : LayoutParts) (image : List ℕ) where
       → ComesAbove bytes
   handler_above v path bytes h t = record {
     value = 7 + (2 + bytes);
-    comes = record {
-      path = [];
-      reset = 7;
-      more = 2 + bytes;
-      takes = reset_takes;
-      adds = One v bytes path h t;
-      value_is = refl;
-    };
+    comes = grind (arith, reset_takes, One);
     high = omega arith;
   }
 
@@ -117,20 +104,22 @@ module _ (l : LayoutParts) (image : List ℕ) where
   pub rooted : (p : Point) → IsPoint l image p → (path : List Start) (bytes : ℕ) → Takes l image p.start path bytes
       → ComesAbove bytes
   rooted _ (First p first) path bytes t = elim (first_cases p first) [
-    | inl e ↦ reset_above path bytes (subst (λ (q : Point). Takes l image q.start path bytes) e t)
+    | inl e ↦ reset_above path bytes (rw e at t)
     | inr h ↦ handler_above h.vector path bytes h.listed
-        (subst (λ (q : Point). Takes l image q.start path bytes) h.is t)
+        (rw h.is at t)
   ]
   rooted _ (After p q is after) path bytes t = elim (steps_to l image p q after) [
-    | inl within ↦ rooted p is path bytes (subst (λ s. Takes l image s path bytes) within.start_is t)
+    | inl within ↦ rooted p is path bytes (rw within.start_is at t)
     | inr entry ↦
         let called : Takes l image (At entry.to) path bytes =
-        subst (λ (r : Point). Takes l image r.start path bytes) entry.is t in
+        rw entry.is at t in
         let call : CallsAt l image p.start p.height entry.to =
-        record { point = p; is_point = is; start_is = refl; height_is = refl; calls = entry.calls } in
-        let more = rooted p is (At entry.to ∷ path) (p.height + 2 + bytes)
-        (Call p.start p.height entry.to path bytes call called) in
-        record { value = more.value; comes = more.comes; high = omega (arith, more.high) }
+        grind arith in
+        grind (
+          arith,
+          rooted p is (At entry.to ∷ path) (p.height + 2 + bytes)
+              (Call p.start p.height entry.to path bytes call called),
+        )
   ]
 
   -- a start that takes bytes has a point
@@ -138,9 +127,9 @@ module _ (l : LayoutParts) (image : List ℕ) where
       → (height : ℕ) × HasHeight l image start height
   of_taken start _ bytes (Own _ _ h) = (bytes, h)
   of_taken start _ _ (Call _ height to more bytes c rest) =
-      (height, record { point = c.point; is_point = c.is_point; start_is = c.start_is; height_is = c.height_is })
+      (height, grind arith)
 
   pub taken_above : (start : Start) (path : List Start) (bytes : ℕ) → Takes l image start path bytes → ComesAbove bytes
   taken_above start path bytes t =
       let h = (of_taken start path bytes t).1 in
-      rooted h.point h.is_point path bytes (subst (λ s. Takes l image s path bytes) (sym h.start_is) t)
+      rooted h.point h.is_point path bytes (rw h.start_is t)

@@ -1,7 +1,8 @@
 -- Where the successors of a point are: under its own start, or at the entry of a start that it calls.
-use Rattle.m51_stackbound.proofs.Common.{◌≡◌, ℕ, Bool, true, false, List, [], ◌∷◌, ◌++◌, refl, sym, ap, subst, ◌⊎◌, inl}
+use Rattle.std.proofs.Common.{arith}
+use Rattle.m51_stackbound.proofs.Common.{◌≡◌, ℕ, Bool, true, false, List, [], ◌∷◌, ◌++◌, refl, ◌⊎◌, inl}
 use Rattle.m51_stackbound.proofs.Common.{inr, Option, Some, None, if◌then◌else◌, is_some, Contains, Instr, LayoutParts}
-use Rattle.m51_stackbound.proofs.Common.{Point, call_of, entry_at, point_at, successors, first_or_after, none_in_empty}
+use Rattle.m51_stackbound.proofs.Common.{Point, call_of, entry_at, successors, none_in_empty}
 use Rattle.std.proofs.lemmas.List.Elements.{Contains-append_cases}
 use Rattle.m51_module.specs.Walks.{Edges}
 use Rattle.m51_stackbound.specs.Instructions.{is_call, is_jump, next_of, target_of}
@@ -30,21 +31,16 @@ StepsTo l p call q = IsWithin l p q ⊎ IsEntry l call q
 
 from_cond : {X : Type 0} (b : Bool) (xs ys : List X) (q : X) → Contains (if b then xs else ys) q
     → ((b ≡ true) × Contains xs q) ⊎ ((b ≡ false) × Contains ys q)
-from_cond true xs ys q h = inl (refl, h)
-from_cond false xs ys q h = inr (refl, h)
+from_cond b xs ys q h = grind arith
 
 pub only_one : (p q : Point) → Contains (p ∷ []) q → p ≡ q
-only_one p q h = elim (first_or_after p [] q h) [ inl e ↦ e | inr none ↦ absurd (none_in_empty q none) ]
+only_one p q h = grind arith
 
 same_right : (one two : Option ℕ) → same one two ≡ true → is_some two ≡ true
-same_right (Some a) (Some b) h = refl
-same_right (Some a) None h = absurd (cc h)
-same_right None two h = absurd (cc h)
+same_right one two h = grind arith
 
 joined_right : (edges : Edges) (one two : Option ℕ) → same_or_edge edges one two ≡ true → is_some two ≡ true
-joined_right edges (Some a) (Some b) h = refl
-joined_right edges (Some a) None h = absurd (cc h)
-joined_right edges None two h = absurd (cc h)
+joined_right edges one two h = grind arith
 
 module _ (l : LayoutParts) (p : Point) where
   next_covered : (next : ℕ) → in_one_unit l p.address next ≡ true → is_covered l next ≡ true
@@ -55,29 +51,17 @@ module _ (l : LayoutParts) (p : Point) where
   unfolding counts
   target_covered target h = joined_right l.edges (unit_of l p.address) (unit_of l target) h
 
-  at_point : (address height : ℕ) (q : Point) → is_covered l address ≡ true
-      → Contains (point_at p.start address height ∷ []) q → IsWithin l p q
-  at_point address height q covered h =
-      let e = only_one (point_at p.start address height) q h in
-      subst (λ (r : Point). IsWithin l p r) e (record { start_is = refl; covered = covered })
-
   next_within : (next height : ℕ) (q : Point) → Contains (at_next l p next height) q → IsWithin l p q
   unfolding at_next
   next_within next height q h =
-      elim (from_cond (in_one_unit l p.address next) (point_at p.start next height ∷ []) [] q h) [
-        | inl t ↦ at_point next height q (next_covered next t.0) t.1
-        | inr none ↦ absurd (none_in_empty q none.1)
-      ]
+      grind (arith, next_covered next)
 
   target_within : (target : Option ℕ) (height : ℕ) (q : Point) → Contains (at_target l p target height) q
       → IsWithin l p q
   unfolding at_target
   target_within None height q h = absurd (none_in_empty q h)
   target_within (Some target) height q h =
-      elim (from_cond (counts l p.address target) (point_at p.start target height ∷ []) [] q h) [
-        | inl t ↦ at_point target height q (target_covered target t.0) t.1
-        | inr none ↦ absurd (none_in_empty q none.1)
-      ]
+      grind (arith, target_covered target)
 
   called_covered : (target : Option ℕ) (to : ℕ) → called l p target ≡ Some to → is_covered l to ≡ true
   unfolding called
@@ -86,18 +70,14 @@ module _ (l : LayoutParts) (p : Point) where
     where
       by : (b : Bool) → counts l p.address target ≡ b → is_covered l to ≡ true
       by true e =
-          let is : target ≡ to = cc (subst (λ b. (if b then Some target else None) ≡ Some to) e h) in
-          subst (λ t. is_covered l t ≡ true) is (target_covered target e)
-      by false e = absurd (cc (subst (λ b. (if b then Some target else None) ≡ Some to) e h))
+          cc (target_covered target e)
+      by false e = cc
 
   call_steps : (next : ℕ) (call : Option ℕ) (q : Point) → ((to : ℕ) → call ≡ Some to → is_covered l to ≡ true)
       → Contains (after_call l p next call) q → StepsTo l p call q
   call_steps next None q covers h = absurd (none_in_empty q h)
   call_steps next (Some to) q covers h =
-      elim (first_or_after (entry_at to) (at_next l p next p.height) q h) [
-        | inl e ↦ inr (record { to = to; calls = refl; is = sym e; covered = covers to refl })
-        | inr more ↦ inl (next_within next p.height q more)
-      ]
+      grind (arith, next_within next p.height q)
 
   instr_within : (instr : Instr) (next : ℕ) (q : Point) → Contains (after_instr l p instr next) q → IsWithin l p q
   instr_within instr next q h =
@@ -122,10 +102,11 @@ module _ (l : LayoutParts) (p : Point) where
         (after_instr l p instr (next_of instr p.address)) q goes.1) [
           | inl call ↦
               let at = target_of instr (next_of instr p.address) in
-              let is : called l p at ≡ (if is_call instr then called l p at else None) =
-              ap (λ b. if b then called l p at else None) (sym call.0) in
-              subst (λ c. StepsTo l p c q) is
-              (call_steps (next_of instr p.address) (called l p at) q (λ to e. called_covered at to e) call.1)
+              grind (
+                arith,
+                call_steps (next_of instr p.address) (called l p at) q (λ to e. called_covered at to e)
+                    call.1,
+              )
           | inr other ↦ inl (instr_within instr (next_of instr p.address) q other.1)
         ]
   ]

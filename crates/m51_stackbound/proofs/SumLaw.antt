@@ -1,5 +1,5 @@
 -- The total is the sum of depths, where the roots have depths.
-use Rattle.m51_stackbound.proofs.Common.{◌≤◌, ◌+◌, ℕ, List, refl, subst, sym, arith, LayoutParts, Reset, Nothing, One}
+use Rattle.m51_stackbound.proofs.Common.{◌≤◌, ◌+◌, ℕ, List, arith, LayoutParts, Reset, Nothing, One}
 use Rattle.m51_stackbound.proofs.Common.{ComesTo, IsTotal, IsDepth}
 use Rattle.m51_stackbound.specs.Bounds.{Adds, Two}
 use Rattle.m51_stackbound.specs.Laws.{DepthsAdd, NoHandler, OneHandler, TwoHandlers, IsSumOfDepths, HaveDepths}
@@ -23,49 +23,25 @@ module _ (l : LayoutParts) (image : List ℕ) where
     above _ Nothing = record { sum = 0; adds = NoHandler; high = omega arith }
     above _ (One v d path h t) =
         let k = have.handler v h in
-        let most = k.1.most path d t in
-        record { sum = 2 + k.0; adds = OneHandler v k.0 h k.1; high = omega (arith, most) }
+        grind (arith, OneHandler v k.0 h k.1)
     above _ (Two v w d e path other h k ne t u) =
         let i = have.handler v h in
         let j = have.handler w k in
-        let one = i.1.most path d t in
-        let two = j.1.most other e u in
-        record {
-          sum = 2 + i.0 + (2 + j.0);
-          adds = TwoHandlers v w i.0 j.0 h k ne i.1 j.1;
-          high = omega (arith, one, two);
-        }
+        grind (arith, TwoHandlers v w i.0 j.0 h k ne i.1 j.1)
 
     comes : (reset more : ℕ) → IsDepth l image Reset reset → DepthsAdd l image more → ComesTo l image (reset + more)
     comes reset more d a =
-        record { path = d.path; reset = reset; more = more; takes = d.takes; adds = added more a; value_is = refl }
+        grind (arith, added)
 
     on : (total : ℕ) → IsTotal l image total → IsSumOfDepths l image total
     on total t =
         let c = t.comes in
         let r = have.reset in
         let a = above c.more c.adds in
-        let deep = r.1.most c.path c.reset c.takes in
-        let whole = t.most (r.0 + a.sum) (comes r.0 a.sum r.1 a.adds) in
-        record {
-          reset = r.0;
-          more = a.sum;
-          reset_is = r.1;
-          adds = a.adds;
-          greatest = λ other k. let most = t.most (r.0 + other) (comes r.0 other r.1 k) in
-              omega (arith, most, whole, deep, a.high, c.value_is);
-          total_is = omega (arith, whole, deep, a.high, c.value_is);
-        }
+        grind (arith, comes r.0)
 
     back : (total : ℕ) → IsSumOfDepths l image total → IsTotal l image total
-    back total s = record {
-      comes = subst (λ n. ComesTo l image n) (sym s.total_is) (comes s.reset s.more s.reset_is s.adds);
-      most = λ value c.
-          let a = above c.more c.adds in
-          let deep = s.reset_is.most c.path c.reset c.takes in
-          let most = s.greatest a.sum a.adds in
-          omega (arith, c.value_is, a.high, deep, most, s.total_is);
-    }
+    back total s = grind (arith, comes s.reset s.more s.reset_is s.adds, above)
 
 pub total_is_sum : TotalIsSumOfDepths
 total_is_sum l image have total = (on l image have total, back l image have total)

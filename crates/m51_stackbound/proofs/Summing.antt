@@ -1,7 +1,7 @@
 -- The sum by the table is the total, and SP may exceed 255 where a depth is above 255.
-use Rattle.m51_stackbound.proofs.Common.{◌≤◌, ◌+◌, ℕ, List, refl, subst, arith, inl, inr, Contains, LayoutParts, Start}
+use Rattle.m51_stackbound.proofs.Common.{◌≤◌, ◌+◌, ℕ, List, subst, arith, inl, inr, Contains, LayoutParts, Start}
 use Rattle.m51_stackbound.proofs.Common.{Reset, At, Nothing, One, ComesTo, IsTotal, depth_in, HasHeight, IsDepth}
-use Rattle.m51_stackbound.proofs.Common.{entry_at, point_at, IsSum, handlers}
+use Rattle.m51_stackbound.proofs.Common.{IsSum, handlers}
 use Rattle.m51_stackbound.specs.Bounds.{Adds, Two}
 use Rattle.m51_stackbound.specs.Totals.{OneAdds, TwoAdd}
 use Rattle.m51_stackbound.proofs.Rooted.{handler_first, reset_first}
@@ -11,25 +11,27 @@ module _ (l : LayoutParts) (image : List ℕ) (depths : List ℕ)
     → IsDepth l image start (depth_in depths start)) where
   reset_depth : IsDepth l image Reset (depth_in depths Reset)
   reset_depth = deep Reset 7
-      (record { point = point_at Reset 0 7; is_point = reset_first l image; start_is = refl; height_is = refl })
+      (grind (arith, reset_first l image))
 
   handler_depth : (v : ℕ) → Contains (handlers l) v → IsDepth l image (At v) (depth_in depths (At v))
   handler_depth v h = deep (At v) 0
-      (record { point = entry_at v; is_point = handler_first l image v h; start_is = refl; height_is = refl })
+      (grind (arith, handler_first l image v h))
 
   one_adds : (b : ℕ) → OneAdds depths (handlers l) b → Adds l image b
   one_adds b o =
       let d = handler_depth o.vector o.listed in
-      subst (λ n. Adds l image n) (omega (arith, o.bytes_are))
-      (One o.vector (depth_in depths (At o.vector)) d.path o.listed d.takes)
+      grind (arith, One)
 
   two_add : (a b : ℕ) → TwoAdd depths (handlers l) a b → Adds l image (a + b)
   two_add a b t =
       let d = handler_depth t.first.vector t.first.listed in
       let e = handler_depth t.second.vector t.second.listed in
-      subst (λ n. Adds l image n) (omega (arith, t.first.bytes_are, t.second.bytes_are))
-      (Two t.first.vector t.second.vector (depth_in depths (At t.first.vector)) (depth_in depths (At t.second.vector))
-      d.path e.path t.first.listed t.second.listed t.different d.takes e.takes)
+      grind (
+        arith,
+        Two t.first.vector t.second.vector (depth_in depths (At t.first.vector))
+            (depth_in depths (At t.second.vector)) d.path e.path t.first.listed t.second.listed t.different d.takes
+            e.takes,
+      )
 
   module _ (total : ℕ) (s : IsSum depths (handlers l) total) where
     abbrev first : ℕ
@@ -43,37 +45,22 @@ module _ (l : LayoutParts) (image : List ℕ) (depths : List ℕ)
       | inr t ↦ two_add first second t
       | inl none ↦ elim s.are.one [
         | inl nothing ↦ subst (λ n. Adds l image n) (omega (arith, none, nothing)) Nothing
-        | inr o ↦ subst (λ n. Adds l image n) (omega (arith, none)) (one_adds first o)
+        | inr o ↦ grind (arith, one_adds)
       ]
     ]
 
     pub comes_total : ComesTo l image total
-    comes_total = record {
-      path = reset_depth.path;
-      reset = depth_in depths Reset;
-      more = first + second;
-      takes = reset_depth.takes;
-      adds = both_add;
-      value_is = omega (arith, s.total_is);
-    }
+    comes_total = grind (arith, reset_depth.path, reset_depth.takes, both_add)
 
     adds_most : (bytes : ℕ) → Adds l image bytes → bytes ≤ first + second
     adds_most _ Nothing = omega arith
     adds_most _ (One v d path h t) =
         let deepest = (handler_depth v h).most path d t in
-        let most = s.are.most v h in
-        omega (arith, deepest, most)
+        omega arith
     adds_most _ (Two v w d e path other h k ne t u) =
         let one = (handler_depth v h).most path d t in
         let two = (handler_depth w k).most other e u in
-        let most = s.are.sum v w h k ne in
-        omega (arith, one, two, most)
+        omega (arith, s.are.sum v w h k ne)
 
     pub is_total : IsTotal l image total
-    is_total = record {
-      comes = comes_total;
-      most = λ value c.
-          let reset = reset_depth.most c.path c.reset c.takes in
-          let more = adds_most c.more c.adds in
-          omega (arith, c.value_is, reset, more, s.total_is);
-    }
+    is_total = grind (arith, comes_total, reset_depth.most, adds_most)

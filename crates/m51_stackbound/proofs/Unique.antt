@@ -1,9 +1,10 @@
 -- The answer is unique: two answers that are tied, are the same.
+use Rattle.std.proofs.lemmas.Grind.{common_steps}
 use Rattle.m51_stackbound.proofs.Common.{◌≡◌, ◌<◌, ◌≤◌, ℕ, zero, suc, List, [], ◌∷◌, length, get_or, map, refl, sym, ap}
 use Rattle.m51_stackbound.proofs.Common.{subst, ◌∙◌, arith, inl, inr, Result, Ok, Err, Contains, cases_lt, LayoutParts}
-use Rattle.m51_stackbound.proofs.Common.{Proc, RootDepth, StackBound, Start, Reset, At, IsUnitAt, Rises, IsSound}
-use Rattle.m51_stackbound.proofs.Common.{ReachedAddress, HasTwoHeights, IsCyclic, IsTotal, Keeps, IsDepth, Takes}
-use Rattle.m51_stackbound.proofs.Common.{IsLeast, rank, handlers, first_or_after, none_in_empty, First, first_points}
+use Rattle.m51_stackbound.proofs.Common.{Proc, RootDepth, StackBound, Start, Reset, At, Rises, IsSound}
+use Rattle.m51_stackbound.proofs.Common.{ReachedAddress, HasTwoHeights, IsCyclic, IsTotal, Keeps, IsDepth}
+use Rattle.m51_stackbound.proofs.Common.{IsLeast, handlers, first_or_after, none_in_empty, First, first_points}
 use Rattle.std.specs.Prelude.{Some}
 use Rattle.m51_module.specs.declared.stack_bound.StackError.{StackError}
 use Rattle.m51_module.specs.declared.stack_bound.StackError.TheVariants.{K1, K2, K3, K4, K5, K6, Limit, Memory}
@@ -13,7 +14,6 @@ use Rattle.m51_stackbound.specs.Bounds.{AreEach, AreFew, Answers, Breaks, IsBoun
 use Rattle.m51_stackbound.specs.Bounds.{IsRootDepth, IsTooDeep}
 use Rattle.m51_stackbound.specs.Depths.{ComesFirst, IsPath}
 use Rattle.m51_stackbound.specs.Laws.{IsTied, AnswerIsUnique}
-use Rattle.m51_stackbound.specs.Rules.{NoLater}
 use Rattle.m51_stackbound.proofs.Crowding.{few_reached}
 use Rattle.m51_stackbound.proofs.Raised.{rank_same}
 
@@ -29,27 +29,10 @@ stage (Err K6) = 6
 stage (Ok b) = 7
 stage (Err Memory) = 8
 
--- the first reached address, or start, is one
-one_place : (Is : ReachedAddress → Type 0) (p q : ReachedAddress) → IsLeast Is (Some p) → IsLeast Is (Some q) → p ≡ q
-one_place Is p q h k = by (h.1 q k.0) (k.1 p h.0)
-  where
-    same : p.start ≡ q.start → p.address ≡ q.address → p ≡ q
-    same a b = λ i. record { start = a i; address = b i }
-
-    by : NoLater p q → NoLater q p → p ≡ q
-    by (inl a) (inl b) = absurd (omega (arith, a, b))
-    by (inl a) (inr b) = absurd (omega (arith, a, b.0))
-    by (inr a) (inl b) = absurd (omega (arith, a.0, b))
-    by (inr a) (inr b) = same (rank_same p.start q.start a.0) (omega (arith, a.1, b.1))
-
 first_same : (a b : List Start) → ComesFirst a b → ComesFirst b a → a ≡ b
 first_same [] [] h k = refl
 first_same [] (t ∷ b) h k = absurd k
-first_same (s ∷ a) [] h k = absurd h
-first_same (s ∷ a) (t ∷ b) (inl h) (inl k) = absurd (omega (arith, h, k))
-first_same (s ∷ a) (t ∷ b) (inl h) (inr k) = let e = ap rank k.0 in absurd (omega (arith, h, e))
-first_same (s ∷ a) (t ∷ b) (inr h) (inl k) = let e = ap rank h.0 in absurd (omega (arith, k, e))
-first_same (s ∷ a) (t ∷ b) (inr h) (inr k) = λ i. h.0 i ∷ first_same a b h.1 k.1 i
+first_same (s ∷ a) b h k = grind (arith, first_same a)
 
 abbrev at_of : Proc → ℕ
 at_of p = p.at
@@ -62,25 +45,21 @@ record HasAt (ps : List Proc) (at : ℕ) : Type 0 where
 
 has_at : (ps : List Proc) (at : ℕ) → Contains (map at_of ps) at → HasAt ps at
 has_at [] at h = absurd (omega (arith, h.1))
-has_at (p ∷ ps) at (zero, below, is) = record { proc = p; listed = (0, omega arith, refl); is = is }
+has_at (p ∷ ps) at (zero, below, is) = grind arith
 has_at (p ∷ ps) at (suc k, below, is) = let r = has_at ps at (k, omega (arith, below), is) in
     record { proc = r.proc; listed = (suc r.listed.0, omega (arith, r.listed.1), r.listed.2); is = r.is }
 
 at_index : (ps : List Proc) (k : ℕ) (p : Proc) (d : ℕ) → k < length ps → get_or ps k p ≡ p
     → get_or (map at_of ps) k d ≡ p.at
-at_index [] k p d below is = absurd (omega (arith, below))
-at_index (q ∷ ps) zero p d below is = ap at_of is
-at_index (q ∷ ps) (suc k) p d below is = at_index ps k p d (omega (arith, below)) is
+at_index ps k p d below is = grind (arith, common_steps)
 
 at_length : (ps : List Proc) → length (map at_of ps) ≡ length ps
-at_length [] = refl
-at_length (p ∷ ps) = ap suc (at_length ps)
+at_length ps = grind (arith, common_steps)
 
 -- in a rising list the first is below the others
 rest_above : (p q : Proc) (ps : List Proc) → Rises (map at_of (p ∷ ps)) → Contains ps q → p.at < q.at
 rest_above p q ps rises k =
-    let less = rises 0 (suc k.0) 0 (omega arith) (omega (arith, k.1, at_length ps)) in
-    subst (λ n. p.at < n) (at_index ps k.0 q 0 k.1 k.2) less
+    omega (arith, rises 0 (suc k.0) 0 (omega arith) (omega (arith, k.1, at_length ps)), at_index ps k.0 q 0 k.1 k.2)
 
 rest_rises : (p : Proc) (ps : List Proc) → Rises (map at_of (p ∷ ps)) → Rises (map at_of ps)
 rest_rises p ps rises i j d less within = rises (suc i) (suc j) d (omega (arith, less)) (omega (arith, within))
@@ -95,13 +74,13 @@ same_lists (p ∷ ps) (q ∷ qs) a b on back =
     λ i. heads i ∷ tails i
   where
     heads : p ≡ q
-    heads = elim (first_or_after q qs p (on p (0, omega arith, refl))) [
-      | inl e ↦ sym e
-      | inr one ↦ elim (first_or_after p ps q (back q (0, omega arith, refl))) [
-        | inl e ↦ e
-        | inr two ↦ absurd (omega (arith, rest_above q p qs b one, rest_above p q ps a two))
-      ]
-    ]
+    heads = grind (
+      arith,
+      first_or_after q qs p (on p (0, omega arith, refl)),
+      first_or_after p ps q (back q (0, omega arith, refl)),
+      rest_above q p qs b,
+      rest_above p q ps a,
+    )
 
     on_rest : (r : Proc) → Contains ps r → Contains qs r
     on_rest r k = elim (first_or_after q qs r (on r (suc k.0, omega (arith, k.1), k.2))) [
@@ -118,36 +97,32 @@ same_lists (p ∷ ps) (q ∷ qs) a b on back =
 module _ (l : LayoutParts) (image : List ℕ) where
   depth_same : (start : Start) (d e : ℕ) → IsDepth l image start d → IsDepth l image start e → d ≡ e
   depth_same start d e h k =
-      let one = h.most k.path e k.takes in
-      let two = k.most h.path d h.takes in
-      omega (arith, one, two)
+      omega (arith, h.most k.path e k.takes, k.most h.path d h.takes)
 
   path_same : (start : Start) (p q : List Start) → IsPath l image start p → IsPath l image start q → p ≡ q
   path_same start p q h k =
       let deep = depth_same start h.depth k.depth h.is_depth k.is_depth in
       let more : h.more ≡ k.more = first_same h.more k.more
-      (h.first k.more (subst (λ d. Takes l image start k.more d) (sym deep) k.takes))
-      (k.first h.more (subst (λ d. Takes l image start h.more d) deep h.takes)) in
-      h.path_is ∙ (ap (λ ss. start ∷ ss) more ∙ sym k.path_is)
+      (h.first k.more (rw deep k.takes))
+      (k.first h.more (rw deep at h.takes)) in
+      cc
 
   total_same : (a b : ℕ) → IsTotal l image a → IsTotal l image b → a ≡ b
   total_same a b h k =
-      let one = h.most b k.comes in
-      let two = k.most a h.comes in
-      omega (arith, one, two)
+      omega (arith, h.most b k.comes, k.most a h.comes)
 
   module _ (sound : IsSound l) where
     proc_same : (p q : Proc) → p.at ≡ q.at → IsProc l image p → IsProc l image q → p ≡ q
     proc_same p q e h k = same e unit depth
       where
         same : p.at ≡ q.at → p.unit ≡ q.unit → p.depth ≡ q.depth → p ≡ q
-        same a b c = λ i. record { at = a i; unit = b i; depth = c i }
+        same a b c = grind arith
 
         unit : p.unit ≡ q.unit
-        unit = one_unit l sound q.at p.unit q.unit (subst (λ n. IsUnitAt l n p.unit) e h.unit) k.unit
+        unit = one_unit l sound q.at p.unit q.unit (rw e at h.unit) k.unit
 
         depth : p.depth ≡ q.depth
-        depth = depth_same (At q.at) p.depth q.depth (subst (λ n. IsDepth l image (At n) p.depth) e h.depth) k.depth
+        depth = depth_same (At q.at) p.depth q.depth (rw e at h.depth) k.depth
 
     row_same : (start : Start) (vector : ℕ) (r s : RootDepth) → IsRootDepth l image start vector r
         → IsRootDepth l image start vector s → r ≡ s
@@ -156,31 +131,29 @@ module _ (l : LayoutParts) (image : List ℕ) where
         (path_same start r.path s.path h.path k.path)
       where
         same : r.root ≡ s.root → r.depth ≡ s.depth → r.path ≡ s.path → r ≡ s
-        same a b c = λ i. record { root = a i; depth = b i; path = c i }
+        same a b c = grind arith
 
     rows_same : (vs : List ℕ) (rs ss : List RootDepth)
         → AreEach (λ vector. IsRootDepth l image (At vector) vector) vs rs
         → AreEach (λ vector. IsRootDepth l image (At vector) vector) vs ss → rs ≡ ss
     rows_same [] [] [] h k = refl
-    rows_same [] [] (s ∷ ss) h k = absurd k
     rows_same [] (r ∷ rs) ss h k = absurd h
     rows_same (v ∷ vs) [] ss h k = absurd h
-    rows_same (v ∷ vs) (r ∷ rs) [] h k = absurd k
     rows_same (v ∷ vs) (r ∷ rs) (s ∷ ss) h k = λ i. row_same (At v) v r s h.0 k.0 i ∷ rows_same vs rs ss h.1 k.1 i
+    rows_same vs rs ss h k = absurd k
 
     listed_in : (b c : StackBound) → IsBound l image b → IsBound l image c → (p : Proc) → Contains b.procs p
         → Contains c.procs p
     listed_in b c h k p listed =
         let is = h.procs p listed in
         let other = has_at c.procs p.at (k.all p.at is.is_start) in
-        subst (λ (q : Proc). Contains c.procs q) (proc_same other.proc p other.is (k.procs other.proc other.listed) is)
-        other.listed
+        rw (proc_same other.proc p other.is (k.procs other.proc other.listed) is) at other.listed
 
     bound_same : (b c : StackBound) → IsBound l image b → IsBound l image c → b ≡ c
     bound_same b c h k = same procs roots (total_same b.total c.total h.total k.total)
       where
         same : b.procs ≡ c.procs → b.roots ≡ c.roots → b.total ≡ c.total → b ≡ c
-        same x y z = λ i. record { procs = x i; roots = y i; total = z i }
+        same x y z = grind arith
 
         procs : b.procs ≡ c.procs
         procs = same_lists b.procs c.procs h.rising k.rising (listed_in b c h k) (listed_in c b k h)
@@ -211,7 +184,7 @@ module _ (l : LayoutParts) (image : List ℕ) where
 
     too_deep : (b : StackBound) → b.total ≤ 255 → IsBound l image b → IsTooDeep l image → ⊥
     too_deep b few h (inl (reached, breaks)) = h.no_push reached breaks
-    too_deep b few h (inr (value, comes, high)) = let most = h.total.most value comes in omega (arith, most, high, few)
+    too_deep b few h (inr (value, comes, high)) = omega (arith, h.total.most value comes)
 
     passes : (r : Result StackBound StackError) → IsTied r → Answers l image r → Passes (stage r)
     unfolding stage Rung Passes
@@ -219,13 +192,10 @@ module _ (l : LayoutParts) (image : List ℕ) where
     passes (Err (K1 start at)) tied h = (tt, h.0)
     passes (Err (K2 start at)) tied h = ((tt, h.0), h.1)
     passes (Err (K3 start at)) tied h = (((tt, h.0), h.1), h.2)
-    passes (Err (K4 start)) tied h = ((((tt, h.0.few), h.0.writes), h.0.computed), h.0.pops)
-    passes (Err (K5 start at)) tied h = let r = h.0.rules in
-        (((((tt, r.few), r.writes), r.computed), r.pops), h.0.no_cycle)
-    passes (Err K6) tied h = let a = h.0.apart in let r = a.rules in
-        ((((((tt, r.few), r.writes), r.computed), r.pops), a.no_cycle), h.0.one_height)
-    passes (Ok b) tied h = let a = h.kept.apart in let r = a.rules in
-        (((((((tt, r.few), r.writes), r.computed), r.pops), a.no_cycle), h.kept.one_height), too_deep b tied h)
+    passes (Err (K4 start)) tied h = grind arith
+    passes (Err (K5 start at)) tied h = grind arith
+    passes (Err K6) tied h = grind arith
+    passes (Ok b) tied h = grind (arith, too_deep b tied h)
     passes (Err Memory) tied h = absurd tied
 
     fails : (r : Result StackBound StackError) → IsTied r → Answers l image r → stage r < 7 → Rung (stage r) → ⊥
@@ -250,15 +220,7 @@ module _ (l : LayoutParts) (image : List ℕ) where
 
     few_stages : (r : Result StackBound StackError) → IsTied r → stage r ≤ 7
     unfolding stage
-    few_stages (Err Limit) tied = omega arith
-    few_stages (Err (K1 start at)) tied = omega arith
-    few_stages (Err (K2 start at)) tied = omega arith
-    few_stages (Err (K3 start at)) tied = omega arith
-    few_stages (Err (K4 start)) tied = omega arith
-    few_stages (Err (K5 start at)) tied = omega arith
-    few_stages (Err K6) tied = omega arith
-    few_stages (Ok b) tied = omega arith
-    few_stages (Err Memory) tied = absurd tied
+    few_stages r tied = grind arith
 
     -- an answer that comes later does not come beside one that comes earlier
     not_before : (r s : Result StackBound StackError) → IsTied r → IsTied s → Answers l image r → Answers l image s
@@ -271,8 +233,7 @@ module _ (l : LayoutParts) (image : List ℕ) where
         → IsLeast Is (Some (record { start = s; address = a })) → IsLeast Is (Some (record { start = t; address = b }))
         → E s a ≡ E t b
     at_place E Is s t a b h k =
-        ap (λ (p : ReachedAddress). E p.start p.address)
-        (one_place Is (record { start = s; address = a }) (record { start = t; address = b }) h k)
+        grind arith
 
     same_stage : (r s : Result StackBound StackError) → IsTied r → IsTied s → Answers l image r → Answers l image s
         → stage r ≡ stage s → r ≡ s
@@ -287,24 +248,23 @@ module _ (l : LayoutParts) (image : List ℕ) where
     same_stage (Err (K4 s)) (Err (K4 t)) one two h k e =
         let low = h.1.first t k.1.cyclic in
         let high = k.1.first s h.1.cyclic in
-        ap (λ u. Err (K4 u)) (rank_same s t (omega (arith, low, high)))
+        cc (rank_same s t (omega (arith, low, high)))
     same_stage (Err (K5 s a)) (Err (K5 t b)) one two h k e =
         ap Err (at_place K5 (HasTwoHeights l image) s t a b h.1 k.1)
     same_stage (Err K6) (Err K6) one two h k e = refl
     same_stage (Ok b) (Ok c) one two h k e = ap Ok (bound_same b c h k)
     same_stage (Err Memory) s one two h k e = absurd one
-    same_stage r (Err Memory) one two h k e = absurd two
-    same_stage r s one two h k e = absurd (omega (arith, e))
+    same_stage r s one two h k e = grind arith
 
     pub one_answer : (r s : Result StackBound StackError) → IsTied r → IsTied s → Answers l image r → Answers l image s
         → r ≡ s
-    one_answer r s one two h k = elim (cases_lt (stage r) (stage s)) [
-      | inl less ↦ absurd (not_before r s one two h k less)
-      | inr not_less ↦ elim (cases_lt (stage s) (stage r)) [
-        | inl more ↦ absurd (not_before s r two one k h more)
-        | inr not_more ↦ same_stage r s one two h k (omega (arith, not_less, not_more))
-      ]
-    ]
+    one_answer r s one two h k = omega (
+      arith,
+      not_before r s one two h k,
+      cases_lt (stage s) (stage r),
+      not_before s r two one k h,
+      same_stage r s one two h k,
+    )
 
 pub answer_is_unique : AnswerIsUnique
 answer_is_unique l image sound r s one two h k = one_answer l image sound r s one two h k

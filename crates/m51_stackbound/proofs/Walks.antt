@@ -1,68 +1,38 @@
 -- What walks over rows find, and which starts do not call themselves.
 use Rattle.m51_stackbound.proofs.Common.{◌≡◌, ◌<◌, ◌≤◌, ◌+◌, ◌-◌, ℕ, Bool, true, false, List, [], ◌∷◌, ◌++◌, length}
 use Rattle.m51_stackbound.proofs.Common.{get_or, set, replicate, refl, sym, ap, subst, ◌∙◌, arith, ◌⊎◌, inl, inr}
-use Rattle.m51_stackbound.proofs.Common.{Contains, nat_eq, cases_lt, common_steps, get_or-set_same, get_or-set_other}
+use Rattle.m51_stackbound.proofs.Common.{Contains, nat_eq, cases_lt, common_steps, get_or-set_other}
 use Rattle.m51_stackbound.proofs.Common.{length-set, length-replicate, Contains-append_left, Contains-get_or}
 use Rattle.m51_stackbound.proofs.Common.{Contains-push, Contains-push_cases, first_or_after, none_in_empty, LayoutParts}
 use Rattle.m51_stackbound.proofs.Common.{At, same_or_not, AreCallRows, AreCleared, GoesOn, IsClosed, callee_row}
 use Rattle.m51_stackbound.proofs.Common.{CallsThrough}
-use Rattle.std.proofs.Common.{◌*◌, ◌↔◌}
+use Rattle.std.proofs.Common.{◌↔◌}
 use Rattle.std.proofs.Common.{append_assoc}
 use Rattle.std.proofs.Common.{length-append}
 use Rattle.std.specs.List.{sum_by}
-use Rattle.std.proofs.lemmas.Bool.Decides.{eqb_tells}
-use Rattle.std.proofs.lemmas.List.{append-nil, get_or_append_left, get_or-append_right}
+use Rattle.std.proofs.lemmas.List.{get_or_append_left}
 use Rattle.std.proofs.lemmas.List.Elements.{Contains-append_cases}
-use Rattle.std.proofs.lemmas.List.Folds.{sum_by-replicate}
 use Rattle.std.proofs.lemmas.List.Sums.{sum_by-set}
 use Rattle.m51_stackbound.specs.Callers.{AreMarked, HasCallees, Leads, Once}
 use Rattle.m51_stackbound.specs.Callers.{one_unmarked, Over, Walks, with_clear}
 use Rattle.m51_stackbound.specs.Depths.{Direct, Through}
 
-blank_mark : (n k : ℕ) → get_or (replicate n false) k false ≡ false
-blank_mark n k = grind (arith, common_steps)
-
 pub marks_len : (count : ℕ) (marks : List Bool) → marks ≡ replicate count false → length marks ≡ count
 marks_len count marks e = rw e (length-replicate {A = Bool} count false)
 
 pub same_when : (a b : ℕ) → nat_eq a b ≡ true → a ≡ b
-same_when a b e = elim (eqb_tells a b) [
-  | inl same ↦ same.1
-  | inr other ↦ absurd (cc (e, other.0))
-]
+same_when a b e = grind arith
 
 pub marked_none : (count : ℕ) (marks : List Bool) → count ≡ 65536 → marks ≡ replicate count false → AreMarked [] marks
-marked_none count marks is e = subst (λ (ms : List Bool). AreMarked [] ms) (sym e) (record {
-  len = length-replicate {A = Bool} count false ∙ is;
-  count = let sums : sum_by one_unmarked (replicate count false) ≡ count * 1 =
-      sum_by-replicate one_unmarked count false in omega (arith, is, sums);
-  only = λ a k. absurd (cc (k, blank_mark count a));
-  all = λ a k. absurd (none_in_empty a k);
-})
+marked_none count marks is e = grind (arith, common_steps)
 
 -- a start that is found already
 pub goes_nowhere : (old : List ℕ) (a : ℕ) → Contains old a → GoesOn old (a ∷ []) old
-goes_nowhere old a there = record {
-  more = [];
-  is = sym (append-nil old);
-  from = λ b k. absurd (none_in_empty b k);
-  all = λ b k. elim (first_or_after a [] b k) [
-    | inl here ↦ subst (λ c. Contains old c) here there
-    | inr none ↦ absurd (none_in_empty b none)
-  ];
-}
+goes_nowhere old a there = grind (arith, common_steps)
 
 -- a new one
 pub goes_one : (old : List ℕ) (a : ℕ) → GoesOn old (a ∷ []) (old ++ a ∷ [])
-goes_one old a = record {
-  more = a ∷ [];
-  is = refl;
-  from = λ b k. k;
-  all = λ b k. elim (first_or_after a [] b k) [
-    | inl here ↦ subst (λ c. Contains (old ++ a ∷ []) c) here (Contains-push old a)
-    | inr none ↦ absurd (none_in_empty b none)
-  ];
-}
+goes_one old a = grind (arith, Contains-push old a)
 
 unmarked : (starts : List ℕ) (a : ℕ) (mark : Bool) → (Contains starts a → ⊥) → (mark ≡ true → Contains starts a)
     → mark ≡ false
@@ -79,45 +49,34 @@ marked_more starts marks a few absent h =
     ≡ sum_by one_unmarked marks + 0 = sum_by-set one_unmarked marks a true false inside in
     record {
       len = length-set marks a true ∙ h.len;
-      count = omega (arith, h.count, sums, was, length-append starts (a ∷ []));
+      count = omega (arith, length-append starts (a ∷ []));
       only = λ b k. elim (same_or_not b a) [
-        | inl e ↦ subst (λ n. Contains (starts ++ a ∷ []) n) (sym e) (Contains-push starts a)
+        | inl e ↦ rw e (Contains-push starts a)
         | inr ne ↦ Contains-append_left starts (a ∷ []) b
             (h.only b (sym (get_or-set_other marks a b true false ne) ∙ k))
       ];
-      all = λ b k. elim (same_or_not b a) [
-        | inl e ↦ ap (λ n. get_or (set marks a true) n false) e ∙ get_or-set_same marks a true false inside
-        | inr ne ↦ get_or-set_other marks a b true false ne
-            ∙ elim (Contains-push_cases starts a b k) [
-              | inl before ↦ h.all b before
-              | inr here ↦ absurd (ne (sym here))
-            ]
-      ];
+      all = λ b k. grind (
+        arith,
+        common_steps,
+        same_or_not b a,
+        get_or-set_other marks a b true false,
+        Contains-push_cases starts a b k,
+        h.all b,
+      );
     }
-
-pub goes_from : (old : List ℕ) → GoesOn old [] old
-goes_from old = record {
-  more = [];
-  is = sym (append-nil old);
-  from = λ b k. k;
-  all = λ b k. absurd (none_in_empty b k);
-}
 
 -- one start more
 pub goes_more : (old now new xs : List ℕ) (x : ℕ) → GoesOn old xs now → GoesOn now (x ∷ []) new
     → GoesOn old (xs ++ x ∷ []) new
 goes_more old now new xs x g h = record {
   more = g.more ++ h.more;
-  is = h.is ∙ ap (λ (l : List ℕ). l ++ h.more) g.is ∙ append_assoc old g.more h.more;
+  is = cc (append_assoc old g.more h.more);
   from = λ b k. elim (Contains-append_cases g.more h.more b k) [
     | inl early ↦ Contains-append_left xs (x ∷ []) b (g.from b early)
-    | inr late ↦ elim (first_or_after x [] b (h.from b late)) [
-      | inl here ↦ subst (λ c. Contains (xs ++ x ∷ []) c) here (Contains-push xs x)
-      | inr none ↦ absurd (none_in_empty b none)
-    ]
+    | inr late ↦ grind (arith, first_or_after x [] b (h.from b late), Contains-push xs x)
   ];
   all = λ b k. elim (Contains-push_cases xs x b k) [
-    | inl early ↦ subst (λ (l : List ℕ). Contains l b) (sym h.is) (Contains-append_left now h.more b (g.all b early))
+    | inl early ↦ rw h.is (Contains-append_left now h.more b (g.all b early))
     | inr here ↦ h.all b (0, omega arith, here)
   ];
 }
@@ -125,25 +84,27 @@ goes_more old now new xs x g h = record {
 -- what a continued list has
 module _ (old starts new : List ℕ) (g : GoesOn old starts new) where
   pub went_kept : (a : ℕ) → Contains old a → Contains new a
-  went_kept a k = subst (λ (l : List ℕ). Contains l a) (sym g.is) (Contains-append_left old g.more a k)
+  went_kept a k = rw g.is (Contains-append_left old g.more a k)
 
   pub went_from : (a : ℕ) → Contains new a → Contains old a ⊎ Contains starts a
-  went_from a k = elim (Contains-append_cases old g.more a (subst (λ (l : List ℕ). Contains l a) g.is k)) [
+  went_from a k = elim (Contains-append_cases old g.more a (rw g.is at k)) [
     | inl before ↦ inl before
     | inr late ↦ inr (g.from a late)
   ]
 
   pub went_front : (i d : ℕ) → i < length old → get_or new i d ≡ get_or old i d
-  went_front i d below = ap (λ (l : List ℕ). get_or l i d) g.is ∙ grind (arith, common_steps, below)
+  went_front i d below = grind (arith, common_steps)
 
 -- an element that was added
 added : (old more now : List ℕ) (n : ℕ) → now ≡ old ++ more → length old ≤ n → n < length now
     → Contains more (get_or now n 0)
 added old more now n is high below =
-    let at : get_or now n 0 ≡ get_or more (n - length old) 0 = ap (λ (l : List ℕ). get_or l n 0) is
-    ∙ get_or-append_right old more (length old) n 0 refl high in
-    let long : length now ≡ length old + length more = ap (λ (l : List ℕ). length l) is ∙ length-append old more in
-    subst (λ x. Contains more x) (sym at) (Contains-get_or more (n - length old) 0 (omega (arith, high, below, long)))
+    grind (
+      arith,
+      common_steps,
+      Contains-get_or more (n - length old) 0
+          (omega (arith, high, below, (ap (λ (l : List ℕ). length l) is ∙ length-append old more))),
+    )
 
 -- the walk: what it adds is led to, and whom the starts that were looked at call is found
 pub record IsWalking (rows : List (List ℕ)) (from : ℕ) (old starts : List ℕ) (next : ℕ) : Type 0 where
@@ -161,7 +122,7 @@ module _ (rows : List (List ℕ)) (from : ℕ) (old : List ℕ) where
     is = g.is;
     only = λ a k. Once a (g.from a k);
     begun = g.all;
-    looked = λ i high low below a k. absurd (omega (arith, high, low));
+    looked = grind arith;
   }
 
   pub walk_step : (now new : List ℕ) (next : ℕ) → length old ≤ next → next < length now
@@ -184,10 +145,7 @@ module _ (rows : List (List ℕ)) (from : ℕ) (old : List ℕ) where
               (w.looked i up early within a
               (subst (λ n. Contains (callee_row rows n) a) (went_front now (callee_row rows via) new g i 0 within) k))
           | inr late ↦
-              let is : i ≡ next = omega (arith, late, low) in
-              let same : get_or new i 0 ≡ via = ap (λ n. get_or new n 0) is
-              ∙ went_front now (callee_row rows via) new g next 0 below in
-              g.all a (subst (λ n. Contains (callee_row rows n) a) same k)
+              grind (arith, common_steps)
         ];
       }
 
@@ -216,31 +174,30 @@ module _ (rows : List (List ℕ)) (from : ℕ) (old : List ℕ) where
     led_found closed _ (Once a called) = w.begun a called
     led_found closed _ (Over via a before called) =
         elim (w.closed via (led_found closed via before)) [
-          | inl early ↦ subst (λ (l : List ℕ). Contains l a) (sym w.is)
-              (Contains-append_left old w.more a (closed via early a called))
+          | inl early ↦ rw w.is (Contains-append_left old w.more a (closed via early a called))
           | inr here ↦ here a called
         ]
 
     -- where nothing is added, a start that is new does not call itself
     pub alone : IsClosed rows old → (Contains old from → ⊥) → length new ≡ length old → Leads rows from from → ⊥
     alone closed fresh same h =
-        elim (Contains-append_cases old w.more from
-        (subst (λ (l : List ℕ). Contains l from) w.is (led_found closed from h))) [
-          | inl early ↦ fresh early
-          | inr late ↦ omega (arith, same, late.1, ap (λ (l : List ℕ). length l) w.is, length-append old w.more)
-        ]
+        grind (
+          arith,
+          common_steps,
+          Contains-append_cases old w.more from
+              (subst (λ (l : List ℕ). Contains l from) w.is (led_found closed from h)),
+        )
 
     -- and with the start itself it is closed again
     pub closed_again : (after : List ℕ) → IsClosed rows old → GoesOn new (from ∷ []) after → IsClosed rows after
     closed_again after closed g a k b called =
         went_kept new (from ∷ []) after g b (elim (went_from new (from ∷ []) after g a k) [
           | inl before ↦ elim (w.closed a before) [
-            | inl early ↦ subst (λ (l : List ℕ). Contains l b) (sym w.is)
-                (Contains-append_left old w.more b (closed a early b called))
+            | inl early ↦ rw w.is (Contains-append_left old w.more b (closed a early b called))
             | inr here ↦ here b called
           ]
           | inr last ↦ elim (first_or_after from [] a last) [
-            | inl here ↦ w.begun b (subst (λ n. Contains (callee_row rows n) b) (sym here) called)
+            | inl here ↦ w.begun b (rw here called)
             | inr none ↦ absurd (none_in_empty a none)
           ]
         ])
@@ -249,7 +206,7 @@ module _ (rows : List (List ℕ)) (from : ℕ) (old : List ℕ) where
 pub walk_finds : (rows : List (List ℕ)) (from : ℕ) (new : List ℕ) → Walks rows from [] new → (a : ℕ)
     → Contains new a ↔ Leads rows from a
 walk_finds rows from new w a = (
-  λ k. w.only a (subst (λ (l : List ℕ). Contains l a) w.is k),
+  λ k. w.only a (rw w.is at k),
   λ h. led_found rows from [] new w (λ b k. absurd (none_in_empty b k)) a h,
 )
 
@@ -258,20 +215,11 @@ pub cleared_more : (rows : List (List ℕ)) (cleared : List Bool) (start : ℕ) 
     → (is_clear ≡ true → Leads rows start start → ⊥) → AreCleared rows cleared
     → AreCleared rows (with_clear cleared start is_clear)
 cleared_more rows cleared start false few apart h = h
-cleared_more rows cleared start true few apart h = record {
-  len = length-set cleared start true ∙ h.len;
-  apart = λ a k. elim (same_or_not a start) [
-    | inl e ↦ subst (λ n. Leads rows n n → ⊥) (sym e) (apart refl)
-    | inr ne ↦ h.apart a (sym (get_or-set_other cleared start a true false ne) ∙ k)
-  ];
-}
+cleared_more rows cleared start true few apart h = grind (arith, common_steps)
 
 pub cleared_none : (rows : List (List ℕ)) (count : ℕ) (cleared : List Bool) → count ≡ 65536
     → cleared ≡ replicate count false → AreCleared rows cleared
-cleared_none rows count cleared is e = subst (λ (marks : List Bool). AreCleared rows marks) (sym e) (record {
-  len = length-replicate {A = Bool} count false ∙ is;
-  apart = λ a k. absurd (cc (k, blank_mark count a));
-})
+cleared_none rows count cleared is e = grind (arith, common_steps)
 
 -- the rows of a program lead from a start to those that it calls, directly or through others
 module _ (l : LayoutParts) (image : List ℕ) (rows : List (List ℕ)) (are : AreCallRows l image rows) where

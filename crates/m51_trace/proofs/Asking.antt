@@ -3,9 +3,8 @@ use Rattle.std.proofs.Common.{◌≡◌, ◌∙◌, Bool, true, false, cond, Lis
 use Rattle.std.specs.Prelude.{IfSome, is_none, option_and_then}
 use Rattle.std.proofs.lemmas.Option.{none-some}
 use Rattle.m51_args.specs.Jobs.{job_of}
-use Rattle.m51_chain.specs.declared.work.Task.{Task}
-use Rattle.m51_chain.specs.declared.work.Task.TheVariants as task
-use Rattle.m51_chain.specs.BuildTasks.{IsBuildTask, IsRunFor, IsRunTask}
+use Rattle.m51_chain.specs.declared.work.Plan.{Plan}
+use Rattle.m51_chain.specs.BuildPlans.{IsBuildPlan, IsRunFor, IsRunPlan}
 use Rattle.m51_chain.proofs.PlannedRuns.{run_weaker}
 use Rattle.m51_jobs.specs.declared.job.BuildJob.{BuildJob}
 use Rattle.m51_jobs.specs.declared.job.Job.{Job}
@@ -13,13 +12,13 @@ use Rattle.m51_jobs.specs.declared.job.Job.TheVariants as jobs
 use Rattle.m51_shelf.specs.Shelf.{Files}
 use Rattle.m51_shelf.specs.States.{ReadAt}
 use Rattle.m51_steps.specs.declared.shape.Shape.{Shape}
-use Rattle.m51_verbs.specs.declared.plan.Plan.TheVariants as plan
-use Rattle.m51_verbs.specs.declared.work.Finish.{Finish}
-use Rattle.m51_verbs.specs.declared.work.Finish.TheVariants as ending
-use Rattle.m51_verbs.specs.Outcome.{Answer, refusal}
+use Rattle.m51_chain.specs.declared.work.Plan.TheVariants as plan
+use Rattle.m51_chain.specs.declared.work.Finish.{Finish}
+use Rattle.m51_chain.specs.declared.work.Finish.TheVariants as ending
+use Rattle.m51_chain.specs.Outcome.{Answer, refusal}
 use Rattle.m51_trace.specs.declared.requests.Chosen.{Chosen}
 use Rattle.m51_trace.specs.Requests.{Request, build_words, choice_of, is_run, request_by, request_of}
-use Rattle.m51_trace.specs.Traces.{IsRun, OfEnding, OfTask, run_answer}
+use Rattle.m51_trace.specs.Traces.{IsRun, OfEnding, OfPlan, run_answer}
 
 -- what the words of a choice ask for
 abbrev pub asked_for : List (List ℕ) → Chosen → Request
@@ -56,18 +55,18 @@ not_faulty words r is faulty = absurd (none-some r (sym faulty ∙ is))
 -- ---- what is planned for them
 
 -- the words are those of a build that keeps no HEX, and this is planned for it
-pub record IsPlannedRun (asked : List (List ℕ)) (holds : Option Files) (before after : ReadAt) (it : Task)
+pub record IsPlannedRun (asked : List (List ℕ)) (holds : Option Files) (before after : ReadAt) (it : Plan)
     : Type 0 where
   pub job : BuildJob
   pub is : job_of asked ≡ Some (jobs.Build job)
-  pub run : IsRunTask (IsRunFor job holds before after) it
+  pub run : IsRunPlan (IsRunFor job holds before after) it
 
 no_name : (hex : Option (List ℕ)) → is_none hex ≡ true → hex ≡ None
 no_name None h = refl
 no_name (Some name) h = absurd (cc h)
 
-planned_for : (asked : List (List ℕ)) (job : Option Job) (holds : Option Files) (before after : ReadAt) (it : Task)
-    → job_of asked ≡ job → is_run job ≡ true → IfSome job (λ job. IsBuildTask job holds before after it)
+planned_for : (asked : List (List ℕ)) (job : Option Job) (holds : Option Files) (before after : ReadAt) (it : Plan)
+    → job_of asked ≡ job → is_run job ≡ true → IfSome job (λ job. IsBuildPlan job holds before after it)
     → IsPlannedRun asked holds before after it
 planned_for asked (Some (jobs.Build job)) holds before after it is run planned =
     record { job = job; is = is; run = planned (no_name job.hex run) }
@@ -80,9 +79,9 @@ planned_for asked (Some (jobs.Stack other)) holds before after it is run planned
 planned_for asked (Some (jobs.Party other)) holds before after it is run planned = absurd (cc run)
 planned_for asked None holds before after it is run planned = absurd (cc run)
 
-pub planned_run : (asked : List (List ℕ)) (holds : Option Files) (before after : ReadAt) (it : Task) (is : Bool)
+pub planned_run : (asked : List (List ℕ)) (holds : Option Files) (before after : ReadAt) (it : Plan) (is : Bool)
     → is ≡ is_run (job_of asked) → is ≡ true
-    → IfSome (job_of asked) (λ job. IsBuildTask job holds before after it)
+    → IfSome (job_of asked) (λ job. IsBuildPlan job holds before after it)
     → IsPlannedRun asked holds before after it
 planned_run asked holds before after it is run held planned =
     planned_for asked (job_of asked) holds before after it refl (sym run ∙ held) planned
@@ -94,10 +93,11 @@ ends_so job holds before after text (ending.Run board steps) h = tt
 ends_so job holds before after text ending.Ran h = absurd h.run.run
 ends_so job holds before after text ending.Event h = absurd h.run.run
 ends_so job holds before after text (ending.FlatRun board steps) h = absurd h.run.run
+ends_so job holds before after text (ending.Party boards steps) h = absurd h.run.run
 
-pub is_run_task : (asked : List (List ℕ)) (holds : Option Files) (before after : ReadAt) (it : Task)
-    → IsPlannedRun asked holds before after it → IsRunTask (λ text end. IsRun end) it
-is_run_task asked holds before after it h =
+pub is_run_plan : (asked : List (List ℕ)) (holds : Option Files) (before after : ReadAt) (it : Plan)
+    → IsPlannedRun asked holds before after it → IsRunPlan (λ text end. IsRun end) it
+is_run_plan asked holds before after it h =
     run_weaker (IsRunFor h.job holds before after) (λ text end. IsRun end) (ends_so h.job holds before after) it h.run
 
 -- what is so of the answer
@@ -107,10 +107,10 @@ of_ending shape text (ending.Run board steps) P Q on h = on (run_answer shape te
 of_ending shape text ending.Ran P Q on h = h
 of_ending shape text ending.Event P Q on h = h
 of_ending shape text (ending.FlatRun board steps) P Q on h = h
+of_ending shape text (ending.Party boards steps) P Q on h = h
 
-pub of_task : (shape : Shape) (it : Task) (P Q : Answer → Type 0) → ((a : Answer) → P a → Q a)
-    → OfTask shape it P → OfTask shape it Q
-of_task shape (task.Alone (plan.Refused told text)) P Q on h = on (refusal told text) h
-of_task shape (task.Alone (plan.Accepted None text end)) P Q on h = of_ending shape text end P Q on h
-of_task shape (task.Alone (plan.Accepted (Some file) text end)) P Q on h = h
-of_task shape (task.Party boards steps) P Q on h = h
+pub of_plan : (shape : Shape) (it : Plan) (P Q : Answer → Type 0) → ((a : Answer) → P a → Q a)
+    → OfPlan shape it P → OfPlan shape it Q
+of_plan shape (plan.Refused told text) P Q on h = on (refusal told text) h
+of_plan shape (plan.Accepted None text end) P Q on h = of_ending shape text end P Q on h
+of_plan shape (plan.Accepted (Some file) text end) P Q on h = h

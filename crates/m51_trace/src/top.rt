@@ -1,24 +1,23 @@
 //! The top call: what the arguments ask for.
 ghost use Rattle.std.specs.Prelude.{◌≡◌, ◌≤◌, ◌++◌, IfOk, None, OnErr, Some};
 ghost use Rattle.m51_cells.specs.declared.limits.TheConstants.{MOST_STEPS};
-ghost use Rattle.m51_chain.specs.BuildTasks.{IsRunTask};
+ghost use Rattle.m51_chain.specs.BuildPlans.{IsRunPlan};
 ghost use Rattle.m51_jobs.specs.Texts.{texts};
 ghost use Rattle.m51_shelf.specs.States.{OnlyReads};
 ghost use Rattle.m51_steps.specs.Counts.{IsBlank};
 ghost use Rattle.m51_steps.specs.Traced.{traced_text};
 ghost use Rattle.m51_trace.specs.Requests.{choice_of, request_of};
-ghost use Rattle.m51_trace.specs.Traces.{IsRun, IsTraced, OfEnding, OfPlan, OfTask, usage_answer};
-ghost use Rattle.m51_verbs.specs.Carried.{IsTextWritten};
-ghost use Rattle.m51_verbs.specs.Outcome.{run_of, status_by};
+ghost use Rattle.m51_trace.specs.Traces.{IsRun, IsTraced, OfEnding, OfPlan, usage_answer};
+ghost use Rattle.m51_chain.specs.Carried.{IsTextWritten};
+ghost use Rattle.m51_chain.specs.Outcome.{run_of, status_by};
 
 use crate::requests::{Chosen, choice_of};
 use crate::words::{build_words, is_run};
 use m51_cells::{Event, NoMemory};
-use m51_chain::{Task, plan};
+use m51_chain::{Finish, Plan, Status, plan, status_told};
 use m51_shelf::{Failed, Shelf, Sink, write_whole};
 use m51_sim::Board;
 use m51_steps::{Counts, Shape, trace_run};
-use m51_verbs::{Finish, Plan, Status, status_told};
 use std::alloc::Global;
 
 // What is written where the arguments are faulty.
@@ -117,18 +116,19 @@ fn write_run<S: Sink>(
         Finish::Ran => unreachable!(),
         Finish::Event => unreachable!(),
         Finish::FlatRun { .. } => unreachable!(),
+        Finish::Party { .. } => unreachable!(),
     }
 }
 
 // Does what the plan of a build says that keeps no HEX: a refusal is written as `build` writes it.
-fn perform_plan<S: Sink>(
+fn perform<S: Sink>(
     out: &mut S,
     plan: Plan,
     shape: &Shape,
     counts: &mut Counts,
 ) -> Result<Status, Failed>
     requires blank { IsBlank counts.old }
-    requires run { IsRunTask (λ text end. IsRun end) (Task.Alone plan) }
+    requires run { IsRunPlan (λ text end. IsRun end) plan }
     ensures written { OfPlan shape.now plan (λ answer.
         IsTextWritten answer.status answer.text (S.state out.old) (S.state out.new) result) }
     ensures later { (S.state out.old).faults ≤ (S.state out.new).faults }
@@ -143,25 +143,6 @@ fn perform_plan<S: Sink>(
             Some(_) => unreachable!(),
             None => write_run(out, text.as_slice(), ending, shape, counts),
         },
-    }
-}
-
-// Does what the task of such a build says.
-fn perform<S: Sink>(
-    out: &mut S,
-    task: Task,
-    shape: &Shape,
-    counts: &mut Counts,
-) -> Result<Status, Failed>
-    requires blank { IsBlank counts.old }
-    requires run { IsRunTask (λ text end. IsRun end) task }
-    ensures written { OfTask shape.now task (λ answer.
-        IsTextWritten answer.status answer.text (S.state out.old) (S.state out.new) result) }
-    ensures later { (S.state out.old).faults ≤ (S.state out.new).faults }
-{
-    match task {
-        Task::Alone(plan) => perform_plan(out, plan, shape, counts),
-        Task::Party { .. } => unreachable!(),
     }
 }
 
@@ -186,8 +167,8 @@ fn trace_chosen<F: Shelf, S: Sink>(
     let has_run = is_run(alloc, asked)?;
     if has_run {
         let mut counts = Counts::make(alloc)?;
-        let task = plan(alloc, asked, files)?;
-        Ok(status_told(perform(out, task, &chosen.shape, &mut counts)))
+        let plan = plan(alloc, asked, files)?;
+        Ok(status_told(perform(out, plan, &chosen.shape, &mut counts)))
     } else {
         Ok(status_told(refuse(out)))
     }
@@ -203,7 +184,7 @@ pub(crate) fn trace<F: Shelf, S: Sink>(
     files: &mut F,
     out: &mut S,
 ) -> Status
-    // What is written is the answer for a task that is due for the words of `build`, the files and what the shelf did,
+    // What is written is the answer for a plan that is due for the words of `build`, the files and what the shelf did,
     // and this is a refusal of `build` or the trace of its run; or the usage, where the arguments are faulty; or
     // nothing, where memory runs out.
     ensures traced { IsTraced (texts words.now) (F.state files.old).holds (F.state files.old).reads

@@ -42,13 +42,7 @@ fn is_run_of(job: &Job) -> bool
 {
     match job {
         Job::Build(job) => keeps_no_hex(job),
-        Job::Asm(_) => false,
-        Job::Library(_) => false,
-        Job::Flat(_) => false,
-        Job::Gen(_) => false,
-        Job::Dis(_) => false,
-        Job::Stack(_) => false,
-        Job::Party(_) => false,
+        _ => false,
     }
 }
 

@@ -1,11 +1,12 @@
 use Rattle.m51_asm.proofs
 use Rattle.m51_asm.specs
 use proofs.Common.{◌≡◌, ◌++◌, [], ap, ◌∙◌, line_tree, located_value, here_at, here_of, or_next, body_of, if_fault}
-use proofs.Common.{AreNamesAt, fault_among, arith}
+use proofs.Common.{fault_among, arith, number_at, segment_number, ℕ}
 use Rattle.m51_emit.specs.Lines.{row_by}
-use specs.ObjectNames.{object_names}
+use specs.NamesAt.{names_at}
+use specs.ObjectSegments.{final}
 use specs.Publishing.{published_by, publics_among}
-use proofs.ToldLines.{place_is, names_of, object_names_are}
+use proofs.ToldLines.{place_is, names_of, names_mean}
 use proofs.PublishedNames.{published_is}
 use proofs.GivenLines.{next_given, content_is, unfaulted}
 use proofs.contents.give_line.Goals as goal
@@ -14,21 +15,25 @@ pub returns-clause-given : goal.returns-clause-given
 returns-clause-given c = λ lines a k ready is stands h.
     let t = c.args.text.now in
     let line = line_tree c.args.line.now in
-    let n = names_of t c.args.contents.now.set c.args.place.now.bank c.here_of-here.result in
+    let numbers = c.as_slice.result.now in
+    let each : (id : ℕ) → number_at numbers id ≡ segment_number lines a id =
+    λ id. ap (λ ns. number_at ns id) c.as_slice.ensures ∙ ready.numbered.each id in
+    let n = names_of t c.args.contents.now.set c.args.place.now.bank c.here_of-here.result numbers in
     let here : located_value c.here_of-here.result ≡ here_at a k =
     c.here_of-here.ensures ∙ ap (λ s. here_of s c.args.place.now.offset) c.segment.ensures
     ∙ place_is lines a k line is t ready c.args.place.now stands in
-    let names : AreNamesAt lines a k n =
-    object_names_are lines a k t ready c.args.contents.now.set h.sets c.args.place.now stands c.here_of-here.result
-    here in
+    let names : names_at n ≡ final lines a k =
+    names_mean lines a k t ready c.args.contents.now.set h.sets c.args.place.now stands c.here_of-here.result here
+    numbers each in
     let of = published_by n in
     let told = c.in_ok-told.ensures (a.form k)
     (c.row_of_code-row.ensures ∙ stands.row ∙ ap (λ l. row_by (a.form k) (body_of l)) is) in
     let content = ap (λ l. l.content) told in (
-      content_is lines a k line is (object_names n) names.meanings
+      content_is lines a k line is (names_at n) names
           c.in_ok-told.told.content content,
-      next_given lines a k line is c.args.contents.now _ h (object_names n) names.meanings of
-          (λ i name. published_is lines a t ready k _ _ _ names name i) c.row_at.result c.in_ok-told.told.content
+      next_given lines a k line is c.args.contents.now _ h (names_at n) names of
+          (λ i name. published_is lines a t ready numbers each k _ _ _ names name i) c.row_at.result
+          c.in_ok-told.told.content
           (c.in_ok-take_set.ensures lines a k is stands h.sets)
           (ap (λ l. l.made) told)
           (c.in_ok-unpublished.ensures.publics ∙ ap (λ ns. c.args.contents.now.publics ++ publics_among of ns)

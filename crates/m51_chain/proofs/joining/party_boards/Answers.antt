@@ -15,6 +15,6 @@ pub returns : goal.returns
 returns c =
     let inputs = inputs_tree c.in_ok-modules.field-0 in
     let answered = rw c.as_slice.ensures at c.in_ok-modules.ensures in
-    let given = party_given c.args.job.now c.args.contents.now inputs c.requires.fit c.requires.contents.count
+    let given = party_given c.args.job.now c.args.contents.now inputs c.requires.fit c.requires.contents
     answered in
     joined c.args.job.now c.args.contents.now inputs c.boards_alone.result answered given c.boards_alone.ensures

@@ -1,6 +1,5 @@
 use Rattle.std.proofs.Common.{rules}
-use Rattle.m51_chain.specs.declared.work.Task.TheVariants as task
-use Rattle.m51_verbs.specs.Outcome.{long_answer}
+use Rattle.m51_chain.specs.Outcome.{long_answer}
 use Rattle.m51_chain.proofs.PlannedRuns.{build_refused, build_task}
 use Rattle.m51_chain.proofs.planning.plan_few.Goals as goal
 
@@ -12,14 +11,8 @@ returns-in-Ok-clause-run g c =
 
 pub returns-in-Err-TooLong-clause-run : goal.returns-in-Err-TooLong-clause-run
 returns-in-Err-TooLong-clause-run g c =
-    build_refused c.args.job.now (g.F.Shelf.state c.args.files.now).holds (g.F.Shelf.state c.args.files.now).reads
-    (g.F.Shelf.state c.read_all.new.files).reads
-    (task.Alone c.in_ok-refuse_long_file-in-Err-TooLong.field-0) long_answer
-    c.in_ok-refuse_long_file-in-Err-TooLong.ensures tt
+    build_refused c.args.job.now _ _ _ c.refuse_long_file.result long_answer c.refuse_long_file.ensures tt
 
 pub returns-in-Err-Failed-clause-run : goal.returns-in-Err-Failed-clause-run
 returns-in-Err-Failed-clause-run g c =
-    build_refused c.args.job.now (g.F.Shelf.state c.args.files.now).holds (g.F.Shelf.state c.args.files.now).reads
-    (g.F.Shelf.state c.read_all.new.files).reads
-    (task.Alone c.in_ok-refuse_unread_file-in-Err-Failed.field-0) _
-    c.in_ok-refuse_unread_file-in-Err-Failed.ensures tt
+    build_refused c.args.job.now _ _ _ c.refuse_unread_file.result _ c.refuse_unread_file.ensures tt

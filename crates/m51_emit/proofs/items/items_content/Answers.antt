@@ -11,7 +11,7 @@ use Rattle.m51_emit.proofs.items.items_content.Goals as goal
 
 pub loop-item-init : goal.loop-item-init
 loop-item-init g c =
-    let names = g.L.Lookup.meanings c.args.names.now in
+    let names = g.N.Places.meanings c.args.names.now in
     let items : List ItemTree = map item_tree c.args.items.now in
     let whole : EmittedContent = joined (map (item_content names c.args.width) items) in
     let outcome : ItemTree → OperandOutcome = λ item. item_outcome (item_field names c.args.width item) in
@@ -24,7 +24,7 @@ loop-item-init g c =
 
 pub loop-item-preserved : goal.loop-item-preserved
 loop-item-preserved g c =
-    let names = g.L.Lookup.meanings c.args.names.now in
+    let names = g.N.Places.meanings c.args.names.now in
     let items : List ItemTree = map item_tree c.args.items.now in
     let whole : EmittedContent = joined (map (item_content names c.args.width) items) in
     let outcome : ItemTree → OperandOutcome = λ item. item_outcome (item_field names c.args.width item) in

@@ -9,7 +9,7 @@ use Rattle.m51_emit.proofs.items.items_content.Given as goal
 -- what is done, before what the other items give, is the whole
 abbrev pub invariant-loop-item : goal.invariant-loop-item
 invariant-loop-item g l =
-    let names = g.L.Lookup.meanings l.names in
+    let names = g.N.Places.meanings l.names in
     let items = map item_tree l.items in
     let outcome = λ (item : ItemTree). item_outcome (item_field names l.width item) in
     record {

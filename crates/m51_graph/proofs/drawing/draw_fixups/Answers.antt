@@ -1,13 +1,9 @@
-use Rattle.m51_graph.proofs.Drawn.{field_there, fixup_target_there}
+use Rattle.m51_resolve.proofs.Referring.{fixup_there}
+use Rattle.m51_graph.proofs.Drawn.{listed}
 use Rattle.m51_graph.proofs.drawing.draw_fixups.Goals as goal
 
-pub fixup_edge-requires-clause-field : goal.fixup_edge-requires-clause-field
-fixup_edge-requires-clause-field c =
-    field_there c.args.joined.now c.args.module c.args.parts.now c.requires.there c.fixups-fixup-items.ensures.valid
-    c.fixups-fixup-items.result.now c.fixups-fixup-items.ensures.list c.loop-fixup.fixup-index _ c.loop-fixup-test.true
-
-pub fixup_edge-requires-clause-target : goal.fixup_edge-requires-clause-target
-fixup_edge-requires-clause-target c =
-    fixup_target_there c.args.joined.now c.args.module c.args.parts.now c.requires.there
-    c.fixups-fixup-items.ensures.valid
-    c.fixups-fixup-items.result.now c.fixups-fixup-items.ensures.list c.loop-fixup.fixup-index _ c.loop-fixup-test.true
+pub fixup_edge-requires-clause-there : goal.fixup_edge-requires-clause-there
+fixup_edge-requires-clause-there c =
+    fixup_there c.args.joined.now c.args.module c.args.parts.now c.requires.there _ c.fixups-fixup-items.ensures.valid
+    (listed c.fixups-fixup-items.result.now c.args.parts.now.fixups c.loop-fixup.fixup-index _
+    c.fixups-fixup-items.ensures.list c.loop-fixup-test.true)

@@ -1,17 +1,13 @@
-use Rattle.m51_graph.proofs.Common.{◌||◌, ℕ, List, Option, length, sym, ap, subst, ◌∙◌, edge_named, is_edge, pairs}
-use Rattle.std.specs.Prelude.{IfSome}
-use Rattle.m51_graph.specs.Conditions.{IsEdgeWithin}
-use Rattle.m51_graph.proofs.Cutting.{names_more, named_there}
+use Rattle.m51_graph.proofs.Common.{◌||◌, ℕ, List, Option, ap, ◌∙◌, edge_named, is_edge, pairs}
+use Rattle.m51_graph.proofs.Cutting.{names_more}
+use Rattle.m51_graph.proofs.Within.{named_within}
 use Rattle.m51_graph.proofs.drawing.put_named.Goals as goal
 
 pub put_edge-requires : goal.put_edge-requires
 put_edge-requires c =
     let titles : List (List ℕ) = c.args.titles.now in
     let name : List ℕ = c.name-item.result in
-    subst (λ (found : Option (ℕ × ℕ)). IfSome found (λ edge. IsEdgeWithin c.loop-name.set.count edge))
-    (sym c.edge_named.ensures)
-    (subst (λ n. IfSome (edge_named titles c.args.from.now name) (λ edge. IsEdgeWithin n edge))
-    (sym (c.loop-name.invariant.count ∙ c.requires)) (named_there titles c.args.from.now name))
+    rw (c.edge_named.ensures, c.loop-name.invariant.count, c.requires) (named_within titles c.args.from.now name)
 
 pub loop-name-preserved : goal.loop-name-preserved
 loop-name-preserved c =

@@ -1,4 +1,6 @@
-use Rattle.std.proofs.Common.{◌≡◌, ℕ, ◌+◌, ◌≤◌, List, [], ◌∷◌, length, ap, subst, arith}
+use Rattle.std.proofs.Common.{◌≡◌, ℕ, ◌+◌, ◌≤◌, List, [], ◌∷◌, length, sym, ap, subst, arith}
+use Rattle.std.specs.List.{Contains}
+use Rattle.m51_module.specs.declared.content.Piece.{Piece}
 use Rattle.m51_linker.specs.Image.{placed_piece}
 use Rattle.m51_linker.specs.Memory.{AreWritten, held_at}
 use Rattle.m51_linker.specs.Targets.{address_of}
@@ -11,9 +13,9 @@ put-requires c =
     let p = c.piece-item.result in
     let room : address_of c.args.joined.now c.args.placing.now c.args.module p.segment p.offset + length
     p.bytes ≤ 65536 =
-    piece_room c.args.joined.now c.args.placing.now c.requires.placed c.args.module c.args.parts.now c.requires.there
-    c.pieces-piece-items.result.now c.pieces-piece-items.ensures.list c.loop-piece.piece-index p c.loop-piece-test.true
-    c.piece-item.is in
+    piece_room c.args.joined.now c.args.placing.now c.requires.placed c.args.module c.args.parts.now c.requires.there p
+    (subst (λ (ps : List Piece). Contains ps p) c.pieces-piece-items.ensures.list
+    (c.loop-piece.piece-index, c.loop-piece-test.true, sym c.piece-item.is)) in
     let count : length c.as_slice.result.now ≡ length p.bytes = ap (λ (xs : List ℕ). length xs) c.as_slice.ensures in
     omega (arith, room, count, c.address_of-at.ensures, c.loop-piece.auto.memory, c.requires.whole)
 

@@ -1,3 +1,4 @@
+use Rattle.m51_graph.proofs.Drawn.{listed}
 use Rattle.m51_linker.specs.Broken.{broken_spot}
 use Rattle.m51_linker.specs.Image.{placed_field}
 use Rattle.m51_linker.specs.Memory.{image_at}
@@ -9,7 +10,8 @@ use Rattle.m51_linker.proofs.patching.patch_module.Goals as goal
 pub patch_fixup-spot-requires-clause-placed : goal.patch_fixup-spot-requires-clause-placed
 patch_fixup-spot-requires-clause-placed c =
     fixup_placed c.args.joined.now c.args.placing.now c.requires.placed c.args.module c.args.parts.now c.requires.there
-    c.fixups-fixup-items.result.now c.fixups-fixup-items.ensures.list c.loop-fixup.fixup-index _ c.loop-fixup-test.true
+    _ (listed c.fixups-fixup-items.result.now c.args.parts.now.fixups c.loop-fixup.fixup-index _
+    c.fixups-fixup-items.ensures.list c.loop-fixup-test.true)
 
 pub loop-fixup-preserved : goal.loop-fixup-preserved
 loop-fixup-preserved c =

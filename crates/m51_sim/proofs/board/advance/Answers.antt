@@ -19,22 +19,23 @@ pub returns-in-Ok-clause-order : goal.returns-in-Ok-clause-order
 returns-in-Ok-clause-order c =
     let inputs = with_extra c.args.extra.now (inputs_of c.args.chip.now.script) in
     let allowed : Allowed = record { effect = c.judge.new.draft.effect; step = c.in-Ok.step } in
-    let passed : IsPassed inputs c.args.chip.now c.pass.new.self allowed.effect c.pass.result =
-    record { port = c.pass.ensures.port; passed = c.pass.ensures.passed } in
-    order_after c.args.monitor.now c.commit.new.monitor c.args.chip.now.cpu c.pass.new.self.cpu allowed
+    let passed : IsPassed inputs c.args.chip.now c.pass-told.new.self allowed.effect c.pass-told.result =
+    record { port = c.pass-told.ensures.port; passed = c.pass-told.ensures.passed } in
+    order_after c.args.monitor.now c.commit.new.monitor c.args.chip.now.cpu c.pass-told.new.self.cpu allowed
     c.cite_stores.ensures.sound c.cite_stores.ensures.records c.requires.order c.in-Ok.ensures.may
     c.commit.ensures.layout (ap (λ (m : Separate). m.records) c.commit.ensures.memory)
-    (passed_keeps inputs c.args.chip.now c.pass.new.self allowed.effect c.pass.result passed)
+    (passed_keeps inputs c.args.chip.now c.pass-told.new.self allowed.effect c.pass-told.result passed)
 
 pub returns-in-Ok-clause-step : goal.returns-in-Ok-clause-step
 returns-in-Ok-clause-step c =
     let inputs = with_extra c.args.extra.now (inputs_of c.args.chip.now.script) in
-    step_done c.args.monitor.now.layout c.args.chip.now.image inputs c.args.chip.now
+    rw c.keep_entries.ensures.told
+    (step_done c.args.monitor.now.layout c.args.chip.now.image inputs c.args.chip.now
     (held_memory c.args.monitor.now)
-    c.pass.new.self (held_memory c.commit.new.monitor)
-    (record { effect = c.judge.new.draft.effect; step = c.in-Ok.step }) c.pass.result
+    c.pass-told.new.self (held_memory c.commit.new.monitor)
+    (record { effect = c.judge.new.draft.effect; step = c.in-Ok.step }) c.pass-told.result
     c.in-Ok.ensures.value c.commit.ensures.memory
-    (record { port = c.pass.ensures.port; passed = c.pass.ensures.passed })
+    (record { port = c.pass-told.ensures.port; passed = c.pass-told.ensures.passed }))
 
 pub returns-in-Err-clause-step : goal.returns-in-Err-clause-step
 returns-in-Err-clause-step c =

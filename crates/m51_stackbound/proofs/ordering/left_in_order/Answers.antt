@@ -1,4 +1,3 @@
-use Rattle.m51_stackbound.proofs.Common.{◌≡◌, length}
 use Rattle.m51_stackbound.proofs.Walks.{marks_len}
 use Rattle.m51_stackbound.proofs.ordering.left_in_order.Goals as goal
 use Rattle.m51_stackbound.proofs.ordering.left_in_order.Goals.{in-Some+in_ok-follow}

@@ -1,6 +1,6 @@
 use Rattle.m51_cells.proofs.Fronts.{front_more}
 use Rattle.m51_sim.proofs.Tellings.{front_of_stop}
-use Rattle.m51_verbs.proofs.Carries.{written_after}
+use Rattle.m51_chain.proofs.Carries.{written_after}
 use Rattle.m51_trace.proofs.top.write_both.Goals as goal
 
 pub returns-in-Err-clause-written : goal.returns-in-Err-clause-written

@@ -1,5 +1,5 @@
 use Rattle.std.proofs.Common.{◌∙◌, ap, sym}
-use Rattle.m51_verbs.specs.Outcome.{status_by}
+use Rattle.m51_chain.specs.Outcome.{status_by}
 use Rattle.m51_trace.proofs.top.write_trace.Goals as goal
 
 pub returns-in-Ok-clause-written : goal.returns-in-Ok-clause-written

@@ -1,0 +1,9 @@
+use Rattle.std.proofs.Common.{◌≡◌, drop}
+use Rattle.m51_chain.specs.Edits.{object_edits}
+use Rattle.m51_chain.proofs.Objects.{edits_before}
+use Rattle.m51_chain.proofs.editing.object_edits.Given as goal
+
+abbrev pub invariant-loop-at : goal.invariant-loop-at
+invariant-loop-at l =
+    edits_before l.edits (object_edits l.operation (drop l.at l.names) (drop l.at l.files))
+    ≡ object_edits l.operation l.names l.files

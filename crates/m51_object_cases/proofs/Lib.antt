@@ -1,3 +1,0 @@
-mod SampleLayout
-mod SampleModule
-mod SamplePublic

@@ -1,0 +1,7 @@
+use Rattle.m51_place.proofs.Common.{◌≡◌, ◌++◌, filter, range_with_len, edge_test}
+use Rattle.m51_place.specs.Placement.{pairs_with}
+use Rattle.m51_place.proofs.layouts.add_callers.Given as goal
+
+abbrev pub invariant-loop-caller : goal.invariant-loop-caller
+invariant-loop-caller l = l.pairs.items ≡ l.fn.pairs.items ++ pairs_with l.index
+    (filter (λ caller. edge_test l.graph.edges caller l.unit) (range_with_len 0 l.caller))

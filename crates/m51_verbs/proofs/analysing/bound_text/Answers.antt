@@ -1,5 +1,0 @@
-use Rattle.m51_verbs.proofs.Bounded.{bound_of_layout}
-use Rattle.m51_verbs.proofs.analysing.bound_text.Goals as goal
-
-pub stack_text-requires : goal.stack_text-requires
-stack_text-requires c = bound_of_layout _ c.requires.0 _ c.requires.1

@@ -1,9 +1,0 @@
-use Rattle.std.proofs.Common.{◌≡◌, ◌≤◌, ◌+◌, ◌*◌, drop}
-use Rattle.m51_verbs.specs.Counts.{overlaid_sizes}
-use Rattle.m51_verbs.proofs.counting.overlaid_sizes.Given as goal
-
-abbrev pub invariant-loop-extent : goal.invariant-loop-extent
-invariant-loop-extent l = record {
-  sum : l.sizes + overlaid_sizes (drop l.extent-index l.placed) ≡ overlaid_sizes l.placed;
-  few : l.sizes ≤ 65535 * l.extent-index;
-}

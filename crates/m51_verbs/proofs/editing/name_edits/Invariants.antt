@@ -1,7 +1,0 @@
-use Rattle.std.proofs.Common.{◌≡◌, ◌++◌, drop, map}
-use Rattle.m51_verbs.specs.Edits.{name_edit}
-use Rattle.m51_verbs.proofs.editing.name_edits.Given as goal
-
-abbrev pub invariant-loop-name : goal.invariant-loop-name
-invariant-loop-name l = l.edits ++ map (name_edit l.operation) (drop l.name-index l.names)
-    ≡ map (name_edit l.operation) l.names

@@ -177,6 +177,15 @@ class Shorter(Folder):
             self.assertEqual((ended, 'NOT READ' in said), (status, 'UNREAD' in environment), said)
             self.assertEqual(self.lemmas(), SUMS)
 
+    def test_arguments(self):
+        """Files may come after an option, and a law, a file or a crate that is not there is refused."""
+        status, said = self.call('shorter', 'sum', '--law', 'laws::same', 'Sums', '--show')
+        self.assertEqual((status, said.splitlines()[0]), (0, 'sum, 1 files, over laws::same'), said)
+        for words, why in ((('sum', '--law', 'same'), 'sum has no folder of proofs of same'),
+                           (('sum', 'Other'), 'sum has no lemma file Other'), (('other',), 'no crate other')):
+            status, said = self.call('shorter', *words)
+            self.assertEqual((status, said.splitlines()[-1]), (2, f'shorter: error: {why}'))
+
     def test_same(self):
         """Bodies of lemmas may change, and nothing else."""
         shutil.copytree(self.path('top', 'crates'), self.path('old'))

@@ -1,22 +1,20 @@
 -- The image of linked files is of bytes: pieces are, of sources and of objects, and fields are.
-use Rattle.m51_build_proof.proofs.Common.{◌≡◌, ℕ, zero, suc, ◌+◌, ◌*◌, ◌%◌, ◌-◌, ◌<◌, ◌≤◌, Bool, true, false, cond}
-use Rattle.m51_build_proof.proofs.Common.{◌&&◌, List, [], ◌∷◌, ◌++◌, length, map, Option, Some, None, refl, sym, subst}
+use Rattle.m51_build_proof.proofs.Common.{◌≡◌, ℕ, zero, suc, ◌+◌, ◌-◌, ◌<◌, Bool, cond}
+use Rattle.m51_build_proof.proofs.Common.{List, [], ◌∷◌, ◌++◌, length, map, Option, Some, None, refl, subst}
 use Rattle.m51_build_proof.proofs.Common.{arith, option_map, slice_get, unwrap_or, All, flat_map, range_with_len}
-use Rattle.m51_build_proof.proofs.Common.{option_map_or, option_or, and_parts, leb-true, ltb-false, All-head, All-tail}
-use Rattle.m51_build_proof.proofs.Common.{same_Some, IsImage, byte_at, content_of, byte_among, Piece, ModuleParts}
+use Rattle.m51_build_proof.proofs.Common.{option_map_or, option_or, All-head, All-tail}
+use Rattle.m51_build_proof.proofs.Common.{IsImage, byte_at, content_of, byte_among, Piece, ModuleParts}
 use Rattle.m51_build_proof.proofs.Common.{IsValid, Placing, IsBytes, IsRead}
-use Rattle.std.specs.Prelude.{◌==◌, nat_le, nat_lt}
+use Rattle.std.specs.Prelude.{nat_le}
 use Rattle.std.specs.List.{cons_option, filter_map}
 use Rattle.std.proofs.lemmas.List.Elements.{All-from_get_or, All-get_or}
 use Rattle.std.proofs.lemmas.Option.{get_or_from_slice_get, slice_get_within}
 use Rattle.m51_fields.specs.declared.fields.FieldBytes.{FieldBytes}
-use Rattle.m51_fields.specs.declared.fields.FieldBytes.TheVariants.{One}
-use Rattle.m51_fields.specs.Fields.{block_field, bytes_of_field as field_bytes, far_of, field_of, one_if}
-use Rattle.m51_isa.specs.Targets.{fits_byte, in_one_block, is_near}
+use Rattle.m51_fields.specs.Fields.{bytes_of_field as field_bytes, field_of}
 use Rattle.m51_linker.specs.Image.{fields_of, fixup_field, module_content, module_fields}
 use Rattle.m51_linker.specs.Image.{placed_field, placed_piece}
 use Rattle.m51_linker.specs.Stretches.{Stretch, byte_in, stretch_at}
-use Rattle.m51_linker.specs.Targets.{address_of, fixup_target}
+use Rattle.m51_linker.specs.Targets.{address_of}
 use Rattle.m51_module.specs.declared.content.Fixup.{Fixup}
 use Rattle.m51_module.specs.declared.content.Form.{Form}
 use Rattle.m51_module.specs.declared.content.Form.TheVariants.{Low, Byte, Relative, High, Word, Inblock, Bit, Conv}
@@ -77,18 +75,16 @@ record IfByte (o : Option ℕ) : Type 0 where
   holds : (byte : ℕ) → o ≡ Some byte → byte < 256
 
 no_byte : IfByte None
-no_byte = record { holds = λ b e. absurd (cc e) }
+no_byte = grind arith
 
 some_byte : (x : ℕ) → x < 256 → IfByte (Some x)
-some_byte x h = record { holds = λ b e. subst (λ y. y < 256) (same_Some x b e) h }
+some_byte x h = grind arith
 
 byte_cond : (b : Bool) (o p : Option ℕ) → IfByte o → IfByte p → IfByte (cond b o p)
-byte_cond true o p h k = h
-byte_cond false o p h k = k
+byte_cond b o p h k = grind arith
 
 byte_or : (o p : Option ℕ) → IfByte o → IfByte p → IfByte (option_or o p)
-byte_or None p h k = k
-byte_or (Some x) p h k = h
+byte_or o p h k = grind arith
 
 get_byte : (xs : List ℕ) (k : ℕ) → IsBytes xs → IfByte (slice_get xs k)
 get_byte [] k h = no_byte
@@ -100,7 +96,7 @@ unfolding AreStretches
 among_byte [] address h = no_byte
 among_byte (s ∷ more) address h =
     byte_or (byte_among more address) (byte_in s address) (among_byte more address h.1)
-    (byte_cond (nat_le s.at address) (slice_get s.bytes (address - s.at)) None (get_byte s.bytes (address - s.at) h.0)
+    (byte_cond (nat_le s.at address) (slice_get s.bytes (address - s.at)) None (grind (arith, get_byte))
     no_byte)
 
 stretches_append : (xs ys : List Stretch) → AreStretches xs → AreStretches ys → AreStretches (xs ++ ys)
@@ -117,51 +113,16 @@ stretches_flat f each (k ∷ ks) = stretches_append (f k) (flat_map f ks) (each 
 record IfFieldBytes (o : Option FieldBytes) : Type 0 where
   holds : (field : FieldBytes) → o ≡ Some field → IsBytes (field_bytes field)
 
-field_some : (f : FieldBytes) → IsBytes (field_bytes f) → IfFieldBytes (Some f)
-field_some f h = record { holds = λ g e. subst (λ (x : FieldBytes). IsBytes (field_bytes x)) (same_Some f g e) h }
-
-field_none : IfFieldBytes None
-field_none = record { holds = λ g e. absurd (cc e) }
-
-one_byte : (b : Bool) (byte : ℕ) → (b ≡ true → byte < 256) → IfFieldBytes (one_if b byte)
-one_byte true byte h = field_some (One byte) (h refl, tt)
-one_byte false byte h = field_none
-
-block_bytes : (b : Bool) (target first : ℕ) → target < 65536
-    → IfFieldBytes (cond b (Some (block_field target first)) None)
-block_bytes true target first h = field_some (block_field target first) (omega (arith, h), (omega arith, tt))
-block_bytes false target first h = field_none
-
-conv_bytes : (none low high : Bool) (target bit : ℕ) → nat_lt 7 bit ≡ none
-    → (nat_le 0x20 target && nat_le target 0x2F) ≡ low
-    → ((nat_le 0x80 target && nat_le target 0xF8) && (target % 8 == 0)) ≡ high
-    → IfFieldBytes (option_map (λ n. One n)
-    (cond none None (cond low (Some ((target - 0x20) * 8 + bit)) (cond high (Some (target + bit)) None))))
-conv_bytes true low high target bit few is there = field_none
-conv_bytes false true high target bit few is there =
-    let less : bit ≤ 7 = ltb-false 7 bit few in
-    let most : target ≤ 0x2F = leb-true target 0x2F (and_parts (nat_le 0x20 target) (nat_le target 0x2F) is).1 in
-    field_some (One ((target - 0x20) * 8 + bit)) (omega (arith, most, less), tt)
-conv_bytes false false true target bit few is there =
-    let less : bit ≤ 7 = ltb-false 7 bit few in
-    let p = and_parts (nat_le 0x80 target && nat_le target 0xF8) (target % 8 == 0) there in
-    let most : target ≤ 0xF8 = leb-true target 0xF8 (and_parts (nat_le 0x80 target) (nat_le target 0xF8) p.0).1 in
-    field_some (One (target + bit)) (omega (arith, most, less), tt)
-conv_bytes false false false target bit few is there = field_none
-
 field_is_bytes : (form : Form) (bit target address first : ℕ) → target < 65536 → IsBitNumber form bit
     → IfFieldBytes (field_of form bit target address first)
-field_is_bytes Low bit target address first h n = field_some _ (omega arith, tt)
-field_is_bytes Byte bit target address first h n = one_byte (fits_byte target) _ (λ _. omega arith)
-field_is_bytes Relative bit target address first h n = one_byte (is_near (far_of target address)) _ (λ _. omega arith)
-field_is_bytes High bit target address first h n = field_some _ (omega (arith, h), tt)
-field_is_bytes Word bit target address first h n = field_some _ (omega (arith, h), (omega arith, tt))
-field_is_bytes Inblock bit target address first h n =
-    block_bytes (in_one_block target ((address + 2) % 65536)) target first h
-field_is_bytes Bit bit target address first h n = one_byte (nat_le target 0xFF) _ (λ _. omega arith)
-field_is_bytes Conv bit target address first h n =
-    conv_bytes (nat_lt 7 bit) (nat_le 0x20 target && nat_le target 0x2F)
-    ((nat_le 0x80 target && nat_le target 0xF8) && (target % 8 == 0)) target bit refl refl refl
+field_is_bytes Low bit target address first h n = grind arith
+field_is_bytes Byte bit target address first h n = grind arith
+field_is_bytes Relative bit target address first h n = grind arith
+field_is_bytes High bit target address first h n = grind arith
+field_is_bytes Word bit target address first h n = grind arith
+field_is_bytes Inblock bit target address first h n = grind arith
+field_is_bytes Bit bit target address first h n = grind arith
+field_is_bytes Conv bit target address first h n = grind arith
 
 -- what holds of a module
 pub record HasBytes (m : ModuleParts) : Type 0 where
@@ -190,17 +151,13 @@ module _ (modules : List ModuleParts) (placing : Placing) (all : All HasBytes mo
   content_are = stretches_flat (module_content modules placing) (λ m. content_by m (slice_get modules m) refl)
       (range_with_len 0 (length modules))
 
-  target_fits : (m : ℕ) (f : Fixup) → fixup_target modules placing m f < 65536
-  target_fits m f = omega arith
-
   fixup_bytes : (m : ℕ) (f : Fixup) → IsBitNumber f.form f.bit → IfFieldBytes (fixup_field modules placing m f)
-  fixup_bytes m f bit = field_is_bytes f.form f.bit (fixup_target modules placing m f) _ _ (target_fits m f) bit
+  fixup_bytes m f bit = grind (arith, field_is_bytes)
 
   option_bytes : (at : ℕ) (o : Option FieldBytes) (rest : List Stretch) → IfFieldBytes o → AreStretches rest
       → AreStretches (cons_option (option_map (stretch_at at) o) rest)
   unfolding AreStretches
-  option_bytes at None rest h k = k
-  option_bytes at (Some field) rest h k = (h.holds field refl, k)
+  option_bytes at o rest h k = grind arith
 
   fixups_bytes : (m : ℕ) (parts : ModuleParts) (fixups : List Fixup)
       → All (IsFixupValid parts.segments parts.externals parts.pieces) fixups
@@ -225,8 +182,7 @@ module _ (modules : List ModuleParts) (placing : Placing) (all : All HasBytes mo
       (range_with_len 0 (length modules))
 
   or_erased : (o : Option ℕ) → IfByte o → unwrap_or o 0xFF < 256
-  or_erased None h = omega arith
-  or_erased (Some x) h = h.holds x refl
+  or_erased o h = grind arith
 
   byte_is : (address : ℕ) → byte_at modules placing address < 256
   byte_is address = or_erased _
@@ -236,5 +192,4 @@ module _ (modules : List ModuleParts) (placing : Placing) (all : All HasBytes mo
 
   pub image_bytes : (image : List ℕ) → IsImage modules placing image → All (λ byte. byte < 256) image
   image_bytes image is =
-      All-from_get_or (λ byte. byte < 256) image 0 (λ address below.
-      subst (λ x. x < 256) (sym (is.each address (omega (arith, below, is.len)))) (byte_is address))
+      All-from_get_or (λ byte. byte < 256) image 0 (grind (arith, byte_is))

@@ -1,7 +1,7 @@
 -- The names of a text without faults have values with numbers of 16 bits.
 use Rattle.m51_build_proof.proofs.Common.{◌≡◌, ◌⊎◌, inl, inr, ℕ, zero, suc, ◌+◌, ◌<◌, ◌≤◌, nat_lt, Bool, true, false}
 use Rattle.m51_build_proof.proofs.Common.{cond, List, [], ◌∷◌, ◌++◌, length, Option, Some, None, Ok, Err, refl, sym}
-use Rattle.m51_build_proof.proofs.Common.{subst, arith, slice_get, unwrap_or, AllByRecursion, and_parts, ltb-false}
+use Rattle.m51_build_proof.proofs.Common.{subst, arith, slice_get, AllByRecursion, and_parts}
 use Rattle.m51_build_proof.proofs.Common.{Kind, Value, Tree, Valued, BodyTree, IsTree, LineTree}
 use Rattle.std.proofs.Common.{option_map}
 use Rattle.std.specs.List.{list_all}
@@ -9,7 +9,6 @@ use Rattle.std.specs.Str.{bytes_eq}
 use Rattle.std.proofs.lemmas.Bool.{cases_lt, ltb-true}
 use Rattle.std.proofs.lemmas.List.Quantifiers.{position-Some}
 use Rattle.std.proofs.lemmas.Option.{slice_get_past}
-use Rattle.m51_cells.specs.declared.fault.TheConstants.{OUT_OF_RANGE}
 use Rattle.m51_expr.specs.Evaluation.{value_of}
 use Rattle.m51_expr.specs.Words.{bank_registers}
 use Rattle.m51_predefined.specs.Predefined.{register_or_bit, absolute_register_of, register_value}
@@ -19,12 +18,12 @@ use Rattle.m51_asm.specs.Definitions.{Definition, Label, SegmentOf, EquOf, SetOf
 use Rattle.m51_asm.specs.Definitions.{label_defined, defined_by, externals_from, found_in, definition_from}
 use Rattle.m51_asm.specs.Definitions.{definition_of}
 use Rattle.m51_asm.specs.Assignment.{Assignment, body_at, body_of, defined_of, line_definitions, here_at, if_before}
-use Rattle.m51_asm.specs.Assignment.{above, numbered, value_or_none}
+use Rattle.m51_asm.specs.Assignment.{above, value_or_none}
 use Rattle.m51_asm.specs.Fitting.{set_by, last_set, mod51, bank_by, bank_before, register_or_predefined}
 use Rattle.m51_asm.specs.Fitting.{undefined_value, externals_before, with_class, segment_value, external_value}
 use Rattle.m51_asm.specs.Fitting.{value_by, named_value}
 use Rattle.m51_asm.specs.ObjectSegments.{final}
-use Rattle.m51_asm.specs.PlacedFaults.{bank_fault, operand_fault}
+use Rattle.m51_asm.specs.PlacedFaults.{operand_fault}
 use Rattle.m51_asm.proofs.GoodLines.{IsClean, free}
 use Rattle.m51_asm.proofs.KnownSegments.{found_if, later_is}
 use Rattle.m51_build_proof.proofs.ReadBodies.{IsSmallBody, SmallTree}
@@ -103,8 +102,7 @@ fits r = nat_lt r.address 65536
 
 row_small : (b : Bool) (n m : ℕ) (o : Option ℕ) → cond b (Some n) o ≡ Some m → n < 65536 → (o ≡ Some m → m < 65536)
     → m < 65536
-row_small true n m o h less more = let same : n ≡ m = cc h in subst (λ x. x < 65536) same less
-row_small false n m o h less more = more h
+row_small b n m o h less more = grind arith
 
 rows_small : (rows : List Row) (name : List ℕ) (n : ℕ) → list_all fits rows ≡ true → address_in rows name ≡ Some n
     → n < 65536
@@ -141,19 +139,9 @@ module _ (lines : List LineTree) (a : Assignment) (c : IsClean lines a) (all : A
   classed kind None h = none_small
   classed kind (Some v) h = some_small (with_class kind v) (record { number = (h.holds v refl).number })
 
-  -- the banks that lines select
-  bank_is : (r : Valued ℕ) → bank_fault r ≡ None → unwrap_or (value_or_none r) 0 ≤ 3
-  bank_is (Ok n) h = few (nat_lt 3 n) OUT_OF_RANGE refl h
-    where
-      few : (b : Bool) (fault : ℕ) → nat_lt 3 n ≡ b → cond b (Some fault) None ≡ None → n ≤ 3
-      few true fault is none = absurd (cc none)
-      few false fault is none = ltb-false 3 n is
-  bank_is (Err e) h = absurd (cc h)
-
   bank_line : (k before : ℕ) (b : BodyTree) → before ≤ 3 → operand_fault lines (above lines a k) k b ≡ None
       → bank_by (above lines a k) before b ≤ 3
-  bank_line k before (body.Using e) few none = bank_is (numbered (above lines a k) e) none
-  bank_line k before b few none = few
+  bank_line k before b few none = grind arith
 
   few_banks : (k : ℕ) → bank_before lines a k ≤ 3
   unfolding bank_before

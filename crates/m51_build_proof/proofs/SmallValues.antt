@@ -1,7 +1,7 @@
 -- Where names and the place of a statement have numbers of 16 bits, so has the value of each expression that writes
 -- such numbers.
 use Rattle.m51_build_proof.proofs.Common.{◌≡◌, ℕ, ◌+◌, ◌*◌, ◌-◌, ◌%◌, ◌<◌, ◌≤◌, nat_lt, nat_le, Bool, true, false, ◌&&◌}
-use Rattle.m51_build_proof.proofs.Common.{◌||◌, cond, List, Option, Some, None, Ok, Err, refl, subst, arith, unwrap_or}
+use Rattle.m51_build_proof.proofs.Common.{◌||◌, cond, List, Option, Some, None, Ok, Err, refl, subst, arith}
 use Rattle.m51_build_proof.proofs.Common.{and_parts, leb-true, ltb-false, same_Some, Kind, and_then, same_Ok, Value}
 use Rattle.m51_build_proof.proofs.Common.{Tree, Valued, IsTree}
 use Rattle.std.proofs.Common.{◌/◌, ◌^◌, ◌==◌}
@@ -108,15 +108,8 @@ address_by byte bit false false false one two three = no_address
 address_small : (byte bit : ℕ) → IfAddress (bit_address byte bit)
 address_small byte bit = address_by byte bit (nat_lt 7 bit) _ _ refl refl refl
 
-or_zero_small : (o : Option ℕ) → IfAddress o → unwrap_or o 0 < 65536
-or_zero_small None h = omega arith
-or_zero_small (Some n) h = h.holds n refl
-
 part_small : (n : ℕ) (part : Part) → n < 65536 → part_value n part < 65536
-part_small n Whole h = h
-part_small n High h = omega (arith, h)
-part_small n Low h = omega (arith, h)
-part_small n (Bit b) h = or_zero_small (bit_address n b) (address_small n b)
+part_small n part h = grind arith
 
 pub counted_small : (v : Value) → IsSmall v → counted v < 65536
 counted_small v h = part_small v.number v.part h.number

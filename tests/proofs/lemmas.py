@@ -8,7 +8,7 @@ WORD = re.compile(r"[^\s(){}\[\],;|\"]+")
 BEGIN = re.compile(r'( *)((?:(?:abbrev|unfoldable|pub) )*)(?!--)([^\s:(){}]+) : ')
 # Declarations that have no clauses, or whose clauses belong to several names.
 OTHER = re.compile(r' *(?:(?:abbrev|pub) )*(?:record|data|mutual)\b')
-TYPE = re.compile(r'^( *)((?:(?:abbrev|pub) )*)(?:record|data) (\S+)(?:.|\n)*?(?=\n\n|\Z)', re.M)
+TYPE = re.compile(r'^( *)((?:(?:abbrev|pub) )*)(?:record|data) ([^\s{]+)(?:.|\n)*?(?=\n\n|\Z)', re.M)
 # Signs of a statement, where it isn't one by a name.
 RELATION = re.compile('[≡≢≤<≥>⊎×⊥¬∃]')
 # Files of proofs/ that are no lemma files.

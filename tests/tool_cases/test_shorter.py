@@ -10,6 +10,7 @@ from support import TOP, Folder
 sys.path.insert(0, str(TOP / 'tests' / 'proofs'))
 import leftovers  # noqa: E402
 import plants  # noqa: E402
+from comparison import of_files  # noqa: E402
 from facts import Facts  # noqa: E402
 from lemmas import declarations  # noqa: E402
 from room import Refusal, law_of, refused_plants  # noqa: E402
@@ -203,6 +204,11 @@ class Shorter(Folder):
             status, said = self.call('same', self.path('old'), self.path('top'))
             self.assertEqual(status, 0 if is_same else 1, said)
             (self.crate / file).write_text(text, encoding='utf-8')
+
+    def test_a_record_in_a_body(self):
+        """A record that a body makes is no type, though it begins a line."""
+        text = 'pub pair : (n : ℕ) → Pair n\npair n =\n    record { one = n; other = two }\n'
+        self.assertEqual(of_files('a', text, text.replace('two', 'n'), set()), ([], []))
 
     def test_long_lines(self):
         line = f'right n = grind ({", ".join(["helped (suc n)"] * 12)})'

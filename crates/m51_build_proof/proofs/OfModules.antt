@@ -1,21 +1,20 @@
 -- What holds of the module of each source and of each object holds of all modules that are linked.
+use Rattle.std.proofs.Common.{arith}
 use Rattle.m51_build_proof.proofs.Common.{◌≡◌, ℕ, zero, suc, ◌+◌, ◌<◌, Bool, true, false, cond, List, [], ◌∷◌, ◌++◌}
 use Rattle.m51_build_proof.proofs.Common.{length, Option, Some, None, Result, Ok, Err, refl, sym, ap, subst, option_map}
 use Rattle.m51_build_proof.proofs.Common.{option_map_or, All, All-nil, All-cons, All-head, All-tail, same_Some}
-use Rattle.m51_build_proof.proofs.Common.{and_then, same_Ok, Control, ControlError, AreKept, Refusal, ModuleParts, Row}
+use Rattle.m51_build_proof.proofs.Common.{and_then, same_Ok, Control, AreKept, ModuleParts, Row}
 use Rattle.m51_build_proof.proofs.Common.{SourceFile, AnswerTree, Gives, IsAnswer, IsBytes, IsRead, InputError}
-use Rattle.m51_build_proof.proofs.Common.{InputsTree, chosen_of, members_of, first_refusal, resolved_of, unless_refused}
+use Rattle.m51_build_proof.proofs.Common.{InputsTree, chosen_of, members_of, resolved_of}
 use Rattle.m51_build_proof.proofs.Common.{AreAnswered, ProgramFiles, word_contents, AreOfBytes}
 use Rattle.std.proofs.lemmas.List.Elements.{All-take, All-append}
-use Rattle.m51_cells.proofs.Small.{all_one}
-use Rattle.m51_control.specs.Controls.{controls_of}
 use Rattle.m51_module.specs.declared.library_error.LibError.{LibError}
 use Rattle.m51_module.specs.declared.object_error.ObjError.{ObjError}
 use Rattle.m51_module.specs.Library.{built}
 use Rattle.m51_asm.specs.Answer.{Faults}
 use Rattle.m51_records.specs.declared.types.TheConstants.{LIBRARY_HEADER}
 use Rattle.m51_records.specs.Reading.{module_at, one_at}
-use Rattle.m51_records.specs.Spelling.{bytes_of, records_in}
+use Rattle.m51_records.specs.Spelling.{records_in}
 use Rattle.m51_records.proofs.FieldLaws.{fit_back}
 use Rattle.m51_records.proofs.ModuleLaws.{module_takes}
 use Rattle.m51_records.proofs.Tools.{on_ok, ok_is}
@@ -27,26 +26,18 @@ use Rattle.m51_library.proofs.LibraryLaws.{first_takes}
 use Rattle.m51_jobs.specs.declared.endings.Ending.{Ending}
 use Rattle.m51_jobs.specs.declared.endings.Ending.TheVariants as ending
 use Rattle.m51_jobs.specs.Endings.{ending_of}
-use Rattle.m51_inputs.specs.declared.error.SourceFaults.{SourceFaults}
-use Rattle.m51_inputs.specs.Files.{includes_of, source_words, sources_of}
-use Rattle.m51_inputs.specs.Inputs.{controls_in, inputs_of, or_control, script_in}
+use Rattle.m51_inputs.specs.Files.{source_words}
+use Rattle.m51_inputs.specs.Inputs.{controls_in, inputs_of, script_in}
 use Rattle.m51_inputs.specs.Objects as objects
 use Rattle.m51_inputs.specs.Objects.{linked_by, linked_from, or_library, with_library, with_module, with_source}
 use Rattle.m51_inputs.specs.Sources.{AreAnswers, faults_in, modules_in, unless_faults}
 use Rattle.m51_resolve.specs.Choice.{choice, first_needed, is_needed}
 use Rattle.m51_chain.proofs.Accepted.{on_value}
-use Rattle.m51_build_proof.proofs.ControlsKept.{controls_kept, none_kept}
-
--- control lines
-accepted : (found : Result (List (ℕ × Control)) ControlError) (controls : List (ℕ × Control))
-    → or_control found ≡ Ok controls → found ≡ Ok controls
-accepted (Ok all) controls h = let same : all ≡ controls = cc h in ap (λ (c : List (ℕ × Control)). Ok c) same
-accepted (Err error) controls h = absurd (cc h)
+use Rattle.m51_build_proof.proofs.ControlsKept.{controls_kept}
 
 lines_kept : (control : Option (List ℕ)) (controls : List (ℕ × Control)) → controls_in control ≡ Ok controls
     → AreKept controls
-lines_kept None controls h = let same : [] ≡ controls = cc h in subst AreKept same none_kept
-lines_kept (Some file) controls h = controls_kept file controls (accepted (controls_of file) controls h)
+lines_kept control controls h = grind (arith, controls_kept)
 
 module _ (P : ModuleParts → Type 0)
     (of_source : (source : SourceFile) (includes : List SourceFile) (m : ModuleParts) (rows : List Row)
@@ -67,15 +58,14 @@ module _ (P : ModuleParts → Type 0)
   sources_valid includes [] (answer ∷ answers) h = absurd h
   sources_valid includes (source ∷ sources) [] h = absurd h
   sources_valid includes (source ∷ sources) (Gives parts rows ∷ answers) h =
-      All-cons P parts (modules_in answers) (of_source source includes parts rows h.0)
+      All-cons P parts (modules_in answers) (grind arith)
       (sources_valid includes sources answers h.1)
   sources_valid includes (source ∷ sources) (Faults faults ∷ answers) h = sources_valid includes sources answers h.1
 
   -- an object
   alone : (total : ℕ) (found : ModuleParts × List ℕ) (rest : List ℕ) (m : ModuleParts) → found.1 ≡ rest
       → at_end total rest found.0 ≡ Ok m → found.0 ≡ m
-  alone total found [] m is h = ok_is found.0 m h
-  alone total found (byte ∷ rest) m is h = absurd (cc h)
+  alone total found rest m is h = grind arith
 
   object_valid : (file : List ℕ) (m : ModuleParts) → IsBytes file → module_in file ≡ Ok m → P m
   unfolding module_in
@@ -91,39 +81,31 @@ module _ (P : ModuleParts → Type 0)
   modules_valid : (count total number : ℕ) (bytes : List ℕ) (found : List ModuleParts × List ℕ) → IsBytes bytes
       → modules_at count total number bytes ≡ Ok found → Modules found
   unfolding modules_at
-  modules_valid zero total number bytes found fits h = subst Modules (ok_is ([], bytes) found h) (All-nil P)
+  modules_valid zero total number bytes found fits h = grind arith
   modules_valid (suc count) total number bytes found fits h =
       on_ok (module_at total number bytes) _ found (Modules found) (λ one read later.
       let is : IsRead bytes one.0 one.1 = module_takes total number bytes one fits read in
-      let rest : IsBytes one.1 = fit_back (bytes_of one.0) one.1 (subst IsBytes is.bytes_are fits) in
-      on_ok (modules_at count total (number + records_in one.0) one.1) _ found (Modules found) (λ others next done.
-      subst Modules (ok_is (one.0 ∷ others.0, others.1) found done)
-      (All-cons P one.0 others.0 (of_object bytes one.0 one.1 fits is)
-      (modules_valid count total (number + records_in one.0) one.1 others rest next))) later) h
-
-  all_alone : (total : ℕ) (found : List ModuleParts × List ℕ) (rest : List ℕ) (ms : List ModuleParts) → found.1 ≡ rest
-      → at_end total rest found.0 ≡ Ok ms → found.0 ≡ ms
-  all_alone total found [] ms is h = ok_is found.0 ms h
-  all_alone total found (byte ∷ rest) ms is h = absurd (cc h)
+      let rest : IsBytes one.1 = grind (arith, fit_back) in
+      on_ok (modules_at count total (number + records_in one.0) one.1) _ found (Modules found) (grind (
+        arith,
+        ok_is,
+        modules_valid count total (number + records_in one.0) one.1,
+      )) later) h
 
   file_valid : (file : List ℕ) (ms : List ModuleParts) → IsBytes file → modules_of file ≡ Ok ms → All P ms
   unfolding modules_of
   file_valid file ms bytes h =
       on_ok (one_at LIBRARY_HEADER count_in (length file) 0 file) _ ms (All P ms) (λ count read later.
-      let is : file ≡ count_record count.0 ++ count.1 = first_takes (length file) file count.0 count.1 bytes read in
-      let rest : IsBytes count.1 = fit_back (count_record count.0) count.1 (subst IsBytes is bytes) in
-      on_ok (modules_at count.0 (length file) 1 count.1) _ ms (All P ms) (λ found next ended.
-      subst (λ (xs : List ModuleParts). All P xs) (all_alone (length file) found found.1 ms refl ended)
-      (modules_valid count.0 (length file) 1 count.1 found rest next)) later) h
+      let is : file ≡ count_record count.0 ++ count.1 = grind (arith, first_takes) in
+      let rest : IsBytes count.1 = grind arith in
+      on_ok (modules_at count.0 (length file) 1 count.1) _ ms (All P ms) (grind (arith, length, modules_valid)) later) h
 
   library_by : (file : List ℕ) (ms : List ModuleParts) (read : Result (List ModuleParts) ObjError) → IsBytes file
       → modules_of file ≡ read → and_then (or_object read) built ≡ Ok ms → All P ms
-  library_by file ms (Ok all) bytes is h =
-      subst (λ (xs : List ModuleParts). All P xs) (sym (makes_all [] all ms h)) (file_valid file all bytes is)
-  library_by file ms (Err error) bytes is h = absurd (cc h)
+  library_by file ms read bytes is h = grind (arith, makes_all, file_valid)
 
   library_valid : (file : List ℕ) (ms : List ModuleParts) → IsBytes file → library_of file ≡ Ok ms → All P ms
-  library_valid file ms bytes h = library_by file ms (modules_of file) bytes refl h
+  library_valid file ms bytes h = grind (arith, library_by)
 
   -- what the words of a program give
   record AreLinked (l : objects.Linked) : Type 0 where
@@ -137,21 +119,11 @@ module _ (P : ModuleParts → Type 0)
 
   module_first : (r : Result objects.Linked InputError) (m : ModuleParts) (l : objects.Linked) → P m
       → ((k : objects.Linked) → r ≡ Ok k → AreLinked k) → with_module r m ≡ Ok l → AreLinked l
-  module_first (Ok k) m l valid rest h =
-      let more = rest k refl in
-      subst AreLinked (same_Ok {A = objects.Linked} {E = InputError}
-      (record { modules = m ∷ k.modules; libraries = k.libraries }) l h)
-      (record { modules = All-cons P m k.modules valid more.modules; libraries = more.libraries })
-  module_first (Err error) m l valid rest h = absurd (cc h)
+  module_first r m l valid rest h = grind arith
 
   library_first : (r : Result objects.Linked InputError) (ms : List ModuleParts) (l : objects.Linked) → All P ms
       → ((k : objects.Linked) → r ≡ Ok k → AreLinked k) → with_library r ms ≡ Ok l → AreLinked l
-  library_first (Ok k) ms l valid rest h =
-      let more = rest k refl in
-      subst AreLinked (same_Ok {A = objects.Linked} {E = InputError}
-      (record { modules = k.modules; libraries = ms ∷ k.libraries }) l h)
-      (record { modules = more.modules; libraries = All-cons (All P) ms k.libraries valid more.libraries })
-  library_first (Err error) ms l valid rest h = absurd (cc h)
+  library_first r ms l valid rest h = grind arith
 
   source_first : (sources : List ModuleParts) (after : List ModuleParts → Result objects.Linked InputError)
       (l : objects.Linked) → All P sources → AreFollowed after → with_source sources after ≡ Ok l → AreLinked l
@@ -177,40 +149,27 @@ module _ (P : ModuleParts → Type 0)
   word_first : (o : Option Ending) (word : ℕ) (file : List ℕ) (sources : List ModuleParts)
       (after : List ModuleParts → Result objects.Linked InputError) (l : objects.Linked)
       → IsBytes file → All P sources → AreFollowed after → linked_by o word file sources after ≡ Ok l → AreLinked l
-  word_first (Some ending.Source) word file sources after l bytes valid rest h =
-      source_first sources after l valid rest h
+  word_first (Some ending.Source) word file sources after l bytes valid rest h = grind (arith, source_first)
   word_first (Some ending.Include) word file sources after l bytes valid rest h = rest sources l valid h
   word_first (Some ending.Object) word file sources after l bytes valid rest h =
-      object_first word file (module_in file) (after sources) l bytes refl (λ k is. rest sources k valid is) h
+      object_first word file (module_in file) (after sources) l bytes refl (grind arith) h
   word_first (Some ending.Library) word file sources after l bytes valid rest h =
-      archive_first word file (library_of file) (after sources) l bytes refl (λ k is. rest sources k valid is) h
+      archive_first word file (library_of file) (after sources) l bytes refl (grind arith) h
   word_first None word file sources after l bytes valid rest h = rest sources l valid h
 
   abbrev IsOfBytes : List ℕ → Type 0
   IsOfBytes file = All IsByte file
 
-  none_linked : AreLinked (record { modules = []; libraries = [] })
-  none_linked = record { modules = All-nil P; libraries = All-nil (All P) }
-
   words_linked : (word : ℕ) (names contents : List (List ℕ)) (sources : List ModuleParts) (l : objects.Linked)
       → All IsOfBytes contents → All P sources
       → linked_from word names contents sources ≡ Ok l → AreLinked l
-  words_linked word [] contents sources l bytes valid h =
-      subst AreLinked (same_Ok {A = objects.Linked} {E = InputError} (record { modules = []; libraries = [] }) l h)
-      none_linked
-  words_linked word (name ∷ names) [] sources l bytes valid h =
-      subst AreLinked (same_Ok {A = objects.Linked} {E = InputError} (record { modules = []; libraries = [] }) l h)
-      none_linked
+  words_linked word [] contents sources l bytes valid h = grind arith
+  words_linked word (name ∷ names) [] sources l bytes valid h = grind arith
   words_linked word (name ∷ names) (file ∷ contents) sources l bytes valid h =
       word_first (ending_of name) word file sources (linked_from (word + 1) names contents) l
-      (bytes_are file (All-head IsOfBytes file contents bytes)) valid
+      (bytes_are file (grind (arith, All-head))) valid
       (λ others k all is. words_linked (word + 1) names contents others k (All-tail IsOfBytes file contents bytes) all
       is) h
-
-  no_faults : (faults : List SourceFaults) (modules ms : List ModuleParts) → unless_faults faults modules ≡ Ok ms
-      → modules ≡ ms
-  no_faults [] modules ms h = cc h
-  no_faults (first ∷ more) modules ms h = absurd (cc h)
 
   -- what is known of inputs
   pub record AreInputs (inputs : InputsTree) : Type 0 where
@@ -229,13 +188,12 @@ module _ (P : ModuleParts → Type 0)
       on_value (controls_in control) _ inputs (AreInputs inputs) (λ lines three h3.
       on_value (script_in script) _ inputs (AreInputs inputs) (λ board four h4.
       let all : All P sources =
-      subst (λ (ms : List ModuleParts). All P ms)
-      (no_faults (faults_in (source_words 0 files) answers) (modules_in answers) sources one) valid in
+      grind arith in
       let known = words_linked 0 files contents sources linked bytes all two in
       let made : InputsTree =
       record { modules = linked.modules; libraries = linked.libraries; controls = lines; script = board } in
       subst AreInputs (same_Ok {E = InputError} made inputs h4)
-      (record { modules = known.modules; libraries = known.libraries; controls = lines_kept control lines three }))
+      (grind (arith, lines_kept control lines three)))
       h3) h2) h1) h
 
   pub inputs_known : (files : ProgramFiles) (contents : List (List ℕ)) (inputs : InputsTree) → AreOfBytes contents
@@ -243,7 +201,7 @@ module _ (P : ModuleParts → Type 0)
   inputs_known files contents inputs bytes h =
       let words : List (List ℕ) = word_contents files contents in
       from_answers files.words words _ _ h.answers inputs (All-take IsOfBytes (length files.words) contents bytes)
-      (sources_valid (includes_of files.words words) (sources_of files.words words) h.answers h.are) (sym h.is)
+      (grind (arith, sources_valid)) (sym h.is)
 
   -- the one that is needed first, and those that are left
   record AreLeft (found : ModuleParts × List ModuleParts) : Type 0 where
@@ -266,8 +224,7 @@ module _ (P : ModuleParts → Type 0)
       → cond b (Some (m, more))
       (option_map (λ (x : ModuleParts × List ModuleParts). (x.0, m ∷ x.1)) (first_needed chosen more)) ≡ Some found
       → AreLeft found
-  first_by true chosen m more found valid all rest h =
-      subst AreLeft (same_Some (m, more) found h) (record { needed = valid; others = all })
+  first_by true chosen m more found valid all rest h = grind arith
   first_by false chosen m more found valid all rest h = behind m (first_needed chosen more) found valid rest h
 
   are_left : (chosen left : List ModuleParts) (found : ModuleParts × List ModuleParts) → All P left
@@ -286,7 +243,7 @@ module _ (P : ModuleParts → Type 0)
   choice_step turns left chosen (Some found) is valid all next =
       let rest = are_left chosen left found valid is in
       next found.1 (chosen ++ found.0 ∷ []) rest.others
-      (All-append P chosen (found.0 ∷ []) all (all_one P found.0 rest.needed))
+      (All-append P chosen (found.0 ∷ []) all (grind arith))
 
   choice_valid : (turns : ℕ) (left chosen : List ModuleParts) → All P left → All P chosen
       → All P (choice turns left chosen)
@@ -300,15 +257,10 @@ module _ (P : ModuleParts → Type 0)
       All-append P library (members_of more) (All-head (All P) library more h)
       (members_valid more (All-tail (All P) library more h))
 
-  chosen_same : (o : Option Refusal) (chosen modules : List ModuleParts) → unless_refused chosen o ≡ Ok modules
-      → chosen ≡ modules
-  chosen_same None chosen modules h = cc h
-  chosen_same (Some refusal) chosen modules h = absurd (cc h)
-
   pub chosen_all : (given : List ModuleParts) (libraries : List (List ModuleParts)) (modules : List ModuleParts)
       → All P given → All (All P) libraries
       → resolved_of given libraries ≡ Ok modules → All P modules
   chosen_all given libraries modules valid all h =
       let chosen = chosen_of given (members_of libraries) in
-      subst (λ (ms : List ModuleParts). All P ms) (chosen_same (first_refusal chosen) chosen modules h)
+      subst (λ (ms : List ModuleParts). All P ms) (grind arith)
       (choice_valid (length (members_of libraries)) (members_of libraries) given (members_valid libraries all) valid)

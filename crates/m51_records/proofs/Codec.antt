@@ -1,9 +1,8 @@
 -- A field and a record as codecs: how it is read, how it is written, and that the one takes back the other. A record is
 -- its fields, one after another, each of which may depend on those before it.
 use Rattle.std.proofs.Common.{◌≡◌, ℕ, Bool, true, List, [], ◌∷◌, ◌++◌, Option, Some, Result, Ok, refl, sym, ap, subst}
-use Rattle.std.proofs.Common.{◌∙◌}
+use Rattle.std.proofs.Common.{◌∙◌, arith}
 use Rattle.std.proofs.lemmas.List.{append-nil}
-use Rattle.std.proofs.lemmas.Option.{same_Some}
 use Rattle.m51_module.specs.declared.object_error.ObjError.{ObjError}
 use Rattle.m51_module.specs.Validity.{numbered}
 use Rattle.m51_frame.specs.Fields.{◌>>=◌, checked, or_broken, or_absent, byte_at, pair, pair_at, text_field, text_at}
@@ -110,47 +109,62 @@ module _ {S : Type 0} where
 
 -- ---- fields
 
--- a byte of a table, which passes a test
-pub table_takes : {A : Type 0} (number : A → ℕ) (of : ℕ → Option A) (test : A → Bool)
-    → ((n : ℕ) (a : A) → of n ≡ Some a → n ≡ number a) → (end : ℕ) (bytes : List ℕ) (y : A × List ℕ)
-    → (byte_at end bytes >>= λ n. or_broken (of n.0) end bytes >>= λ a. checked (test a) end bytes (a, n.1)) ≡ Ok y
-    → (bytes ≡ number y.0 ∷ y.1) × (test y.0 ≡ true)
-table_takes number of test back end [] y e = absurd cc
-table_takes number of test back end (n ∷ rest) y e =
-    on_ok (or_broken (of n) end (n ∷ rest)) _ y ((n ∷ rest ≡ number y.0 ∷ y.1) × (test y.0 ≡ true)) (λ a e1 h1.
-    let c = checked_ok (test a) end (n ∷ rest) (a, rest) y h1 in
-    subst (λ y. (n ∷ rest ≡ number y.0 ∷ y.1) × (test y.0 ≡ true)) c.1
-    (ap (λ m. m ∷ rest) (back n a (broken_ok (of n) end (n ∷ rest) a e1)), c.0)) e
+-- a field of which any value is good
+pub record Plain (A : Type 0) : Type 1 where
+  pub write : A → List ℕ
+  pub read : ℕ → List ℕ → Result (A × List ℕ) ObjError
+  pub again : (end : ℕ) (a : A) (rest : List ℕ) → read end (write a ++ rest) ≡ Ok (a, rest)
+  pub takes : (end : ℕ) (bytes : List ℕ) (y : A × List ℕ) → IsBytes bytes → read end bytes ≡ Ok y
+      → bytes ≡ write y.0 ++ y.1
 
-abbrev pub table_codec : {A : Type 0} (number : A → ℕ) (of : ℕ → Option A) (test : A → Bool)
-    → ((a : A) → of (number a) ≡ Some a) → ((n : ℕ) (a : A) → of n ≡ Some a → n ≡ number a) → Codec A
-table_codec number of test there back = record {
-  good = λ a. test a ≡ true;
-  write = λ a. number a ∷ [];
-  read = λ end bytes. byte_at end bytes >>= λ n. or_broken (of n.0) end bytes >>= λ a.
-      checked (test a) end bytes (a, n.1);
-  again = λ end a rest g. rw (there a, g) refl;
-  takes = λ end bytes y fits e. table_takes number of test back end bytes y e;
+pub byte_takes : (end : ℕ) (bytes : List ℕ) (y : ℕ × List ℕ) → byte_at end bytes ≡ Ok y → bytes ≡ y.0 ∷ y.1
+byte_takes end bytes y e = grind arith
+
+abbrev plain_byte : Plain ℕ
+plain_byte = record {
+  write = λ n. n ∷ [];
+  read = byte_at;
+  again = λ end n rest. refl;
+  takes = λ end bytes y fits e. byte_takes end bytes y e;
 }
 
--- a number of two bytes, which passes a test
-abbrev pub pair_codec : (ℕ → Bool) → Codec ℕ
-pair_codec test = record {
-  good = λ n. test n ≡ true;
+abbrev plain_pair : Plain ℕ
+plain_pair = record {
   write = pair;
-  read = λ end bytes. pair_at end bytes >>= λ n. checked (test n.0) end bytes n;
-  again = λ end n rest g. ap (λ r. r >>= λ m. checked (test m.0) end (pair n ++ rest) m) (pair_read end n rest)
-      ∙ rw g refl;
-  takes = λ end bytes y fits e. on_ok (pair_at end bytes) _ y ((bytes ≡ pair y.0 ++ y.1) × (test y.0 ≡ true))
-      (λ n e1 h1.
-      let c = checked_ok (test n.0) end bytes n y h1 in
-      subst (λ (y : ℕ × List ℕ). (bytes ≡ pair y.0 ++ y.1) × (test y.0 ≡ true)) c.1
-      ((pair_takes end bytes n fits e1).0, c.0)) e;
+  read = pair_at;
+  again = pair_read;
+  takes = λ end bytes y fits e. (pair_takes end bytes y fits e).0;
 }
 
--- a byte that passes a test
+abbrev plain_text : Plain (List ℕ)
+plain_text = record {
+  write = text_field;
+  read = text_at;
+  again = text_read;
+  takes = λ end bytes y fits e. text_takes end bytes y e;
+}
+
+-- a field that passes a test
+abbrev tested : {A : Type 0} → Plain A → (A → Bool) → Codec A
+tested one test = record {
+  good = λ a. test a ≡ true;
+  write = one.write;
+  read = λ end bytes. one.read end bytes >>= λ y. checked (test y.0) end bytes y;
+  again = λ end a rest g. rw (one.again end a rest, g) refl;
+  takes = λ end bytes y fits e. on_ok (one.read end bytes) _ y _ (λ x e1 h1.
+      let c = checked_ok (test x.0) end bytes x y h1 in
+      rw (← c.1) (one.takes end bytes x fits e1, c.0)) e;
+}
+
+-- a byte, a number of two bytes, a text
 abbrev pub tested_codec : (ℕ → Bool) → Codec ℕ
-tested_codec test = table_codec (λ n. n) Some test (λ n. refl) (λ n m e. same_Some n m e)
+tested_codec = tested plain_byte
+
+abbrev pub pair_codec : (ℕ → Bool) → Codec ℕ
+pair_codec = tested plain_pair
+
+abbrev pub text_codec : (List ℕ → Bool) → Codec (List ℕ)
+text_codec = tested plain_text
 
 -- a number of two bytes, any
 abbrev pub any_pair : Codec ℕ
@@ -162,6 +176,34 @@ any_pair = record {
   takes = λ end bytes y fits e. ((pair_takes end bytes y fits e).0, tt);
 }
 
+-- what a table gives for a field, which passes a test
+abbrev tabled : {A B : Type 0} → Plain A → (number : B → A) (of : A → Option B) (test : B → Bool) (good : B → Type 0)
+    → ((b : B) → good b → (of (number b) ≡ Some b) × (test b ≡ true))
+    → ((a : A) (b : B) → of a ≡ Some b → test b ≡ true → (a ≡ number b) × good b) → Codec B
+tabled one number of test good there back = record {
+  good = good;
+  write = λ b. one.write (number b);
+  read = λ end bytes. one.read end bytes >>= λ n. or_broken (of n.0) end bytes >>= λ b.
+      checked (test b) end bytes (b, n.1);
+  again = λ end b rest g. rw (one.again end (number b) rest, (there b g).0, (there b g).1) refl;
+  takes = λ end bytes y fits e. on_ok (one.read end bytes) _ y _ (λ n e1 h1.
+      on_ok (or_broken (of n.0) end bytes) _ y _ (λ b e2 h2.
+      let c = checked_ok (test b) end bytes (b, n.1) y h2 in
+      let k = back n.0 b (broken_ok (of n.0) end bytes b e2) c.0 in
+      rw (← c.1) (one.takes end bytes n fits e1 ∙ ap (λ a. one.write a ++ n.1) k.0, k.1)) h1) e;
+}
+
+-- a byte of a table, which passes a test
+abbrev pub table_codec : {A : Type 0} (number : A → ℕ) (of : ℕ → Option A) (test : A → Bool)
+    → ((a : A) → of (number a) ≡ Some a) → ((n : ℕ) (a : A) → of n ≡ Some a → n ≡ number a) → Codec A
+table_codec number of test there back =
+    tabled plain_byte number of test (λ a. test a ≡ true) (λ a g. (there a, g)) (λ n a e g. (back n a e, g))
+
+-- a name in upper case
+abbrev pub written_name : Codec (List ℕ)
+written_name = tabled plain_text (λ name. name) upper_name (λ name. true) IsWritten
+    (λ name g. (upper_read name g, refl)) (λ text name e g. upper_takes text name e)
+
 -- the number of an item, which passes a test, and what is kept of both
 module _ {X V : Type 0} (items : List X) (test : ℕ → X → Bool) (value : ℕ → X → V) (number : V → ℕ)
     (back : (n : ℕ) (x : X) → number (value n x) ≡ n) where
@@ -171,109 +213,48 @@ module _ {X V : Type 0} (items : List X) (test : ℕ → X → Bool) (value : �
     pub passes : test (number v) item ≡ true
     pub kept : value (number v) item ≡ v
 
-  abbrev pub read_numbered : ℕ → List ℕ → Result (V × List ℕ) ObjError
-  read_numbered end bytes =
-      byte_at end bytes >>= λ n. or_absent (numbered items n.0) end bytes >>= λ x. checked (test n.0 x) end bytes
-      (value n.0 x, n.1)
-
-  pub numbered_takes : (end : ℕ) (bytes : List ℕ) (y : V × List ℕ) → read_numbered end bytes ≡ Ok y
-      → (bytes ≡ number y.0 ∷ y.1) × IsNumbered y.0
-  numbered_takes end [] y e = absurd cc
-  numbered_takes end (n ∷ rest) y e =
-      on_ok (or_absent (numbered items n) end (n ∷ rest)) _ y ((n ∷ rest ≡ number y.0 ∷ y.1) × IsNumbered y.0)
-      (λ x e1 h1.
-      let c = checked_ok (test n x) end (n ∷ rest) (value n x, rest) y h1 in
-      let is : numbered items n ≡ Some x = absent_ok (numbered items n) end (n ∷ rest) x e1 in
-      let same : n ≡ number (value n x) = sym (back n x) in
-      subst (λ (y : V × List ℕ). (n ∷ rest ≡ number y.0 ∷ y.1) × IsNumbered y.0) c.1 (
-        ap (λ m. m ∷ rest) same,
-        record {
-          item = x;
-          is = subst (λ m. numbered items m ≡ Some x) same is;
-          passes = subst (λ m. test m x ≡ true) same c.0;
-          kept = ap (λ m. value m x) (back n x);
-        },
-      )) e
-
   abbrev pub numbered_codec : Codec V
   numbered_codec = record {
     good = IsNumbered;
     write = λ v. number v ∷ [];
-    read = read_numbered;
-    again = λ end v rest g. rw (g.is, g.passes) (ap (λ w. Ok (w, rest)) g.kept);
-    takes = λ end bytes y fits e. numbered_takes end bytes y e;
+    read = λ end bytes. byte_at end bytes >>= λ n. or_absent (numbered items n.0) end bytes >>= λ x.
+        checked (test n.0 x) end bytes (value n.0 x, n.1);
+    again = λ end v rest g. rw (g.is, g.passes, g.kept) refl;
+    takes = λ end bytes y fits e. on_ok (byte_at end bytes) _ y _ (λ n e1 h1.
+        on_ok (or_absent (numbered items n.0) end bytes) _ y _ (λ x e2 h2.
+        let c = checked_ok (test n.0 x) end bytes (value n.0 x, n.1) y h2 in
+        let same = back n.0 x in
+        rw (← c.1) (
+          rw same (byte_takes end bytes n e1),
+          record {
+            item = x;
+            is = rw same (absent_ok (numbered items n.0) end bytes x e2);
+            passes = rw same c.0;
+            kept = rw same refl;
+          },
+        )) h1) e;
   }
-
--- a text that passes a test
-abbrev pub text_codec : (List ℕ → Bool) → Codec (List ℕ)
-text_codec test = record {
-  good = λ t. test t ≡ true;
-  write = text_field;
-  read = λ end bytes. text_at end bytes >>= λ t. checked (test t.0) end bytes t;
-  again = λ end t rest g. ap (λ r. r >>= λ u. checked (test u.0) end (text_field t ++ rest) u) (text_read end t rest)
-      ∙ rw g refl;
-  takes = λ end bytes y fits e. on_ok (text_at end bytes) _ y ((bytes ≡ text_field y.0 ++ y.1) × (test y.0 ≡ true))
-      (λ t e1 h1.
-      let c = checked_ok (test t.0) end bytes t y h1 in
-      subst (λ (y : List ℕ × List ℕ). (bytes ≡ text_field y.0 ++ y.1) × (test y.0 ≡ true)) c.1
-      (text_takes end bytes t e1, c.0)) e;
-}
-
--- a name in upper case
-abbrev pub written_name : Codec (List ℕ)
-written_name = record {
-  good = IsWritten;
-  write = text_field;
-  read = name_at;
-  again = λ end name rest g.
-      ap (λ r. r >>= λ t. or_broken (upper_name t.0) end (text_field name ++ rest) >>= λ n. Ok (n, t.1))
-      (text_read end name rest) ∙ rw (upper_read name g) refl;
-  takes = λ end bytes y fits e. on_ok (text_at end bytes) _ y ((bytes ≡ text_field y.0 ++ y.1) × IsWritten y.0)
-      (λ t e1 h1.
-      on_ok (or_broken (upper_name t.0) end bytes) _ y ((bytes ≡ text_field y.0 ++ y.1) × IsWritten y.0)
-      (λ n e2 h2.
-      let u = upper_takes t.0 n (broken_ok (upper_name t.0) end bytes n e2) in
-      subst (λ (y : List ℕ × List ℕ). (bytes ≡ text_field y.0 ++ y.1) × IsWritten y.0) (ok_is (n, t.1) y h2)
-      (text_takes end bytes t e1 ∙ ap (λ (n : List ℕ). text_field n ++ t.1) u.0, u.1)) h1) e;
-}
 
 -- the last field is a name that is tested twice: by a table, and by those before it
 module _ (table : List ℕ → Option (List ℕ)) (test : List ℕ → Bool)
     (itself : (text name : List ℕ) → table text ≡ Some name → text ≡ name) where
-  read_name : ℕ → List ℕ → Result (List ℕ) ObjError
-  read_name end bytes =
-      text_at end bytes >>= λ text. or_broken (table text.0) end bytes >>= λ name. checked
-      (test name) end bytes name >>= λ new. ended end text.1 new
-
-  abbrev NameTaken : List ℕ → List ℕ → Type 0
-  NameTaken bytes name = (bytes ≡ text_field name) × ((table name ≡ Some name) × (test name ≡ true))
-
-  name_takes : (end : ℕ) (bytes name : List ℕ) → read_name end bytes ≡ Ok name → NameTaken bytes name
-  unfolding read_name
-  name_takes end bytes name e =
-      on_ok (text_at end bytes) _ name (NameTaken bytes name) (λ text e1 h1.
-      on_ok (or_broken (table text.0) end bytes) _ name (NameTaken bytes name) (λ n e2 h2.
-      on_ok (checked (test n) end bytes n) _ name (NameTaken bytes name) (λ new e3 h3.
-      let d = checked_ok (test n) end bytes n new e3 in
-      let f = ended_ok end text.1 new name h3 in
-      let written : table text.0 ≡ Some n = broken_ok (table text.0) end bytes n e2 in
-      let same : text.0 ≡ n = itself text.0 n written in
-      subst (NameTaken bytes) (d.1 ∙ f.1) (
-        text_takes end bytes text e1 ∙ ap (λ (r : List ℕ). text_field text.0 ++ r) f.0
-            ∙ append-nil (text_field text.0) ∙ ap text_field same,
-        (subst (λ t. table t ≡ Some n) same written, d.0),
-      )) h2) h1) e
-
   pub name_agrees : Agrees
       (λ end bytes. text_at end bytes >>= λ text. or_broken (table text.0) end bytes >>= λ name. checked
       (test name) end bytes name >>= λ new. ended end text.1 new) text_field
       (λ name. (table name ≡ Some name) × (test name ≡ true))
-  unfolding read_name
   name_agrees = record {
     again = λ end name g.
         let read : text_at end (text_field name) ≡ Ok (name, []) = ap (text_at end) (sym (append-nil (text_field name)))
         ∙ text_read end name [] in
-        ap (λ r. r >>= λ text. or_broken (table text.0) end (text_field name) >>= λ n. checked (test n) end
-        (text_field name) n >>= λ new. ended end text.1 new) read ∙ rw (g.0, g.1) refl;
-    takes = λ end bytes name fits e. name_takes end bytes name e;
+        rw (read, g.0, g.1) refl;
+    takes = λ end bytes name fits e. on_ok (text_at end bytes) _ name _ (λ text e1 h1.
+        on_ok (or_broken (table text.0) end bytes) _ name _ (λ n e2 h2.
+        on_ok (checked (test n) end bytes n) _ name _ (λ new e3 h3.
+        let d = checked_ok (test n) end bytes n new e3 in
+        let f = ended_ok end text.1 new name h3 in
+        let written = broken_ok (table text.0) end bytes n e2 in
+        let same = itself text.0 n written in
+        let all : bytes ≡ text_field text.0 =
+        cc (text_takes end bytes text e1, f.0, append-nil (text_field text.0)) in
+        rw (← f.1, ← d.1) (rw same at all, (rw same at written, d.0))) h2) h1) e;
   }

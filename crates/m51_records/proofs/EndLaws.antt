@@ -1,22 +1,18 @@
 -- The first and the last record: what is read is written so, and what is written is read.
-use Rattle.std.proofs.Common.{◌≡◌, inl, inr, ℕ, ◌%◌, ◌<◌, Bool, true, false, eqb, List, refl}
-use Rattle.std.proofs.Common.{sym, ap}
+use Rattle.std.proofs.Common.{◌≡◌, inl, inr, ℕ, ◌%◌, ◌<◌, Bool, true, false, eqb, List, refl, sym, ap, arith}
 use Rattle.std.specs.Prelude.{nat_lt, ◌||◌}
+use Rattle.std.proofs.lemmas.Bool.Decides.{nat_tests}
 use Rattle.std.proofs.lemmas.Bool.{eqb-true, eq-eqb, lt-ltb, ltb-true, and_from, and_parts}
 use Rattle.m51_cells.specs.Name.{IsWritten}
 use Rattle.m51_module.specs.Validity.{IsVersion}
 use Rattle.m51_frame.specs.Fields.{same}
-use Rattle.m51_records.specs.Ends.{header_contents, is_version, header_in, end_contents}
-use Rattle.m51_records.specs.Ends.{are_banks, end_in}
+use Rattle.m51_records.specs.Ends.{header_contents, is_version, header_in, end_contents, are_banks, end_in}
 use Rattle.m51_records.proofs.FieldLaws.{same_is, same_of}
 use Rattle.m51_records.proofs.Codec.{Agrees, then_fields, no_field, record_agrees, written_name, tested_codec}
 use Rattle.m51_records.proofs.Codec.{text_codec}
 
 version_is : (version : ℕ) → is_version version ≡ true → IsVersion version
-version_is version h = cases (eqb version 1) refl h where
-  cases : (b : Bool) → eqb version 1 ≡ b → (b || eqb version 2) ≡ true → IsVersion version
-  cases true e k = inl (eqb-true version 1 e)
-  cases false e k = inr (eqb-true version 2 k)
+version_is version h = grind (arith, nat_tests)
 
 version_of : (version : ℕ) → IsVersion version → is_version version ≡ true
 version_of version (inl e) = ap is_version e

@@ -1,6 +1,5 @@
 -- The record of a fixup: what is read is written so, what is written is read, and both are valid together.
-use Rattle.std.proofs.Common.{◌≡◌, ℕ, zero, suc, true, List, [], ◌∷◌, ◌++◌, length, Some, Ok, refl}
-use Rattle.std.proofs.Common.{ap, subst, ◌∙◌, arith}
+use Rattle.std.proofs.Common.{◌≡◌, ℕ, zero, suc, true, List, [], ◌∷◌, ◌++◌, length, Some, Ok, refl, ap, ◌∙◌, arith}
 use Rattle.std.specs.Prelude.{nat_le, nat_lt}
 use Rattle.std.proofs.lemmas.Bool.{leb-true}
 use Rattle.m51_cells.specs.declared.kind.Base.{Base}
@@ -19,7 +18,7 @@ use Rattle.m51_records.specs.Fixups.{target_by_number, tag_at, target_at, addend
 use Rattle.m51_records.proofs.Tools.{on_ok, ok_is, absent_ok}
 use Rattle.m51_records.proofs.FieldLaws.{IsBytes, form_takes, form_read}
 use Rattle.m51_records.proofs.Codec.{Codec, Agrees, then_fields, if_fields, last_field, no_field, record_agrees}
-use Rattle.m51_records.proofs.Codec.{table_codec, tested_codec, pair_codec, any_pair, numbered_codec}
+use Rattle.m51_records.proofs.Codec.{table_codec, tested_codec, pair_codec, any_pair, numbered_codec, byte_takes}
 
 module _ (segments : List Segment) (externals : List External) (pieces : List Piece) where
   -- what the tests of the reader say of a fixup, after those before it
@@ -37,38 +36,27 @@ module _ (segments : List Segment) (externals : List External) (pieces : List Pi
   target_takes : (tag number end : ℕ) (field : List ℕ) (b : Base) → nat_le tag 1 ≡ true
       → target_by_number segments externals tag number end field ≡ Ok b → (tag ∷ number ∷ [] ≡ target_fields b)
       × IsTarget segments externals b
-  target_takes zero n end field b low e =
-      on_ok (or_absent (numbered segments n) end field) _ b
-      ((0 ∷ n ∷ [] ≡ target_fields b) × IsTarget segments externals b) (λ s e1 h1.
-      subst (λ b. (0 ∷ n ∷ [] ≡ target_fields b) × IsTarget segments externals b) (ok_is (InSegment n) b h1)
-      (refl, (s, absent_ok (numbered segments n) end field s e1))) e
-  target_takes (suc zero) n end field b low e =
-      on_ok (or_absent (numbered externals n) end field) _ b
-      ((1 ∷ n ∷ [] ≡ target_fields b) × IsTarget segments externals b) (λ x e1 h1.
-      subst (λ b. (1 ∷ n ∷ [] ≡ target_fields b) × IsTarget segments externals b) (ok_is (OfExternal n) b h1)
-      (refl, (x, absent_ok (numbered externals n) end field x e1))) e
+  target_takes zero n end field b low e = on_ok (or_absent (numbered segments n) end field) _ b _ (λ s e1 h1.
+      rw (← ok_is (InSegment n) b h1) (refl, (s, absent_ok (numbered segments n) end field s e1))) e
+  target_takes (suc zero) n end field b low e = on_ok (or_absent (numbered externals n) end field) _ b _ (λ x e1 h1.
+      rw (← ok_is (OfExternal n) b h1) (refl, (x, absent_ok (numbered externals n) end field x e1))) e
   target_takes (suc (suc t)) n end field b low e = absurd (omega (arith, leb-true (suc (suc t)) 1 low))
 
+  abbrev TakesTarget : List ℕ → Base × List ℕ → Type 0
+  TakesTarget bytes y = (bytes ≡ target_fields y.0 ++ y.1) × IsTarget segments externals y.0
+
   target_field : (end : ℕ) (bytes : List ℕ) (y : Base × List ℕ) → IsBytes bytes
-      → target_at segments externals end bytes ≡ Ok y → (bytes ≡ target_fields y.0 ++ y.1)
-      × IsTarget segments externals y.0
+      → target_at segments externals end bytes ≡ Ok y → TakesTarget bytes y
   unfolding target_at
-  target_field end bytes y fits e =
-      on_ok (tag_at end bytes) _ y ((bytes ≡ target_fields y.0 ++ y.1) × IsTarget segments externals y.0) (λ tag e1 h1.
+  target_field end bytes y fits e = on_ok (tag_at end bytes) _ y (TakesTarget bytes y) (λ tag e1 h1.
+      on_ok (byte_at end tag.1) _ y (TakesTarget bytes y) (λ number e2 h2.
+      on_ok (target_by_number segments externals tag.0 number.0 end tag.1) _ y (TakesTarget bytes y) (λ b e3 h3.
       let t = (tested_codec (λ n. nat_le n 1)).takes end bytes tag fits e1 in
-      numbered_field tag.0 tag.1 t.0 t.1 h1) e
-    where
-      numbered_field : (tag : ℕ) (rest : List ℕ) → bytes ≡ tag ∷ rest → nat_le tag 1 ≡ true
-          → (byte_at end rest >>= λ number. target_by_number segments externals tag number.0 end rest >>= λ target. Ok
-          (target, number.1)) ≡ Ok y → (bytes ≡ target_fields y.0 ++ y.1) × IsTarget segments externals y.0
-      numbered_field tag [] is low h = absurd cc
-      numbered_field tag (n ∷ rest) is low h =
-          on_ok (target_by_number segments externals tag n end (n ∷ rest)) _ y
-          ((bytes ≡ target_fields y.0 ++ y.1) × IsTarget segments externals y.0) (λ b e2 h2.
-          let c = target_takes tag n end (n ∷ rest) b low e2 in
-          subst (λ (y : Base × List ℕ). (bytes ≡ target_fields y.0 ++ y.1) × IsTarget segments externals y.0)
-          (ok_is (b, rest) y h2)
-          (is ∙ ap (λ (t : List ℕ). t ++ rest) c.0, c.1)) h
+      let c = target_takes tag.0 number.0 end tag.1 b t.1 e3 in
+      rw (← ok_is (b, number.1) y h3) (
+        t.0 ∙ ap (λ r. tag.0 ∷ r) (byte_takes end tag.1 number e2) ∙ ap (λ (r : List ℕ). r ++ number.1) c.0,
+        c.1,
+      )) h2) h1) e
 
   target_again : (end : ℕ) (b : Base) (rest : List ℕ) → IsTarget segments externals b
       → target_at segments externals end (target_fields b ++ rest) ≡ Ok (b, rest)

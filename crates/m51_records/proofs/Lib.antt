@@ -3,12 +3,12 @@ pub mod Standing
 pub mod Tools
 pub mod FieldLaws
 pub mod Codec
+pub mod InTurn
 pub mod FrameLaws
 pub mod SegmentLaws
 pub mod NameLaws
 pub mod SegmentsValid
 pub mod ExternalLaws
-pub mod Latest
 pub mod PieceLaws
 pub mod FixupLaws
 pub mod FixupsValid

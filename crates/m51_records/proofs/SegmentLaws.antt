@@ -1,20 +1,18 @@
 -- The record of a segment: what is read is written so, what is written is read, and both are valid together.
-use Rattle.std.proofs.Common.{◌≡◌, ℕ, zero, suc, Bool, true, false, eqb, List, [], ◌∷◌, length, Some, refl, ap}
+use Rattle.std.proofs.Common.{◌≡◌, ℕ, Bool, true, eqb, List, [], ◌∷◌, length, Some, refl, arith}
 use Rattle.std.specs.Prelude.{not, ◌||◌, nat_lt}
-use Rattle.std.proofs.lemmas.Option.{same_Some}
 use Rattle.m51_cells.specs.declared.kind.Kind.{Kind}
 use Rattle.m51_cells.specs.declared.kind.Kind.TheVariants.{Number}
 use Rattle.m51_cells.specs.declared.kind.Reloc.{Reloc}
-use Rattle.m51_cells.specs.declared.kind.Reloc.TheVariants.{Abs, Unit as UnitType, Bitaddressable, Inpage}
-use Rattle.m51_cells.specs.declared.kind.Reloc.TheVariants.{Inblock as InblockType, Page}
+use Rattle.m51_cells.specs.declared.kind.Reloc.TheVariants.{Abs}
 use Rattle.m51_cells.specs.Kinds.{same_kind, is_absolute, allows}
 use Rattle.m51_module.specs.declared.segment.Segment.{Segment}
 use Rattle.m51_records.specs.Codes.{kind_number, kind_of, reloc_number, reloc_by_code}
 use Rattle.m51_records.specs.Segments.{flags_of, marks_of, are_marks, segment_contents, segment_kind_at, reloc_at}
 use Rattle.m51_records.specs.Segments.{marks_at, base_at, is_size, size_at, no_text, segment_name, may_have}
 use Rattle.m51_records.specs.Segments.{segment_name_at, segment_in}
-use Rattle.m51_records.proofs.Codec.{Agrees, Fields, then_fields, if_fields, last_field, record_agrees}
-use Rattle.m51_records.proofs.Codec.{table_codec, pair_codec, name_agrees}
+use Rattle.m51_records.proofs.Codec.{Agrees, Fields, then_fields, if_fields, last_field, record_agrees, table_codec}
+use Rattle.m51_records.proofs.Codec.{pair_codec, name_agrees}
 use Rattle.m51_records.proofs.FieldLaws.{upper_takes, kind_takes, kind_read, reloc_takes, reloc_read}
 
 -- what the tests of the reader say of a segment of a module of that version, after those before it
@@ -31,29 +29,17 @@ pub record IsTested (version : ℕ) (before : List Segment) (s : Segment) : Type
 -- ---- fields
 
 marks_take : (n : ℕ) (m : Bool × Bool) → marks_of n ≡ Some m → n ≡ flags_of m.0 m.1
-marks_take zero m e = ap (λ (m : Bool × Bool). flags_of m.0 m.1) (same_Some (false, false) m e)
-marks_take (suc zero) m e = ap (λ (m : Bool × Bool). flags_of m.0 m.1) (same_Some (true, false) m e)
-marks_take (suc (suc zero)) m e = ap (λ (m : Bool × Bool). flags_of m.0 m.1) (same_Some (false, true) m e)
-marks_take (suc (suc (suc zero))) m e = ap (λ (m : Bool × Bool). flags_of m.0 m.1) (same_Some (true, true) m e)
-marks_take (suc (suc (suc (suc n)))) m e = absurd cc
+marks_take n m e = grind arith
 
 marks_read : (o a : Bool) → marks_of (flags_of o a) ≡ Some (o, a)
-marks_read false false = refl
-marks_read true false = refl
-marks_read false true = refl
-marks_read true true = refl
+marks_read o a = grind arith
 
 no_text_takes : (text name : List ℕ) → no_text text ≡ Some name → text ≡ name
-no_text_takes [] name e = same_Some [] name e
-no_text_takes (b ∷ text) name e = absurd cc
+no_text_takes text name e = grind arith
 
 segment_name_takes : (reloc : Reloc) (text name : List ℕ) → segment_name reloc text ≡ Some name → text ≡ name
 segment_name_takes Abs text name e = no_text_takes text name e
-segment_name_takes UnitType text name e = (upper_takes text name e).0
-segment_name_takes Bitaddressable text name e = (upper_takes text name e).0
-segment_name_takes Inpage text name e = (upper_takes text name e).0
-segment_name_takes InblockType text name e = (upper_takes text name e).0
-segment_name_takes Page text name e = (upper_takes text name e).0
+segment_name_takes reloc text name e = (upper_takes text name e).0
 
 -- ---- the record
 

@@ -1,4 +1,5 @@
 -- The names of publics without those of one module.
+use Rattle.std.proofs.lemmas.Grind.{common_steps}
 use Rattle.std.proofs.Common.{◌≡◌, inl, inr, ℕ, zero, suc, ◌+◌, ◌<◌, ◌≤◌, Bool, true, false, cond, not, ◌&&◌, ◌||◌}
 use Rattle.std.proofs.Common.{List, [], ◌∷◌, ◌++◌, length, take, get_or, Option, Some, None, refl, sym, ap, subst, ◌∙◌}
 use Rattle.std.proofs.Common.{arith}
@@ -18,64 +19,45 @@ use Rattle.m51_module.specs.WorkNames.{AreNames, AreNamesOf, IsBeside, is_in, La
 
 -- names are taken out item by item
 and_true : (a : Bool) → a ≡ (a && not false)
-and_true true = refl
-and_true false = refl
+and_true a = grind arith
 
 less_one : (q a i : Bool) → cond q false (i && not a) ≡ (i && not (a || (q || false)))
-less_one true true true = refl
-less_one true true false = refl
-less_one true false true = refl
-less_one true false false = refl
-less_one false true true = refl
-less_one false true false = refl
-less_one false false true = refl
-less_one false false false = refl
+less_one q a i = grind arith
 
 module _ {X : Type 0} (name_of : X → List ℕ) where
   pub lacks_none : (old : List (List ℕ)) (items : List X) → LacksNames name_of old (take 0 items) old
-  lacks_none old items = record { each = λ name. and_true (is_in old name) }
+  lacks_none old items = grind arith
 
   pub lacks_more : (old now new : List (List ℕ)) (items : List X) (index : ℕ) (x : X)
       → LacksNames name_of old (take index items) now → index < length items
       → x ≡ get_or items index x
       → ((name : List ℕ) → is_in new name ≡ cond (bytes_eq (name_of x) name) false (is_in now name))
       → LacksNames name_of old (take (index + 1) items) new
-  lacks_more old now new items index x lacks below is puts =
-      let more : take (index + 1) items ≡ take index items ++ x ∷ [] = take_more items index x below
-      ∙ ap (λ y. take index items ++ y ∷ []) (sym is) in
-      record {
-        each = λ name.
-            let test : X → Bool = λ y. bytes_eq (name_of y) name in
-            puts name ∙ ap (λ b. cond (bytes_eq (name_of x) name) false b) (lacks.each name)
-            ∙ less_one (bytes_eq (name_of x) name) (list_any test (take index items)) (is_in old name)
-            ∙ ap (λ b. is_in old name && not b)
-            (sym (list_any-append test (take index items) (x ∷ [])) ∙ ap (list_any test) (sym more));
-      }
+  lacks_more old now new items index x lacks below is puts = grind (
+    arith,
+    common_steps,
+    bytes_eq,
+    less_one,
+    bytes_eq (name_of x),
+    name_of x,
+    list_any,
+    take index items,
+    is_in old,
+    list_any-append,
+  )
 
   pub lacks_all : (old now : List (List ℕ)) (items : List X) (index : ℕ) → LacksNames name_of old (take index items) now
       → length items ≤ index → LacksNames name_of old items now
-  lacks_all old now items index lacks past = record {
-    each = λ name. lacks.each name
-        ∙ ap (λ xs. is_in old name && not (list_any (λ x. bytes_eq (name_of x) name) xs)) (take_all index items past);
-  }
+  lacks_all old now items index lacks past = grind (arith, take_all)
 
 -- what the others define, where the module has none of it
 others_by : (o h : Bool) → (h ≡ true → o ≡ false) → ((o || h) && not h) ≡ o
-others_by true true apart = sym (apart refl)
-others_by true false apart = refl
-others_by false true apart = refl
-others_by false false apart = refl
+others_by o h apart = grind arith
 
 names_lack : (modules others : List ModuleParts) (m : ModuleParts) (old new : List (List ℕ)) (publics : List Public)
     → IsBeside modules others m → AreNamesOf modules old
     → LacksNames (λ (p : Public). p.name) old publics new → publics ≡ m.publics → AreNamesOf others new
-names_lack modules others m old new publics beside are lacks is = record {
-  each = λ name.
-      lacks.each name
-      ∙ ap (λ ps. is_in old name && not (list_any (λ (p : Public). bytes_eq p.name name) ps)) is
-      ∙ ap (λ b. b && not (has_public name m)) (are.each name ∙ beside.each name)
-      ∙ others_by (defines others name) (has_public name m) (beside.apart name);
-}
+names_lack modules others m old new publics beside are lacks is = grind arith
 
 -- the same where a table of names is kept
 pub names_less : {S : Type 0} (keys : S → List (List ℕ)) (modules others : List ModuleParts) (m : ModuleParts)
@@ -83,20 +65,13 @@ pub names_less : {S : Type 0} (keys : S → List (List ℕ)) (modules others : L
     → before ≡ Some old → LacksNames (λ (p : Public). p.name) old publics (keys found) → publics ≡ m.publics
     → IsBeside modules others m → AreNames modules before
     → AreNames others (option_map keys (Some found))
-names_less keys modules others m before old publics found is lacks publics_are beside are =
-    names_lack modules others m old (keys found) publics beside
-    (subst (λ (o : Option (List (List ℕ))). AreNames modules o) is are) lacks publics_are
+names_less keys modules others m before old publics found is lacks publics_are beside are = grind arith
 
 -- modules that define what the others and one more define
 pub names_back : (modules others : List ModuleParts) (m : ModuleParts) (names : Option (List (List ℕ)))
     → ((name : List ℕ) → defines modules name ≡ (defines others name || has_public name m))
     → AreNames (others ++ m ∷ []) names → AreNames modules names
-names_back modules others m None each are = tt
-names_back modules others m (Some names) each are = record {
-  each = λ name.
-      are.each name ∙ list_any-append (has_public name) others (m ∷ [])
-      ∙ ap (λ b. defines others name || b) (or-false (has_public name m)) ∙ sym (each name);
-}
+names_back modules others m names each are = grind (arith, list_any-append, or-false)
 
 -- a test over a list without one item, and with another in its place
 pub any_removed : {X : Type 0} (p : X → Bool) (xs : List X) (i : ℕ) (x : X) → i < length xs → x ≡ get_or xs i x
@@ -163,3 +138,12 @@ beside_others ms i m library below is = record {
               pair (k + 1) x name (omega (arith, low, count)) (sym at ∙ get_or-remove_above ms i x k more below)
               (λ e. omega (arith, e, more)) has has_x
         ]
+
+-- so a table of the names of all becomes one of the names of the others
+pub names_others : (ms all : List ModuleParts) (i : ℕ) (m : ModuleParts) (before now : Option (List (List ℕ)))
+    → IsLibrary ms → i < length ms → m ≡ get_or ms i m → all ≡ ms → AreNames all before
+    → ((modules others : List ModuleParts) → IsBeside modules others m → AreNames modules before → AreNames others now)
+    → AreNames (remove ms i) now
+names_others ms all i m before now library below is same known less =
+    less ms (remove ms i) (beside_others ms i m library below is)
+    (subst (λ (modules : List ModuleParts). AreNames modules before) same known)

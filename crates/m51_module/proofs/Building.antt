@@ -12,11 +12,7 @@ use Rattle.m51_module.specs.Edits.{after_edit, after_edits}
 use Rattle.m51_module.proofs.Held.{add_keeps}
 
 pub none_is_library : IsLibrary []
-none_is_library = record {
-  few = omega arith;
-  names = λ i j d below inside. absurd (omega (arith, inside));
-  publics = λ i j d below inside. absurd (omega (arith, inside));
-}
+none_is_library = grind arith
 
 -- the next module, where nothing refuses it
 pub library_more : (ms : List ModuleParts) (i : ℕ) (d : ModuleParts) → i < length ms → IsLibrary (take i ms)
@@ -28,16 +24,14 @@ pub each_more : (ms : List ModuleParts) (i : ℕ) (d : ModuleParts) → i < leng
     → added_each (take (i + 1) ms) (drop (i + 1) ms) ≡ added_each (take i ms) (drop i ms)
 each_more ms i d lt free =
     rw (take_more ms i d lt, drop_more ms i d lt)
-    (sym (ap (λ (o : Option LibError). and_then (value_unless o (take i ms ++ get_or ms i d ∷ []))
-    (λ now. added_each now (drop (i + 1) ms))) free))
+    (cc)
 
 pub each_refused : (ms : List ModuleParts) (i : ℕ) (d : ModuleParts) (refusal : LibError) → i < length ms
     → add_refusal (take i ms) (get_or ms i d) ≡ Some refusal
     → added_each (take i ms) (drop i ms) ≡ Err refusal
 each_refused ms i d refusal lt refused =
     rw (drop_more ms i d lt)
-    (ap (λ (o : Option LibError). and_then (value_unless o (take i ms ++ get_or ms i d ∷ []))
-    (λ now. added_each now (drop (i + 1) ms))) refused)
+    (cc)
 
 pub each_all : (ms : List ModuleParts) (i : ℕ) → length ms ≤ i → added_each (take i ms) (drop i ms) ≡ Ok ms
 each_all ms i past = rw (take_all i ms past, drop_all i ms past) refl

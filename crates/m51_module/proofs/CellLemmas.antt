@@ -13,18 +13,15 @@ use Rattle.m51_module.specs.Sound.{IsInside}
 -- an extent of program memory covers the bytes from its base
 pub code_covers : (p : Placed) (c : Cell) → p.kind ≡ Code → Covers (extent_at p) c
     → Covers (extent CodeSpace p.base p.size) c
-code_covers p c e h = subst (λ k. Covers (extent_of k p.base p.size) c) e h
+code_covers p c e h = rw e at h
 
 -- one of DATA covers the bits of its bytes
 pub data_covers : (p : Placed) (c : Cell) → p.kind ≡ Direct → Covers (extent_at p) c
     → Covers (extent Ram (8 * p.base) (8 * p.size)) c
-data_covers p c e h = subst (λ k. Covers (extent_of k p.base p.size) c) e h
+data_covers p c e h = rw e at h
 
 -- an extent with a cell ends inside its memory, where it lies inside it
 pub inside_end : (e : Extent) → IsInside e → 0 < e.len → e.first + e.len ≤ cells_in e.space
 inside_end e inside some =
-    let last = e.first + pred e.len in
-    let below : last < cells_in e.space =
-    inside (record { space = e.space; at = last })
-    (record { space = refl; from = omega arith; below = omega arith }) in
-    omega arith
+    let cell : Cell = record { space = e.space; at = e.first + pred e.len } in
+    omega (arith, inside cell (record { space = refl; from = omega arith; below = omega arith }))

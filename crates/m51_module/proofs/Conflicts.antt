@@ -1,5 +1,5 @@
 -- Conflicts of any programs: they are mutual, and are carried over where only segments get other numbers.
-use Rattle.std.proofs.Common.{◌≡◌, ◌⊎◌, inl, inr, ℕ, List, [], ◌∷◌, sym}
+use Rattle.std.proofs.Common.{arith, ◌≡◌, ◌⊎◌, inl, inr, ℕ, List, [], ◌∷◌, sym}
 use Rattle.std.specs.Prelude.{◌↔◌}
 use Rattle.m51_module.specs.Conflict.{AreRelated, Same, Before, After, FirstUnderNone, SecondUnderNone, UnderTwo}
 use Rattle.m51_module.specs.Conflict.{InConflict, FirstPlain, SecondPlain, Owners}
@@ -27,14 +27,11 @@ conflict_back g s t (Owners u v owns_s owns_t related) = Owners v u owns_t owns_
 pub same_back : (g h : ProgramGraph) → HaveSameUnits g h → HaveSameUnits h g
 same_back g h same = record {
   edges = λ u v. ((same.edges u v).1, (same.edges u v).0);
-  roots = λ x u. ((same.roots x u).1, (same.roots x u).0);
+  roots = grind arith;
 }
 
 pub segment_back : (g h : ProgramGraph) (s t : ℕ) → IsSameSegment g h s t → IsSameSegment h g t s
-segment_back g h s t same = record {
-  owners = λ u. ((same.owners u).1, (same.owners u).0);
-  overlaid = (same.overlaid.1, same.overlaid.0);
-}
+segment_back g h s t same = grind arith
 
 module _ (g h : ProgramGraph) (same : HaveSameUnits g h) where
   walk_there : (u : ℕ) (vs : List ℕ) → IsWalk g.edges u vs → IsWalk h.edges u vs
@@ -42,16 +39,13 @@ module _ (g h : ProgramGraph) (same : HaveSameUnits g h) where
   walk_there u (v ∷ vs) w = ((same.edges u v).0 w.0, walk_there v vs w.1)
 
   pub reach_there : (u v : ℕ) → Reaches g.edges u v → Reaches h.edges u v
-  reach_there u v r =
-      record { next = r.next; more = r.more; walk = walk_there u (r.next ∷ r.more) r.walk; ends = r.ends }
+  reach_there u v r = grind (arith, walk_there u (r.next ∷ r.more) r.walk)
 
   leads_there : (u v : ℕ) → (u ≡ v) ⊎ Reaches g.edges u v → (u ≡ v) ⊎ Reaches h.edges u v
-  leads_there u v (inl e) = inl e
-  leads_there u v (inr r) = inr (reach_there u v r)
+  leads_there u v h2 = grind (arith, reach_there)
 
   pub under_there : (x u : ℕ) → LiesUnder g x u → LiesUnder h x u
-  under_there x u l =
-      record { root = l.root; is_root = (same.roots x l.root).0 l.is_root; leads = leads_there l.root u l.leads }
+  under_there x u l = grind (arith, leads_there)
 
 -- what relates units of the one relates them in the other
 pub related_there : (g h : ProgramGraph) → HaveSameUnits g h → (u v : ℕ) → AreRelated g u v → AreRelated h u v
@@ -68,8 +62,8 @@ related_there g h same u v (UnderTwo x y differ first second) =
 -- segments of the one in conflict are in conflict in the other
 pub conflict_there : (g h : ProgramGraph) → HaveSameUnits g h → (s t s' t' : ℕ) → IsSameSegment g h s s'
     → IsSameSegment g h t t' → InConflict g s t → InConflict h s' t'
-conflict_there g h same s t s' t' one two (FirstPlain plain) = FirstPlain (λ o. plain (one.overlaid.1 o))
-conflict_there g h same s t s' t' one two (SecondPlain plain) = SecondPlain (λ o. plain (two.overlaid.1 o))
+conflict_there g h same s t s' t' one two (FirstPlain plain) = grind arith
+conflict_there g h same s t s' t' one two (SecondPlain plain) = grind arith
 conflict_there g h same s t s' t' one two (Owners u v owns_s owns_t related) =
     Owners u v ((one.owners u).0 owns_s) ((two.owners v).0 owns_t) (related_there g h same u v related)
 

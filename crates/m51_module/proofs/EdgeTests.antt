@@ -1,9 +1,8 @@
 -- The test for an edge holds exactly if the edge exists.
-use Rattle.std.proofs.Common.{◌≡◌, ◌⊎◌, inl, inr, ℕ, Bool, true, false, slice_index_or, refl, sym, subst, ◌∙◌}
+use Rattle.std.proofs.Common.{arith, ◌≡◌, ◌⊎◌, ℕ, Bool, true, false, slice_index_or, subst}
 use Rattle.std.specs.Prelude.{◌==◌, ◌&&◌, IsTrue, ◌↔◌}
-use Rattle.std.specs.Cmp.Derive.{both_true}
 use Rattle.std.specs.List.{Any}
-use Rattle.std.proofs.lemmas.Bool.{and_parts, cases_Bool, eq-eqb, eqb-true, false≢true}
+use Rattle.std.proofs.lemmas.Bool.{and_parts, eqb-true}
 use Rattle.std.proofs.lemmas.Bool.Decides.{same_from_decides}
 use Rattle.std.proofs.lemmas.List.Folds.{Any-from_list_any, list_any-from_Any}
 use Rattle.m51_cells.proofs.Small.{pair_is}
@@ -18,24 +17,17 @@ edge_from_test edges from to h = there (Any-from_list_any _ edges h) where
       (k, below, subst (λ (p : ℕ × ℕ). slice_index_or edges k p ≡ p) e at)
 
 pub test_from_edge : (edges : Edges) (from to : ℕ) → HasEdge edges from to → has_edge edges from to ≡ true
-test_from_edge edges from to h =
-    list_any-from_Any _ edges (h.0, (from, to), h.1, h.2, both_true (eq-eqb from from refl) (eq-eqb to to refl))
+test_from_edge edges from to h = grind (arith, list_any-from_Any)
 
 -- so a result that is true exactly if the edge exists is that of the test
 pub same_edge_test : (answer : Bool) (edges : Edges) (from to : ℕ) → (IsTrue answer ↔ HasEdge edges from to) → answer
     ≡ has_edge edges from to
 same_edge_test answer edges from to h =
     same_from_decides {P = HasEdge edges from to} answer (has_edge edges from to) h
-    (edge_from_test edges from to, test_from_edge edges from to)
+    (grind (arith, edge_from_test, test_from_edge))
 
 -- the two cases of the test, each with what follows from it
 pub edge_tells : (edges : Edges) (from to : ℕ)
     → ((has_edge edges from to ≡ true) × HasEdge edges from to)
     ⊎ ((has_edge edges from to ≡ false) × (HasEdge edges from to → ⊥))
-edge_tells edges from to =
-    elim (cases_Bool (has_edge edges from to)) as
-    (λ _. ((has_edge edges from to ≡ true) × HasEdge edges from to)
-    ⊎ ((has_edge edges from to ≡ false) × (HasEdge edges from to → ⊥))) [
-      | inl is ↦ inl (is, edge_from_test edges from to is)
-      | inr is_not ↦ inr (is_not, λ h. false≢true (sym is_not ∙ test_from_edge edges from to h))
-    ]
+edge_tells edges from to = grind (arith, edge_from_test, test_from_edge)

@@ -6,7 +6,4 @@ use Rattle.m51_module.specs.Image.{IsErased}
 
 -- copies of FFH
 pub erased : (count : ℕ) (bytes : List ℕ) → bytes ≡ replicate count 0xFF → IsErased count bytes
-erased count bytes e = record {
-  len = rw e (length-replicate {A = ℕ} count 0xFF);
-  each = λ index below. rw e (grind (arith, common_steps));
-}
+erased count bytes e = grind (arith, common_steps)

@@ -6,6 +6,4 @@ use Rattle.m51_module.specs.Validity.{field_len}
 
 -- a field has a byte
 pub some_byte : (form : Form) → 0 < field_len form
-some_byte Word = omega arith
-some_byte Inblock = omega arith
-some_byte form = omega arith
+some_byte form = grind arith

@@ -1,4 +1,5 @@
 -- What edits of a library keep.
+use Rattle.std.proofs.lemmas.Grind.{common_steps}
 use Rattle.std.proofs.Common.{◌≡◌, ◌≢◌, ℕ, ◌+◌, ◌-◌, ◌<◌, nat_le, Bool, true, false, cond, List, [], ◌∷◌, ◌++◌, length}
 use Rattle.std.proofs.Common.{get_or, take, drop, add-one, length-drop, Option, Some, None, refl, ap, sym, subst, ◌∙◌}
 use Rattle.std.proofs.Common.{arith, length-append}
@@ -30,24 +31,27 @@ same_bytes one two e = (bytes_eq-Decides one two).1 e
 equal_bytes : (one two : List ℕ) → bytes_eq one two ≡ true → one ≡ two
 equal_bytes one two h = (bytes_eq-Decides one two).0 h
 
+-- the index of what passes is inside the list
+pub index_within : {X : Type 0} (p : X → Bool) (xs : List X) (i : ℕ) → position p xs ≡ Some i → i < length xs
+index_within p [] i h = absurd (cc h)
+index_within p (x ∷ xs) i h = (position-Some p (x ∷ xs) i x h).0
+
 -- in a library, a name that a module has is the name of only that module
-pub named_alone : (name : List ℕ) (ms : List ModuleParts) (i : ℕ) (d : ModuleParts) → IsLibrary ms
+pub named_alone : (name : List ℕ) (ms : List ModuleParts) (i : ℕ) → IsLibrary ms
     → position (is_named name) ms ≡ Some i → PassesAlone (is_named name) ms i
-named_alone name ms i d h found =
+named_alone name ms i h found =
     let at : (e : ModuleParts) → (i < length ms) × (is_named name (get_or ms i e) ≡ true)
     × ((k : ℕ) → k < i → is_named name (get_or ms k e) ≡ false) =
     λ e. position-Some (is_named name) ms i e found in
     record {
-      within = (at d).0;
+      within = index_within (is_named name) ms i found;
       here = λ e. (at e).1;
       others = λ k e lt ne. one_less k i ne (λ below. (at e).2 k below)
-          (λ above. false_from_ne_true _ (λ met.
-          h.names i k e above lt (equal_bytes _ _ ((at e).1) ∙ sym (equal_bytes _ _ met))));
+          (grind (arith, equal_bytes));
     }
 
 no_clash : (o : Option Public) → ◌≡◌ {A = Option LibError} (option_map (λ (p : Public). B3 p.name) o) None → o ≡ None
-no_clash None h = refl
-no_clash (Some p) h = absurd (cc h)
+no_clash o h = grind arith
 
 -- where nothing clashes, no module shares a public with the one that comes in
 pub apart : (ms : List ModuleParts) (new : ModuleParts) → clash ms new ≡ None → (k : ℕ) (d : ModuleParts)
@@ -57,12 +61,8 @@ apart ms new free k d lt p q p_in q_in same =
     let none : defines ms (get_or new.publics q_in.0 q).name ≡ false =
     none_passes (λ (r : Public). defines ms r.name) new.publics found q_in.0 q q_in.1 in
     let named : bytes_eq (get_or (get_or ms k d).publics p_in.0 p).name q.name ≡ true =
-    same_bytes _ _ (ap (λ (r : Public). r.name) p_in.2 ∙ same) in
-    let has : has_public q.name (get_or ms k d) ≡ true =
-    list_any_at (λ (r : Public). bytes_eq r.name q.name) (get_or ms k d).publics p_in.0 p p_in.1 named in
-    let any : defines ms q.name ≡ true = list_any_at (has_public q.name) ms k d lt has in
-    let none_q : defines ms q.name ≡ false = ap (λ (r : Public). defines ms r.name) (sym q_in.2) ∙ none in
-    absurd (cc (any, none_q))
+    same_bytes _ _ (grind arith ∙ same) in
+    grind (arith, list_any_at)
 
 swapped : (m n : ModuleParts) → ShareNoPublic m n → ShareNoPublic n m
 swapped m n h p q p_in q_in same = h q p q_in p_in (sym same)
@@ -75,40 +75,34 @@ pub record IsFree (ms : List ModuleParts) (new : ModuleParts) : Type 0 where
 
 free_when : (b c : Bool) (x y : LibError) (z : Option LibError) → cond b (Some x) (cond c (Some y) z) ≡ None
     → (b ≡ false) × (c ≡ false) × (z ≡ None)
-free_when true c x y z h = absurd (cc h)
-free_when false true x y z h = absurd (cc h)
-free_when false false x y z h = (refl, refl, h)
+free_when b c x y z h = grind arith
 
 pub is_free : (ms : List ModuleParts) (new : ModuleParts) → add_refusal ms new ≡ None → IsFree ms new
-is_free ms new h =
-    let f = free_when (holds ms new.name) (nat_le 255 (length ms)) (B1 new.name) Full (clash ms new) h in
-    record { name = f.0; room = f.1; publics = f.2 }
+is_free ms new h = grind arith
 
 other_name : (ms : List ModuleParts) (name : List ℕ) → holds ms name ≡ false → (k : ℕ) (d : ModuleParts) → k < length ms
     → (get_or ms k d).name ≢ name
-other_name ms name none k d lt e =
-    let any : holds ms name ≡ true = list_any_at (is_named name) ms k d lt (same_bytes _ _ e) in
-    absurd (cc (any, none))
+other_name ms name none k d lt e = cc (list_any_at (is_named name) ms k d lt (same_bytes _ _ e))
 
 -- a module that nothing refuses makes a library with the others
 pub add_keeps : (ms : List ModuleParts) (new : ModuleParts) → IsLibrary ms → add_refusal ms new ≡ None
     → IsLibrary (ms ++ new ∷ [])
 add_keeps ms new h none =
     let f : IsFree ms new = is_free ms new none in
-    let len : length (ms ++ new ∷ []) ≡ length ms + 1 = length-append ms (new ∷ []) in
-    let room : length ms < 255 = grind (arith, nat_tests, f.room) in
-    record {
-      few = omega (arith, len, room);
-      names = all_pairs_push NamesDiffer ms new h.names (other_name ms new.name f.name);
-      publics = all_pairs_push ShareNoPublic ms new h.publics (apart ms new f.publics);
-    }
+    grind (
+      arith,
+      common_steps,
+      all_pairs_push NamesDiffer ms new h.names (other_name ms new.name f.name),
+      all_pairs_push ShareNoPublic ms new h.publics (apart ms new f.publics),
+    )
 
 pub delete_keeps : (ms : List ModuleParts) (i : ℕ) → i < length ms → IsLibrary ms → IsLibrary (remove ms i)
-delete_keeps ms i lt h = record {
-  few = omega (arith, length-remove ms i lt, h.few);
-  names = all_pairs_remove NamesDiffer ms i lt h.names;
-  publics = all_pairs_remove ShareNoPublic ms i lt h.publics;
-}
+delete_keeps ms i lt h = grind (
+  arith,
+  common_steps,
+  all_pairs_remove NamesDiffer ms i lt h.names,
+  all_pairs_remove ShareNoPublic ms i lt h.publics,
+)
 
 -- the others share no public with the module that replaces one
 others_apart : (ms : List ModuleParts) (i : ℕ) (new : ModuleParts) → i < length ms → clash (remove ms i) new ≡ None
@@ -118,24 +112,24 @@ others_apart ms i new in_it free k d lt ne =
     let len : length (remove ms i) + 1 ≡ length ms = length-remove ms i in_it in
     one_less k i ne
     (λ below. subst P (get_or-remove_below ms i d k below in_it)
-    (apart (remove ms i) new free k d (omega (arith, len, in_it, below))))
+    (apart (remove ms i) new free k d (omega arith)))
     (λ above.
     let e : (k - 1) + 1 ≡ k = omega arith in
-    let at : get_or (remove ms i) (k - 1) d ≡ get_or ms k d = get_or-remove_above ms i d (k - 1) (omega arith) in_it
-    ∙ ap (λ (n : ℕ). get_or ms n d) e in
-    subst P at (apart (remove ms i) new free (k - 1) d (omega (arith, len, lt, above))))
+    let at : get_or (remove ms i) (k - 1) d ≡ get_or ms k d = grind (arith, get_or-remove_above) in
+    subst P at (apart (remove ms i) new free (k - 1) d (omega arith)))
 
 pub replace_keeps : (ms : List ModuleParts) (i : ℕ) (new : ModuleParts) → IsLibrary ms
-    → PassesAlone (is_named new.name) ms i → clash (remove ms i) new ≡ None
+    → position (is_named new.name) ms ≡ Some i → clash (remove ms i) new ≡ None
     → IsLibrary (slice_set ms i new)
-replace_keeps ms i new h alone free =
+replace_keeps ms i new h at free =
+    let alone = named_alone new.name ms i h at in
     let len : length (slice_set ms i new) ≡ length ms = length-set ms i new in
     let differ : (k : ℕ) (d : ModuleParts) → k < length ms → k ≢ i → (get_or ms k d).name ≢ new.name =
-    λ k d lt ne e. absurd (cc (alone.others k d lt ne, same_bytes (get_or ms k d).name new.name e)) in
+    grind (arith, same_bytes) in
     record {
       few = omega (arith, len, h.few);
       names = pairs_set NamesDiffer ms i new alone.within h.names
-          (λ k d lt ne. (differ k d lt ne, λ e. differ k d lt ne (sym e)));
+          (grind arith);
       publics = pairs_set ShareNoPublic ms i new alone.within h.publics (λ k d lt ne.
           let r : ShareNoPublic (get_or ms k d) new = others_apart ms i new alone.within free k d lt ne in
           (r, swapped (get_or ms k d) new r));
@@ -145,7 +139,7 @@ replace_keeps ms i new h alone free =
 pub around : (ms : List ModuleParts) (i : ℕ) → take i ms ++ take (length ms - (i + 1)) (drop (i + 1) ms) ≡ remove ms i
 around ms i =
     let all : take (length ms - (i + 1)) (drop (i + 1) ms) ≡ drop (i + 1) ms =
-    take_all _ _ (omega (arith, length-drop (i + 1) ms)) in
+    take_all _ _ (grind (arith, length-drop)) in
     rw (all, add-one) refl
 
 -- a library stays one where a module of it is raised

@@ -46,4 +46,4 @@ pub rows_along : (l : LayoutParts) (rows : List (List ℕ)) → IsSound l → Ar
     → All (IsRowAlong (length l.units)) rows
 rows_along l rows sound h k d below =
     subst (IsRowAlong (length l.units))
-    (sym (get_or_default rows k d [] below ∙ h.each k (omega (arith, h.len, below)))) (row_of l sound k)
+    (grind (arith, get_or_default)) (row_of l sound k)

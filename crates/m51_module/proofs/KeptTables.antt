@@ -1,4 +1,5 @@
 -- The tables of edges and of units by address, extended by one edge, one address and one unit at a time.
+use Rattle.std.proofs.lemmas.Grind.{common_steps}
 use Rattle.std.proofs.Common.{◌≡◌, ◌≢◌, inl, inr, ℕ, zero, suc, ◌+◌, ◌<◌, ◌≤◌, Bool, true, false, List, [], ◌∷◌, ◌++◌}
 use Rattle.std.proofs.Common.{length, Option, Some, None, replicate, refl, sym, ap, subst, ◌∙◌, arith, length-append}
 use Rattle.std.specs.Prelude.{slice_index_or, slice_set}
@@ -9,18 +10,17 @@ use Rattle.std.proofs.lemmas.List.Elements.{Contains-push, Contains-push_cases, 
 use Rattle.std.proofs.lemmas.Option.{same_Some}
 use Rattle.m51_cells.specs.declared.kind.Kind.TheVariants.{Code}
 use Rattle.m51_cells.specs.declared.cell.Space.TheVariants.{Code as CodeSpace}
-use Rattle.m51_cells.specs.Extent.{Covers, extent, extent_of}
+use Rattle.m51_cells.specs.Extent.{extent}
 use Rattle.m51_cells.proofs.Small.{below_or_last}
 use Rattle.m51_module.specs.declared.parts.LayoutParts.{LayoutParts}
 use Rattle.m51_module.specs.declared.placed.Placed.{Placed}
-use Rattle.m51_module.specs.Cells.{extent_at, code_cell}
+use Rattle.m51_module.specs.Cells.{extent_at}
 use Rattle.m51_module.specs.Kept.{AreClear, AreEdgeRows, IsEmptyTable, IsEntered, AreUnitsAt}
 use Rattle.m51_module.specs.Plan.{IsUnit, IsUnitAt}
 use Rattle.m51_module.specs.Sound.{IsSound, IsInside}
 use Rattle.m51_module.specs.Walks.{Edges, HasEdge}
-use Rattle.m51_module.proofs.CellLemmas.{code_covers, inside_end}
-use Rattle.m51_module.proofs.Owning.{none_in_empty}
-use Rattle.m51_module.proofs.Units.{same_or_not, at_from_covers, covers_from_at, one_unit}
+use Rattle.m51_module.proofs.CellLemmas.{inside_end}
+use Rattle.m51_module.proofs.Units.{same_or_not, one_unit}
 
 -- one more row
 clear_at : (wide : ℕ) (rows : List (List Bool))
@@ -34,23 +34,11 @@ clear_at wide (r ∷ rs) h (suc u) below =
 
 pub clear_more : (units wide : ℕ) (rows : List (List Bool)) (row : List Bool) → AreClear units wide rows → row
     ≡ replicate wide false → AreClear (units + 1) wide (rows ++ row ∷ [])
-clear_more units wide rows row h is = rw is (record {
-  len = omega (arith, h.len, length-append rows (replicate wide false ∷ []));
-  each = λ u below. clear_at wide rows (λ u low. h.each u (omega (arith, h.len, low))) u (omega (arith, h.len, below));
-})
+clear_more units wide rows row h is = rw is (grind (arith, length-append, clear_at))
 
 -- no edge yet
 pub edges_start : (units : ℕ) (rows : List (List Bool)) → AreClear units units rows → AreEdgeRows [] units rows
-edges_start units rows h = record {
-  len = h.len;
-  wide = λ u below. ap length (h.each u below) ∙ length-replicate units false;
-  each = λ u v u_in v_in. (
-    (λ set. let clear : slice_index_or (slice_index_or rows u []) v false ≡ false =
-        ap (λ row. slice_index_or row v false) (h.each u u_in) ∙ get_or-replicate units v false false v_in in
-        absurd (cc (set, clear))),
-    (λ edge. absurd (none_in_empty (u, v) edge)),
-  );
-}
+edges_start units rows h = grind (arith, length-replicate, get_or-replicate)
 
 -- what one more edge sets
 module _ (edges : Edges) (units : ℕ) (rows : List (List Bool)) (f t : ℕ) (h : AreEdgeRows edges units rows)
@@ -59,7 +47,7 @@ module _ (edges : Edges) (units : ℕ) (rows : List (List Bool)) (f t : ℕ) (h 
   row = slice_set (slice_index_or rows f []) t true
 
   same_row : slice_index_or (slice_set rows f row) f [] ≡ row
-  same_row = get_or-set_same rows f row [] (omega (arith, h.len, f_in))
+  same_row = grind (arith, get_or-set_same)
 
   other_row : (u : ℕ) → u ≢ f → slice_index_or (slice_set rows f row) u [] ≡ slice_index_or rows u []
   other_row u ne = get_or-set_other rows f u row [] ne
@@ -68,93 +56,34 @@ module _ (edges : Edges) (units : ℕ) (rows : List (List Bool)) (f t : ℕ) (h 
       ≡ true → HasEdge (edges ++ (f, t) ∷ []) u v
   set_is u v u_in v_in set = elim (same_or_not u f) [
     | inr other ↦ Contains-append_left edges ((f, t) ∷ []) (u, v)
-        ((h.each u v u_in v_in).0 (ap (λ r. slice_index_or r v false) (sym (other_row u other)) ∙ set))
+        (grind (arith, other_row))
     | inl first ↦ elim (same_or_not v t) [
-      | inl second ↦ subst (λ (p : ℕ × ℕ). Contains (edges ++ (f, t) ∷ []) p)
-          (ap (λ (x : ℕ). (x, t)) (sym first) ∙ ap (λ (y : ℕ). (u, y)) (sym second)) (Contains-push edges (f, t))
-      | inr other ↦ Contains-append_left edges ((f, t) ∷ []) (u, v) ((h.each u v u_in v_in).0
-          (ap (λ k. slice_index_or (slice_index_or rows k []) v false) first
-          ∙ sym (get_or-set_other (slice_index_or rows f []) t v true false other)
-          ∙ ap (λ r. slice_index_or r v false) (sym same_row)
-          ∙ ap (λ k. slice_index_or (slice_index_or (slice_set rows f row) k []) v false) (sym first)
-          ∙ set))
+      | inl second ↦ grind (arith, Contains-push edges (f, t))
+      | inr other ↦ Contains-append_left edges ((f, t) ∷ []) (u, v) (grind (arith, get_or-set_other, same_row))
     ]
   ]
 
   at_new : (v : ℕ) → v ≡ t → slice_index_or (slice_index_or (slice_set rows f row) f []) v false ≡ true
-  at_new v e = ap (λ r. slice_index_or r v false) same_row ∙ ap (λ k. slice_index_or row k false) e
-      ∙ get_or-set_same (slice_index_or rows f []) t true false (omega (arith, h.wide f f_in, t_in))
+  at_new v e = grind (arith, get_or-set_same)
 
   edge_set : (u v : ℕ) → u < units → v < units → HasEdge (edges ++ (f, t) ∷ []) u v
       → slice_index_or (slice_index_or (slice_set rows f row) u []) v false ≡ true
   edge_set u v u_in v_in edge =
-      elim (Contains-push_cases edges (f, t) (u, v) edge) as
-      (λ _. slice_index_or (slice_index_or (slice_set rows f row) u []) v false ≡ true) [
-        | inr last ↦ ap (λ k. slice_index_or (slice_index_or (slice_set rows f row) k []) v false)
-            (sym (ap (λ (p : ℕ × ℕ). p.0) last)) ∙ at_new v (sym (ap (λ (p : ℕ × ℕ). p.1) last))
-        | inl before ↦ elim (same_or_not u f) as
-            (λ _. slice_index_or (slice_index_or (slice_set rows f row) u []) v false ≡ true) [
-              | inr other ↦ ap (λ r. slice_index_or r v false) (other_row u other) ∙ (h.each u v u_in v_in).1 before
-              | inl first ↦ ap (λ k. slice_index_or (slice_index_or (slice_set rows f row) k []) v false) first
-                  ∙ elim (same_or_not v t) as
-                  (λ _. slice_index_or (slice_index_or (slice_set rows f row) f []) v false ≡ true) [
-                    | inl second ↦ at_new v second
-                    | inr apart ↦ ap (λ r. slice_index_or r v false) same_row
-                        ∙ get_or-set_other (slice_index_or rows f []) t v true false apart
-                        ∙ ap (λ k. slice_index_or (slice_index_or rows k []) v false) (sym first)
-                        ∙ (h.each u v u_in v_in).1 before
-                  ]
-            ]
+      elim (Contains-push_cases edges (f, t) (u, v) edge) [
+        | inr last ↦ grind arith ∙ at_new v (grind arith)
+        | inl before ↦ grind (arith, same_or_not, other_row, at_new, same_row, get_or-set_other)
       ]
 
   pub edges_more : AreEdgeRows (edges ++ (f, t) ∷ []) units
       (slice_set rows f (slice_set (slice_index_or rows f []) t true))
-  edges_more = record {
-    len = length-set rows f row ∙ h.len;
-    wide = λ u below. elim (same_or_not u f) [
-      | inl same ↦ ap (λ k. length (slice_index_or (slice_set rows f row) k [])) same ∙ ap length same_row
-          ∙ length-set (slice_index_or rows f []) t true ∙ h.wide f f_in
-      | inr other ↦ ap length (other_row u other) ∙ h.wide u below
-    ];
-    each = λ u v u_in v_in. (set_is u v u_in v_in, edge_set u v u_in v_in);
-  }
+  edges_more = grind (arith, length-set, same_row, other_row, set_is, edge_set)
 
 -- a table of no unit
 none_at : (count address : ℕ) → slice_index_or (replicate {A = Option ℕ} count None) address None ≡ None
-none_at zero address = refl
-none_at (suc count) zero = refl
-none_at (suc count) (suc address) = none_at count address
+none_at count address = grind (arith, common_steps)
 
 pub empty_table : (count : ℕ) (table : List (Option ℕ)) → table ≡ replicate count None → IsEmptyTable count table
-empty_table count table is = rw is (record { len = length-replicate count None; each = none_at count })
-
--- at no address yet
-pub entered_start : (base unit : ℕ) (table : List (Option ℕ)) → IsEntered base 0 unit table table
-entered_start base unit table = record {
-  len = refl;
-  within = λ address from below. absurd (omega (arith, from, below));
-  before = λ address _. refl;
-  after = λ address _. refl;
-}
-
--- at one more address
-pub entered_more : (base size unit : ℕ) (old new : List (Option ℕ)) → IsEntered base size unit old new
-    → base + size < length old
-    → IsEntered base (size + 1) unit old (slice_set new (base + size) (Some unit))
-entered_more base size unit old new h there = record {
-  len = length-set new (base + size) (Some unit) ∙ h.len;
-  within = λ address from below. elim (same_or_not address (base + size)) as
-      (λ _. slice_index_or (slice_set new (base + size) (Some unit)) address None ≡ Some unit) [
-        | inl last ↦ ap (λ k. slice_index_or (slice_set new (base + size) (Some unit)) k None) last
-            ∙ get_or-set_same new (base + size) (Some unit) None (omega (arith, h.len, there))
-        | inr other ↦ get_or-set_other new (base + size) address (Some unit) None other
-            ∙ h.within address from (omega (arith, below, other))
-      ];
-  before = λ address low. get_or-set_other new (base + size) address (Some unit) None (λ e. omega (arith, e, low))
-      ∙ h.before address low;
-  after = λ address high. get_or-set_other new (base + size) address (Some unit) None (λ e. omega (arith, e, high))
-      ∙ h.after address (omega (arith, high));
-}
+empty_table count table is = rw is (grind (arith, length-replicate, none_at))
 
 -- no unit yet
 pub units_start : (l : LayoutParts) (table : List (Option ℕ)) → IsEmptyTable 65536 table → AreUnitsAt l 0 table
@@ -169,7 +98,7 @@ units_start l table h = record {
 -- a segment of program memory with a byte ends inside it
 code_end : (p : Placed) → p.kind ≡ Code → IsInside (extent_at p) → 0 < p.size → p.base + p.size ≤ 65536
 code_end p code inside some =
-    inside_end (extent CodeSpace p.base p.size) (subst (λ k. IsInside (extent_of k p.base p.size)) code inside) some
+    inside_end (extent CodeSpace p.base p.size) (grind arith) some
 
 -- a unit of program memory ends inside it
 pub unit_end : (l : LayoutParts) (unit : ℕ) (p : Placed) → IsSound l → IsUnit l unit p → p.kind ≡ Code → p.base ≤ 65536
@@ -182,16 +111,12 @@ unit_end l unit p sound is code low = by_size p.size refl where
 -- an address that a unit covers lies between its base and its end
 covered : (l : LayoutParts) (address unit : ℕ) (p : Placed) → IsUnit l unit p → p.kind ≡ Code → IsUnitAt l address unit
     → (p.base ≤ address) × (address < p.base + p.size)
-covered l address unit p is code at =
-    let c = code_covers p (code_cell address) code (covers_from_at l address unit p is at) in (c.from, c.below)
+covered l address unit p is code at = grind arith
 
 -- and it covers each of those
 covers : (l : LayoutParts) (address unit : ℕ) (p : Placed) → IsUnit l unit p → p.kind ≡ Code → p.base ≤ address
     → address < p.base + p.size → IsUnitAt l address unit
-covers l address unit p is code from below =
-    at_from_covers l address unit p is
-    (subst (λ k. Covers (extent_of k p.base p.size) (code_cell address)) (sym code)
-    (record { space = refl; from = from; below = below }))
+covers l address unit p is code from below = grind arith
 
 -- an address is before the extent, in it or after it
 data Lies (base size address : ℕ) : Type 0 where
@@ -220,19 +145,18 @@ units_more l unit p old new sound h is code entered = record {
     | IsWithin from below ↦ at_unit address v (same_Some unit v (sym (entered.within address from below) ∙ e))
         (covers l address unit p is code from below)
   ];
-  only = λ address v inside below at. elim (below_or_last v unit below) as
-      (λ _. slice_index_or new address None ≡ Some v) [
-        | inl less ↦ elim (lies p.base p.size address) [
-          | IsBefore low ↦ entered.before address low ∙ h.only address v inside less at
-          | IsAfter high ↦ entered.after address high ∙ h.only address v inside less at
-          | IsWithin from under ↦ absurd
-              (omega (arith, less, one_unit l sound address v unit at (covers l address unit p is code from under)))
-        ]
-        | inr last ↦
-            (let k = covered l address unit p is code (subst (IsUnitAt l address) last at) in
-            entered.within address k.0 k.1
-            ∙ ap Some (sym last))
-      ];
+  only = λ address v inside below at. elim (below_or_last v unit below) [
+    | inl less ↦ elim (lies p.base p.size address) [
+      | IsBefore low ↦ entered.before address low ∙ h.only address v inside less at
+      | IsAfter high ↦ entered.after address high ∙ h.only address v inside less at
+      | IsWithin from under ↦ absurd
+          (omega (arith, less, one_unit l sound address v unit at (covers l address unit p is code from under)))
+    ]
+    | inr last ↦
+        (let k = covered l address unit p is code (subst (IsUnitAt l address) last at) in
+        entered.within address k.0 k.1
+        ∙ ap Some (sym last))
+  ];
 } where
   before : (address v : ℕ) → (v < unit) × IsUnitAt l address v → (v < unit + 1) × IsUnitAt l address v
   before address v k = (omega (arith, k.0), k.1)

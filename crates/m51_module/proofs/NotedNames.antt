@@ -1,6 +1,7 @@
 -- Tables of names, as they are filled item by item.
-use Rattle.std.proofs.Common.{◌≡◌, ℕ, ◌+◌, ◌<◌, ◌≤◌, Bool, true, false, cond, ◌||◌, List, [], ◌∷◌, ◌++◌, length, take}
-use Rattle.std.proofs.Common.{get_or, Option, Some, None, refl, sym, ap, subst, ◌∙◌, append_assoc}
+use Rattle.std.proofs.Common.{arith, ◌≡◌, ℕ, ◌+◌, ◌<◌, ◌≤◌, Bool, true, false, cond, ◌||◌, List, [], ◌∷◌, ◌++◌, length}
+use Rattle.std.proofs.Common.{take, get_or, Option, Some, None, refl, sym, ap, subst, ◌∙◌, append_assoc}
+use Rattle.std.proofs.lemmas.Grind.{common_steps}
 use Rattle.std.specs.Prelude.{IfSome, option_map}
 use Rattle.std.specs.List.{list_any}
 use Rattle.std.specs.Str.{bytes_eq}
@@ -13,19 +14,14 @@ use Rattle.m51_module.specs.Library.{defines, has_public}
 use Rattle.m51_module.specs.WorkNames.{AreNames, AreNamesOf, is_in, NotesNames}
 
 pub or_last : (a b : Bool) → (a || b) ≡ (a || (b || false))
-or_last a b = ap (λ x. a || x) (sym (or-false b))
+or_last a b = grind arith
 
 or_four : (q i a : Bool) → cond q true (i || a) ≡ (i || (a || (q || false)))
-or_four true true a = refl
-or_four true false true = refl
-or_four true false false = refl
-or_four false true a = refl
-or_four false false true = refl
-or_four false false false = refl
+or_four q i a = grind arith
 
 module _ {X : Type 0} (name_of : X → List ℕ) where
   pub note_none : (old : List (List ℕ)) (items : List X) → NotesNames name_of old (take 0 items) old
-  note_none old items = record { each = λ name. sym (or-false (is_in old name)) }
+  note_none old items = grind arith
 
   -- one more item is noted
   pub note_more : (old now new : List (List ℕ)) (items : List X) (index : ℕ) (x : X)
@@ -33,36 +29,29 @@ module _ {X : Type 0} (name_of : X → List ℕ) where
       → x ≡ get_or items index x
       → ((name : List ℕ) → is_in new name ≡ cond (bytes_eq (name_of x) name) true (is_in now name))
       → NotesNames name_of old (take (index + 1) items) new
-  note_more old now new items index x noted below is puts =
-      let more : take (index + 1) items ≡ take index items ++ x ∷ [] = take_more items index x below
-      ∙ ap (λ y. take index items ++ y ∷ []) (sym is) in
-      record {
-        each = λ name.
-            let test : X → Bool = λ y. bytes_eq (name_of y) name in
-            puts name ∙ ap (λ b. cond (bytes_eq (name_of x) name) true b) (noted.each name)
-            ∙ or_four (bytes_eq (name_of x) name) (is_in old name) (list_any test (take index items))
-            ∙ ap (λ b. is_in old name || b)
-            (sym (list_any-append test (take index items) (x ∷ [])) ∙ ap (list_any test) (sym more));
-      }
+  note_more old now new items index x noted below is puts = grind (
+    arith,
+    common_steps,
+    bytes_eq,
+    or_four,
+    bytes_eq (name_of x),
+    name_of x,
+    is_in old,
+    list_any,
+    take index items,
+    list_any-append,
+  )
 
   -- all are noted
   pub note_all : (old now : List (List ℕ)) (items : List X) (index : ℕ) → NotesNames name_of old (take index items) now
       → length items ≤ index → NotesNames name_of old items now
-  note_all old now items index noted past = record {
-    each = λ name. noted.each name
-        ∙ ap (λ xs. is_in old name || list_any (λ x. bytes_eq (name_of x) name) xs) (take_all index items past);
-  }
+  note_all old now items index noted past = grind (arith, take_all)
 
 -- the names of the publics of one more module
 pub names_push : (ms : List ModuleParts) (m : ModuleParts) (old new : List (List ℕ)) (publics : List Public)
     → AreNamesOf ms old
     → NotesNames (λ (p : Public). p.name) old publics new → publics ≡ m.publics → AreNamesOf (ms ++ m ∷ []) new
-names_push ms m old new publics are noted is = record {
-  each = λ name.
-      noted.each name ∙ ap (λ b. b || list_any (λ p. bytes_eq p.name name) publics) (are.each name)
-      ∙ ap (λ ps. defines ms name || list_any (λ p. bytes_eq p.name name) ps) is
-      ∙ or_last (defines ms name) (has_public name m) ∙ sym (list_any-append (has_public name) ms (m ∷ []));
-}
+names_push ms m old new publics are noted is = grind (arith, or_last, defines, list_any-append)
 
 -- the same whether a table of names is kept or not
 pub names_more : {S : Type 0} (keys : S → List (List ℕ)) (ms : List ModuleParts) (m : ModuleParts)
@@ -70,39 +59,31 @@ pub names_more : {S : Type 0} (keys : S → List (List ℕ)) (ms : List ModulePa
     → before ≡ Some old → IfSome found (λ s. NotesNames (λ (p : Public). p.name) old publics (keys s)) → publics
     ≡ m.publics → AreNames ms before → AreNames (ms ++ m ∷ []) (option_map keys found)
 names_more keys ms m before old publics None is noted are names = tt
-names_more keys ms m before old publics (Some s) is noted are names =
-    names_push ms m old (keys s) publics (subst (λ (o : Option (List (List ℕ))). AreNames ms o) is names) noted are
+names_more keys ms m before old publics (Some s) is noted are names = grind (arith, common_steps)
 
 -- with the modules of a list one after another
 abbrev pub HasAll : Option (List (List ℕ)) → List ModuleParts → ℕ → Option (List (List ℕ)) → Type 0
 HasAll before members count now = (ms : List ModuleParts) → AreNames ms before → AreNames (ms ++ take count members) now
 
 pub has_none : (before : Option (List (List ℕ))) (members : List ModuleParts) → HasAll before members 0 before
-has_none before members ms names = subst (λ (xs : List ModuleParts). AreNames xs before) (sym (append-nil ms)) names
+has_none before members ms names = rw (append-nil ms) names
 
 pub has_more : (before now next : Option (List (List ℕ))) (members : List ModuleParts) (count : ℕ) (m : ModuleParts)
     → HasAll before members count now → count < length members → m ≡ get_or members count m
     → ((ms : List ModuleParts) → AreNames ms now → AreNames (ms ++ m ∷ []) next)
     → HasAll before members (count + 1) next
-has_more before now next members count m all below is one ms names =
-    let more : (ms ++ take count members) ++ m ∷ [] ≡ ms ++ take (count + 1) members =
-    append_assoc ms (take count members) (m ∷ [])
-    ∙ ap (λ xs. ms ++ xs) (ap (λ x. take count members ++ x ∷ []) is ∙ sym (take_more members count m below)) in
-    subst (λ (xs : List ModuleParts). AreNames xs next) more (one (ms ++ take count members) (all ms names))
+has_more before now next members count m all below is one ms names = grind (arith, append_assoc, take_more)
 
 pub has_all : (before now : Option (List (List ℕ))) (members : List ModuleParts) (count : ℕ)
     → HasAll before members count now → length members ≤ count
     → (ms : List ModuleParts) → AreNames ms before → AreNames (ms ++ members) now
-has_all before now members count all past ms names =
-    subst (λ (xs : List ModuleParts). AreNames (ms ++ xs) now) (take_all count members past) (all ms names)
+has_all before now members count all past ms names = grind (arith, take_all)
 
 -- the next module of a list
 pub names_next : (ms : List ModuleParts) (i : ℕ) (m : ModuleParts) (next : Option (List (List ℕ))) → i < length ms → m
     ≡ get_or ms i m
     → AreNames (take i ms ++ m ∷ []) next → AreNames (take (i + 1) ms) next
-names_next ms i m next below is names =
-    subst (λ (xs : List ModuleParts). AreNames xs next)
-    (ap (λ x. take i ms ++ x ∷ []) is ∙ sym (take_more ms i m below)) names
+names_next ms i m next below is names = grind (arith, take_more)
 
 pub no_names : AreNamesOf [] []
-no_names = record { each = λ name. refl }
+no_names = grind arith

@@ -1,4 +1,5 @@
 -- A module stays valid when it is raised to version 2.
+use Rattle.std.proofs.lemmas.Grind.{common_steps}
 use Rattle.std.proofs.Common.{◌≡◌, inl, inr, ℕ, zero, suc, ◌+◌, ◌<◌, true, ◌&&◌, List, [], ◌∷◌, ◌++◌, length, map, take}
 use Rattle.std.proofs.Common.{drop, get_or, Some, refl, sym, ap, subst, ◌∙◌, arith}
 use Rattle.std.specs.Prelude.{slice_set, option_map}
@@ -29,42 +30,27 @@ mapped_next : {X : Type 0} (f : X → X) (old : List X) (i : ℕ) (x : X) → i 
     → slice_set (map f (take i old) ++ drop i old) i (f x) ≡ map f (take (suc i) old) ++ drop (suc i) old
 mapped_next f [] i x below is = absurd (omega (arith, below))
 mapped_next f (y ∷ ys) zero x below is = ap (λ z. f z ∷ ys) is
-mapped_next f (y ∷ ys) (suc i) x below is = ap (λ zs. f y ∷ zs) (mapped_next f ys i x (omega (arith, below)) is)
+mapped_next f (y ∷ ys) (suc i) x below is = cc (mapped_next f ys i x (omega (arith, below)) is)
 
 pub mapped_more : {X : Type 0} (f : X → X) (old now : List X) (i : ℕ) (x : X) → now ≡ map f (take i old) ++ drop i old
     → i < length old → x ≡ get_or now i x
     → slice_set now i (f x) ≡ map f (take (i + 1) old) ++ drop (i + 1) old
 mapped_more f old now i x is below at =
     let next : suc i ≡ i + 1 = omega arith in
-    ap (λ xs. slice_set xs i (f x)) is ∙ mapped_next f old i x below (at ∙ ap (λ xs. get_or xs i x) is)
-    ∙ ap (λ n. map f (take n old) ++ drop n old) next
+    grind arith ∙ mapped_next f old i x below (cc)
+    ∙ cc
 
 -- a segment that may be marked is a valid argument segment once it is
 may_be_valid : (s : Segment) → may_be_argument s ≡ true → IsArgument (marked s)
-may_be_valid s h =
-    let last = and_parts (s.overlay && same_kind s.kind Direct) (is_argument_name s.name) h in
-    let first = and_parts s.overlay (same_kind s.kind Direct) last.0 in
-    record { kind = kind_same s.kind Direct first.1; overlay = first.0; name = last.1 }
+may_be_valid s h = grind arith
 
 marked_valid : (s : Segment) → IsSegmentValid s → IsSegmentValid (marked s)
-marked_valid s h = record {
-  kind = h.kind;
-  reloc = h.reloc;
-  size = h.size;
-  absolute = λ e. (let a = h.absolute e in record { name = a.name; some = a.some; fits = a.fits });
-  relocatable = λ ne. (let r = h.relocatable ne in record { name = r.name; base = r.base });
-  overlay = h.overlay;
-  argument = λ e. elim (or_cases s.argument (may_be_argument s) e) [
-    | inl was ↦ (let a = h.argument was in record { kind = a.kind; overlay = a.overlay; name = a.name })
-    | inr may ↦ may_be_valid s may
-  ];
-}
+marked_valid s h = grind arith
 
 -- the segment of a number, marked
 numbered_marked : (segments : List Segment) (number : ℕ) → numbered (map marked segments) number
     ≡ option_map marked (numbered segments number)
-numbered_marked segments zero = refl
-numbered_marked segments (suc before) = slice_get-map marked segments before
+numbered_marked segments number = grind (arith, slice_get-map)
 
 found : (segments : List Segment) (number : ℕ) (s : Segment) → numbered segments number ≡ Some s
     → numbered (map marked segments) number ≡ Some (marked s)
@@ -83,55 +69,41 @@ target_stays segments externals (InSegment number) (s, is) = (marked s, found se
 target_stays segments externals (OfExternal number) h = h
 
 public_stays : (segments : List Segment) (p : Public) → IsPublicValid segments p → IsPublicValid (map marked segments) p
-public_stays segments p h = record { name = h.name; base = base_stays segments p.kind p.base h.base }
+public_stays segments p h = grind (arith, base_stays)
 
 piece_stays : (segments : List Segment) (p : Piece) → IsPieceValid segments p → IsPieceValid (map marked segments) p
-piece_stays segments p h = record {
-  some = h.some;
-  most = h.most;
-  segment = marked h.segment;
-  is = found segments p.segment h.segment h.is;
-  code = h.code;
-  inside = h.inside;
-}
+piece_stays segments p h = grind (arith, common_steps, found segments p.segment h.segment h.is)
 
 fixup_stays : (segments : List Segment) (externals : List External) (pieces : List Piece) (f : Fixup)
     → IsFixupValid segments externals pieces f
     → IsFixupValid (map marked segments) externals pieces f
-fixup_stays segments externals pieces f h =
-    record { bit = h.bit; target = target_stays segments externals f.target h.target; held = h.held }
+fixup_stays segments externals pieces f h = grind (arith, target_stays)
 
 -- the names stay different
 names_stay : (segments : List Segment) → AllPairs (λ s t. Differ s.name t.name) segments
     → AllPairs (λ s t. Differ s.name t.name) (map marked segments)
 names_stay segments h i j d less below =
-    let in_it : j < length segments = omega (arith, below, length-map segments marked) in
-    let one : get_or (map marked segments) i d ≡ marked (get_or segments i d) =
-    get_or-map marked segments i d d (omega (arith, less, in_it)) in
-    let two : get_or (map marked segments) j d ≡ marked (get_or segments j d) =
-    get_or-map marked segments j d d in_it in
-    subst (λ (s : Segment). Differ s.name (get_or (map marked segments) j d).name) (sym one)
-    (subst (λ (t : Segment). Differ (get_or segments i d).name t.name) (sym two) (h i j d less in_it))
+    grind (arith, common_steps, length-map segments marked, marked, get_or-map marked segments j d d, h i j d less)
 
 pub raised_valid : (m : ModuleParts) → IsValid m → IsValid (raised m)
 raised_valid m h = record {
   name = h.name;
   version = inr refl;
-  few_segments = omega (arith, h.few_segments, length-map m.segments marked);
+  few_segments = grind (arith, length-map);
   few_externals = h.few_externals;
   few_fixups = h.few_fixups;
   segments =
       All-map IsSegmentValid marked m.segments
-      (λ k d below. marked_valid (get_or m.segments k d) (h.segments k d below));
+      (grind (arith, marked_valid));
   marks = λ k d below e. refl;
-  segment_names = names_stay m.segments h.segment_names;
-  publics = λ k d below. public_stays m.segments (get_or m.publics k d) (h.publics k d below);
+  segment_names = grind (arith, names_stay);
+  publics = grind (arith, common_steps, public_stays m.segments);
   public_names = h.public_names;
   externals = h.externals;
   external_names = h.external_names;
-  pieces = λ k d below. piece_stays m.segments (get_or m.pieces k d) (h.pieces k d below);
+  pieces = grind (arith, piece_stays);
   piece_order = h.piece_order;
-  fixups = λ k d below. fixup_stays m.segments m.externals m.pieces (get_or m.fixups k d) (h.fixups k d below);
+  fixups = grind (arith, common_steps, fixup_stays m.segments m.externals m.pieces);
   fixup_order = h.fixup_order;
   banks = h.banks;
   few_banks = h.few_banks;

@@ -1,10 +1,8 @@
-use Rattle.std.proofs.Common.{◌≡◌, None, Some, [], rules}
-use Rattle.std.specs.Prelude.{position}
+use Rattle.std.proofs.Common.{[], rules}
 use Rattle.m51_module.specs.Library.{is_named}
 use Rattle.m51_module.specs.declared.parts.ModuleParts.{ModuleParts}
-use Rattle.m51_module.proofs.Alone.{PassesAlone}
 use Rattle.m51_module.proofs.Answered.{raise_there, raise_nowhere}
-use Rattle.m51_module.proofs.Held.{named_alone, raise_keeps}
+use Rattle.m51_module.proofs.Held.{index_within, raise_keeps}
 use Rattle.m51_module.proofs.library.Library.raise.Goals as goal
 
 -- a module to name where the index is inside the list, so that it does not matter which
@@ -14,25 +12,20 @@ any_module =
 
 pub invariant_of-self : goal.invariant_of-self
 invariant_of-self c =
-    let index : position (is_named c.args.name.now) c.self.inside.members.items ≡ Some c.in-Some.index = search rules in
-    let alone : PassesAlone (is_named c.args.name.now) c.self.inside.members.items c.in-Some.index =
-    named_alone _ _ _ any_module c.self.invariant.library index in
     rw (c.raise_at.ensures any_module)
     (record {
-      library =
-          raise_keeps c.self.inside.members.items c.in-Some.index any_module alone.within c.self.invariant.library;
+      library = raise_keeps c.self.inside.members.items c.in-Some.index any_module
+          (index_within (is_named c.args.name.now) c.self.inside.members.items c.in-Some.index (search rules))
+          c.self.invariant.library;
       named = c.unknown.ensures _;
     })
 
 pub returns-clause-answer : goal.returns-clause-answer
 returns-clause-answer c =
-    let index : position (is_named c.args.name.now) c.self.inside.members.items ≡ Some c.in-Some.index = search rules in
-    let alone : PassesAlone (is_named c.args.name.now) c.self.inside.members.items c.in-Some.index =
-    named_alone _ _ _ any_module c.self.invariant.library index in
     rw (c.raise_at.ensures any_module, ← c.self.view_is)
-    (raise_there c.self.inside.members.items c.args.name.now c.in-Some.index any_module alone)
+    (raise_there c.self.inside.members.items c.self.invariant.library c.args.name.now c.in-Some.index (search rules)
+    any_module)
 
 pub returns-in-None-clause-answer : goal.returns-in-None-clause-answer
 returns-in-None-clause-answer c =
-    let none : position (is_named c.args.name.now) c.self.inside.members.items ≡ None = search rules in
-    rw (← c.self.view_is) (raise_nowhere c.self.inside.members.items c.args.name.now none)
+    rw (← c.self.view_is) (raise_nowhere c.self.inside.members.items c.args.name.now (search rules))

@@ -1,18 +1,17 @@
 -- Segments that are parts of one.
-use Rattle.m51_resolve.proofs.Common.{◌≡◌, Bool, true, false, cond, ◌&&◌, ◌||◌, List, [], ◌∷◌, ◌++◌, refl, sym, ap, ◌∙◌}
-use Rattle.m51_resolve.proofs.Common.{filter, list_any, bytes_eq, or_right, list_any-append, bytes_eq-Decides, Segment}
+use Rattle.std.proofs.Common.{arith}
+use Rattle.m51_resolve.proofs.Common.{◌≡◌, Bool, true, false, cond, ◌&&◌, ◌||◌, List, [], ◌∷◌, ◌++◌, refl, ap, ◌∙◌}
+use Rattle.m51_resolve.proofs.Common.{filter, list_any, bytes_eq, list_any-append, bytes_eq-Decides, Segment}
 use Rattle.m51_resolve.proofs.Common.{are_parts, is_relocatable}
 use Rattle.std.proofs.lemmas.Bool.{and_parts}
 
 -- what is not true is false
 pub not_true : (x : Bool) → (x ≡ true → ⊥) → x ≡ false
-not_true true h = absurd (h refl)
-not_true false h = refl
+not_true x h = grind arith
 
 -- neither is true
 pub none_of : (x y : Bool) → (x || y) ≡ false → (x ≡ false) × (y ≡ false)
-none_of true y h = cc
-none_of false y h = (refl, h)
+none_of x y h = grind arith
 
 -- both are relocatable, and they have one name
 pub record HaveOneName (a b : Segment) : Type 0 where
@@ -30,55 +29,46 @@ parts_have a b h =
 pub part_self : (a : Segment) → is_relocatable a.reloc ≡ true → are_parts a a ≡ true
 part_self a h =
     let same : bytes_eq a.name a.name ≡ true = (bytes_eq-Decides a.name a.name).1 refl in
-    ap (λ b. b && b && bytes_eq a.name a.name) h ∙ same
+    cc
 
 -- parts of one are parts with the same segments
 pub same_parts : (a b : Segment) → are_parts a b ≡ true → (y : Segment) → are_parts a y ≡ are_parts b y
-same_parts a b h y =
-    let p = parts_have a b h in
-    ap (λ r. r && is_relocatable y.reloc && bytes_eq a.name y.name) (p.first ∙ sym p.second)
-    ∙ ap (λ n. is_relocatable b.reloc && is_relocatable y.reloc && bytes_eq n y.name) p.name
+same_parts a b h y = grind (arith, parts_have)
 
 pub parts_back : (a b : Segment) → are_parts a b ≡ true → are_parts b a ≡ true
-parts_back a b h = sym (same_parts a b h a) ∙ part_self a (parts_have a b h).first
+parts_back a b h = grind (arith, same_parts, part_self)
 
 pub apart_back : (a b : Segment) → are_parts a b ≡ false → are_parts b a ≡ false
-apart_back a b h = not_true (are_parts b a) (λ e. let k = parts_back b a e in cc)
+apart_back a b h = not_true (are_parts b a) (grind (arith, parts_back))
 
 -- so they find the same among any
 pub any_same : (a b : Segment) → are_parts a b ≡ true → (ys : List Segment) → list_any (are_parts a) ys
     ≡ list_any (are_parts b) ys
-any_same a b h [] = refl
-any_same a b h (y ∷ ys) = ap (λ r. r || list_any (are_parts a) ys) (same_parts a b h y)
-    ∙ ap (λ r. are_parts b y || r) (any_same a b h ys)
+any_same a b h ys = grind (arith, same_parts)
 
 pub filter_same : (a b : Segment) → are_parts a b ≡ true → (ys : List Segment) → filter (are_parts a) ys
     ≡ filter (are_parts b) ys
-filter_same a b h [] = refl
-filter_same a b h (y ∷ ys) =
-    ap (λ r. cond r (y ∷ filter (are_parts a) ys) (filter (are_parts a) ys)) (same_parts a b h y)
-    ∙ ap (λ r. cond (are_parts b y) (y ∷ r) r) (filter_same a b h ys)
+filter_same a b h ys = grind (arith, same_parts)
 
 -- an absolute segment is a part with none
 pub absolute_apart : (a : Segment) → is_relocatable a.reloc ≡ false → (y : Segment) → are_parts a y ≡ false
-absolute_apart a h y = ap (λ r. r && is_relocatable y.reloc && bytes_eq a.name y.name) h
+absolute_apart a h y = cc
 
 pub absolute_none : (a : Segment) → is_relocatable a.reloc ≡ false → (ys : List Segment) → list_any (are_parts a) ys
     ≡ false
 absolute_none a h [] = refl
-absolute_none a h (y ∷ ys) = ap (λ r. r || list_any (are_parts a) ys) (absolute_apart a h y) ∙ absolute_none a h ys
+absolute_none a h (y ∷ ys) = grind arith ∙ absolute_none a h ys
 
 -- where none passes, none is left
 pub filter_none : (p : Segment → Bool) (ys : List Segment) → list_any p ys ≡ false → filter p ys ≡ []
 filter_none p [] h = refl
 filter_none p (y ∷ ys) h =
     let k = none_of (p y) (list_any p ys) h in
-    ap (λ r. cond r (y ∷ filter p ys) (filter p ys)) k.0 ∙ filter_none p ys k.1
+    cc (filter_none p ys k.1)
 
 -- one passes that passed before, or the last
 pub any_more : (p : Segment → Bool) (xs ys : List Segment) → list_any p xs ≡ true → list_any p (xs ++ ys) ≡ true
-any_more p xs ys h = list_any-append p xs ys ∙ ap (λ b. b || list_any p ys) h
+any_more p xs ys h = cc (list_any-append p xs ys)
 
 pub any_last : (p : Segment → Bool) (xs : List Segment) (x : Segment) → p x ≡ true → list_any p (xs ++ x ∷ []) ≡ true
-any_last p xs x h = list_any-append p xs (x ∷ []) ∙ ap (λ b. list_any p xs || (b || false)) h
-    ∙ or_right (list_any p xs) true refl
+any_last p xs x h = grind (arith, list_any-append)

@@ -1,202 +1,105 @@
 -- The earliest supplier of a missing name is the first member that is needed.
-use Rattle.m51_resolve.proofs.Common.{◌≡◌, ℕ, zero, suc, ◌+◌, ◌<◌, ◌≤◌, Bool, true, false, cond, ◌&&◌, not, List, []}
-use Rattle.m51_resolve.proofs.Common.{◌∷◌, ◌++◌, length, get_or, take, refl, sym, ap, subst, ◌∙◌, arith, inl, inr}
-use Rattle.m51_resolve.proofs.Common.{Option, Some, None, is_some, nat_lt, Contains, list_any, option_or, bytes_eq}
-use Rattle.m51_resolve.proofs.Common.{take_more, list_any_at, bytes_eq-Decides, MOST_MODULES, ModuleParts, Public}
-use Rattle.m51_resolve.proofs.Common.{defines, has_public, Definition, is_needed, wants, definition_among}
-use Rattle.m51_resolve.proofs.Common.{definition_from, public_definition, IsEarliest, IsNext, IsWanted, defining_module}
-use Rattle.m51_resolve.proofs.Common.{supplier, AreDefinitions, AreWanted, definition_in, Defined}
-use Rattle.std.proofs.Common.{◌⊎◌}
-use Rattle.std.specs.Prelude.{min}
+use Rattle.std.proofs.lemmas.Grind.{common_steps}
+use Rattle.m51_resolve.proofs.Common.{◌≡◌, inl, inr, ℕ, ◌+◌, ◌<◌, ◌≤◌, Bool, true, false, cond, not, ◌&&◌, List, []}
+use Rattle.m51_resolve.proofs.Common.{◌∷◌, length, drop, get_or, refl, sym, ap, ◌∙◌, arith, Option, Some, None, is_some}
+use Rattle.m51_resolve.proofs.Common.{or_right, list_any_at, position-Some, bytes_eq-Decides, list_any, nat_lt}
+use Rattle.m51_resolve.proofs.Common.{position, bytes_eq, MOST_MODULES, defines, has_public, ModuleParts, Public}
+use Rattle.m51_resolve.proofs.Common.{is_needed, wants, public_definition, IsEarliest, IsNext, IsWanted}
+use Rattle.m51_resolve.proofs.Common.{defining_module, supplier, AreDefinitions, AreWanted, definition_in, Definition}
 use Rattle.std.specs.List.{Any}
-use Rattle.std.proofs.lemmas.Bool.{cases_lt}
-use Rattle.std.proofs.lemmas.List.Elements.{Contains-append_left, Contains-push, Contains-push_cases}
+use Rattle.std.proofs.lemmas.Bool.{cases_Bool, cases_lt}
+use Rattle.std.proofs.lemmas.Bool.Decides.{nat_tests}
+use Rattle.std.proofs.lemmas.List.{at_drop_more}
 use Rattle.std.proofs.lemmas.List.Folds.{Any-from_list_any}
-use Rattle.std.proofs.lemmas.Option.{same_Some}
 use Rattle.m51_resolve.specs.Choice.{is_missing}
-use Rattle.m51_resolve.specs.WorkChoice.{lesser_number, IsEarliestAt}
+use Rattle.m51_resolve.specs.WorkChoice.{lesser_number}
 use Rattle.m51_resolve.proofs.Alike.{not_true}
-use Rattle.m51_resolve.proofs.DefinedNames.{among_some, definition_some, found_at}
-use Rattle.m51_resolve.proofs.Entries.{among_number}
+use Rattle.m51_resolve.proofs.DefinedNames.{definition_some, module_is, Table}
+use Rattle.m51_resolve.proofs.Positions.{none_found}
 
--- the earliest of names, one more name at a time
-pub earliest_none : (gives : List ℕ → Option ℕ) → IsEarliest gives (λ name. Contains [] name) None
-earliest_none gives = λ name k. absurd (omega (arith, k.1))
+abbrev AtMost : Option ℕ → ℕ → Type 0
+AtMost None n = ⊥
+AtMost (Some m) n = m ≤ n
 
-module _ (gives : List ℕ → Option ℕ) (Old New : List ℕ → Type 0) (last : List ℕ)
-    (kept : (name : List ℕ) → Old name → New name) (here : New last)
-    (from : (name : List ℕ) → New name → Old name ⊎ (last ≡ name)) where
-  earliest_by : (o given : Option ℕ) → gives last ≡ given → IsEarliest gives Old o
-      → IsEarliest gives New (lesser_number o given)
-  earliest_by None None is h = λ name k. elim (from name k) [
-    | inl before ↦ h name before
-    | inr e ↦ subst (λ n. gives n ≡ None) e is
-  ]
-  earliest_by None (Some two) is h = record {
-    name = last;
-    named = here;
-    is = is;
-    first = λ other n k g. elim (from other k) [
-      | inl before ↦ absurd (cc (h other before, g))
-      | inr e ↦ let same : two ≡ n = same_Some two n (sym is ∙ ap gives e ∙ g) in omega (arith, same)
-    ];
-  }
-  earliest_by (Some one) None is h = record {
-    name = h.name;
-    named = kept h.name h.named;
-    is = h.is;
-    first = λ other n k g. elim (from other k) [
-      | inl before ↦ h.first other n before g
-      | inr e ↦ absurd (cc (sym is ∙ ap gives e ∙ g))
-    ];
-  }
-  earliest_by (Some one) (Some two) is h = elim (cases_lt one two) [
-    | inl less ↦ let same : min one two ≡ one = grind (arith, less) in
-        subst (λ n. IsEarliestAt gives New n) (sym same) (record {
-          name = h.name;
-          named = kept h.name h.named;
-          is = h.is;
-          first = λ other n k g. elim (from other k) [
-            | inl before ↦ h.first other n before g
-            | inr e ↦ let own : two ≡ n = same_Some two n (sym is ∙ ap gives e ∙ g) in omega (arith, own, less)
-          ];
-        })
-    | inr more ↦ let same : min one two ≡ two = grind (arith, more) in
-        subst (λ n. IsEarliestAt gives New n) (sym same) (record {
-          name = last;
-          named = here;
-          is = is;
-          first = λ other n k g. elim (from other k) [
-            | inl before ↦ let low = h.first other n before g in omega (arith, low, more)
-            | inr e ↦ let own : two ≡ n = same_Some two n (sym is ∙ ap gives e ∙ g) in omega (arith, own)
-          ];
-        })
-  ]
+lesser_left : (a b : Option ℕ) (n : ℕ) → a ≡ Some n → AtMost (lesser_number a b) n
+lesser_left a b n h = grind arith
 
-  pub earliest_more : (o : Option ℕ) → IsEarliest gives Old o → IsEarliest gives New (lesser_number o (gives last))
-  earliest_more o h = earliest_by o (gives last) refl h
+lesser_right : (a b : Option ℕ) (n : ℕ) → AtMost b n → AtMost (lesser_number a b) n
+lesser_right a b n h = grind arith
 
--- the same of what gives the same
-pub earliest_gives : (one two : List ℕ → Option ℕ) (Named : List ℕ → Type 0) (o : Option ℕ)
-    → ((name : List ℕ) → Named name → one name ≡ two name) → IsEarliest one Named o → IsEarliest two Named o
-earliest_gives one two Named None same h = λ name k. sym (same name k) ∙ h name k
-earliest_gives one two Named (Some least) same h =
-    record {
-      name = h.name;
-      named = h.named;
-      is = sym (same h.name h.named) ∙ h.is;
-      first =
-          λ other n k g. h.first other n k (same other k ∙ g);
-    }
-
--- the same of a set of the same names
-pub earliest_same : (gives : List ℕ → Option ℕ) (Old New : List ℕ → Type 0) (o : Option ℕ)
-    → ((name : List ℕ) → Old name → New name) → ((name : List ℕ) → New name → Old name)
-    → IsEarliest gives Old o → IsEarliest gives New o
-earliest_same gives Old New None on back h = λ name k. h name (back name k)
-earliest_same gives Old New (Some least) on back h =
-    record {
-      name = h.name;
-      named = on h.name h.named;
-      is = h.is;
-      first =
-          λ other n k g. h.first other n (back other k) g;
-    }
-
-pub earliest_next : (gives : List ℕ → Option ℕ) (names : List (List ℕ)) (i : ℕ) (x : List ℕ) (o : Option ℕ)
-    → i < length names → x ≡ get_or names i x
-    → IsEarliest gives (λ name. Contains (take i names) name) o
-    → IsEarliest gives (λ name. Contains (take (i + 1) names) name) (lesser_number o (gives x))
-earliest_next gives names i x o below is h =
-    let more : take (i + 1) names ≡ take i names ++ x ∷ [] = take_more names i x below
-    ∙ ap (λ (y : List ℕ). take i names ++ y ∷ []) (sym is) in
-    earliest_more gives (λ name. Contains (take i names) name) (λ name. Contains (take (i + 1) names) name) x
-    (λ name k. subst (λ (l : List (List ℕ)). Contains l name) (sym more)
-    (Contains-append_left (take i names) (x ∷ []) name k))
-    (subst (λ (l : List (List ℕ)). Contains l x) (sym more) (Contains-push (take i names) x))
-    (λ name k. Contains-push_cases (take i names) x name (subst (λ (l : List (List ℕ)). Contains l name) more k)) o h
-
--- what supplies a name, by the table of the chosen modules
-module _ (ms : List ModuleParts) (table : List (List ℕ × Defined)) (are : AreDefinitions ms table)
-    (definition : List ℕ → Option Definition) (name : List ℕ) where
-  known : (o : Option Definition) (b : Bool) → o ≡ definition_in table name → is_some o ≡ b → defines ms name ≡ b
-  known o b is some = sym (definition_some ms name) ∙ ap is_some (sym (found_at ms table are name) ∙ sym is) ∙ some
-
-  pub supplies_none : (o : Option Definition) → o ≡ definition_in table name → is_some o ≡ true → None
-      ≡ supplier ms definition name
-  supplies_none o is some = sym (ap (λ b. cond b None (defining_module (definition name))) (known o true is some))
-
-  pub supplies_by : (o : Option Definition) → o ≡ definition_in table name → is_some o ≡ false
-      → defining_module (definition name) ≡ supplier ms definition name
-  supplies_by o is none = sym (ap (λ b. cond b None (defining_module (definition name))) (known o false is none))
-
--- a definition is in the first module that has the name
-pub record IsFirstWith (name : List ℕ) (ms : List ModuleParts) (index : ℕ) : Type 0 where
-  pub inside : index < length ms
-  pub has : (d : ModuleParts) → has_public name (get_or ms index d) ≡ true
-  pub before : (k : ℕ) (d : ModuleParts) → k < index → has_public name (get_or ms k d) ≡ false
-
-module _ (name : List ℕ) where
-  first_with : (number : ℕ) (ms : List ModuleParts) (f : Definition) → definition_from number name ms ≡ Some f
-      → (index : ℕ) × ((f.number ≡ number + index) × IsFirstWith name ms index)
-  first_with number [] f h = absurd (cc h)
-  first_with number (m ∷ more) f h =
-      by (definition_among number 0 name m.publics) refl h (first_with (number + 1) more f)
-    where
-      by : (o : Option Definition) → definition_among number 0 name m.publics ≡ o
-          → option_or o (definition_from (number + 1) name more) ≡ Some f
-          → (definition_from (number + 1) name more ≡ Some f → (index : ℕ)
-          × ((f.number ≡ number + 1 + index) × IsFirstWith name more index))
-          → (index : ℕ) × ((f.number ≡ number + index) × IsFirstWith name (m ∷ more) index)
-      by (Some x) is k behind =
-          let same : x ≡ f = same_Some x f k in
-          let own = among_number number 0 name m.publics x is in
-          let has : has_public name m ≡ true = sym (among_some number 0 name m.publics) ∙ ap is_some is in (
-            0,
-            (
-              omega (arith, own, ap (λ (d : Definition). d.number) same),
-              record { inside = omega arith; has = λ d. has; before = λ n d low. absurd (omega (arith, low)) },
-            ),
-          )
-      by None is k behind =
-          let later = behind k in
-          let none : has_public name m ≡ false = sym (among_some number 0 name m.publics) ∙ ap is_some is in
-          let w = later.1.1 in (
-            suc later.0,
-            (
-              omega (arith, later.1.0),
-              record { inside = omega (arith, w.inside); has = w.has; before = before w none },
-            ),
-          )
-        where
-          before : {index : ℕ} (w : IsFirstWith name more index) → has_public name m ≡ false → (n : ℕ) (d : ModuleParts)
-              → n < suc index → has_public name (get_or (m ∷ more) n d) ≡ false
-          before w none zero d low = none
-          before w none (suc n) d low = w.before n d (omega (arith, low))
+lesser_assoc : (a b c : Option ℕ) → lesser_number (lesser_number a b) c ≡ lesser_number a (lesser_number b c)
+lesser_assoc a b c = grind arith
 
 same_bytes : (name : List ℕ) → bytes_eq name name ≡ true
 same_bytes name = (bytes_eq-Decides name name).1 refl
 
--- the names that modules want are those of the set
-module _ (ms : List ModuleParts) (names : List (List ℕ)) (are : AreWanted ms names) where
-  pub wanted_on : (name : List ℕ) → Contains names name → IsWanted ms name
-  wanted_on name k =
-      record {
-        wanted = sym (are.each name)
-            ∙ list_any_at (bytes_eq name) names k.0 name k.1 (ap (bytes_eq name) k.2 ∙ same_bytes name);
-      }
+module _ (gives : List ℕ → Option ℕ) where
+  -- the least that names give
+  abbrev pub least_of : List (List ℕ) → Option ℕ
+  least_of [] = None
+  least_of (x ∷ names) = lesser_number (gives x) (least_of names)
 
-  pub wanted_back : (name : List ℕ) → IsWanted ms name → Contains names name
-  wanted_back name h = by (Any-from_list_any (bytes_eq name) names (are.each name ∙ h.wanted))
+  -- one more name
+  pub least_more : (names : List (List ℕ)) (i : ℕ) (x : List ℕ) (o all : Option ℕ) → i < length names
+      → x ≡ get_or names i x → lesser_number o (least_of (drop i names)) ≡ all
+      → lesser_number (lesser_number o (gives x)) (least_of (drop (i + 1) names)) ≡ all
+  least_more names i x o all below is h =
+      lesser_assoc o (gives x) (least_of (drop (i + 1) names))
+      ∙ ap (λ y. lesser_number o (lesser_number (gives y) (least_of (drop (i + 1) names)))) is
+      ∙ sym (at_drop_more (λ names. lesser_number o (least_of names)) names i x below) ∙ h
+
+  pub least_done : (names : List (List ℕ)) (i : ℕ) (o : Option ℕ) → length names ≤ i
+      → lesser_number o (least_of (drop i names)) ≡ least_of names → o ≡ least_of names
+  least_done names i o past h = grind (arith, common_steps)
+
+  record IsGiven (names : List (List ℕ)) (least : ℕ) : Type 0 where
+    name : List ℕ
+    named : list_any (bytes_eq name) names ≡ true
+    is : gives name ≡ Some least
+
+  attained : (names : List (List ℕ)) (n : ℕ) → least_of names ≡ Some n → IsGiven names n
+  attained [] n h = absurd (cc h)
+  attained (x ∷ names) n h = grind (arith, same_bytes, attained names n, or_right, bytes_eq)
+
+  bound : (names : List (List ℕ)) (name : List ℕ) (n : ℕ) → list_any (bytes_eq name) names ≡ true
+      → gives name ≡ Some n → AtMost (least_of names) n
+  bound [] name n h is = absurd (cc h)
+  bound (x ∷ names) name n h is = elim (cases_Bool (bytes_eq name x)) [
+    | inl same ↦ lesser_left (gives x) (least_of names) n (ap gives (sym ((bytes_eq-Decides name x).0 same)) ∙ is)
+    | inr other ↦ lesser_right (gives x) (least_of names) n (bound names name n (rw other at h) is)
+  ]
+
+  -- it is the earliest of the names that modules want
+  pub earliest : (ms : List ModuleParts) (names : List (List ℕ)) → AreWanted ms names
+      → IsEarliest gives (IsWanted ms) (least_of names)
+  earliest ms names are = by (least_of names) refl
     where
-      by : Any (λ (x : List ℕ). bytes_eq name x ≡ true) names → Contains names name
-      by (k, x, below, at, same) =
-          subst (λ (n : List ℕ). Contains names n) (sym ((bytes_eq-Decides name x).0 same)) (k, below, at)
+      none : (name : List ℕ) (o : Option ℕ) → ((n : ℕ) → o ≡ Some n → ⊥) → o ≡ None
+      none name None h = refl
+      none name (Some n) h = absurd (h n refl)
 
-both_true : (a b : Bool) → (a && not b) ≡ true → (a ≡ true) × (b ≡ false)
-both_true true false h = (refl, refl)
-both_true true true h = absurd (cc h)
-both_true false b h = absurd (cc h)
+      by : (o : Option ℕ) → least_of names ≡ o → IsEarliest gives (IsWanted ms) o
+      by None is = λ name w.
+          none name (gives name) (λ n g. rw is at (bound names name n (are.each name ∙ w.wanted) g))
+      by (Some least) is =
+          let a = attained names least is in
+          record {
+            name = a.name;
+            named = grind arith;
+            is = a.is;
+            first = λ other n w g. rw is at (bound names other n (are.each other ∙ w.wanted) g);
+          }
+
+-- the same of what gives the same
+pub earliest_gives : (one two : List ℕ → Option ℕ) (Named : List ℕ → Type 0) (o : Option ℕ)
+    → ((name : List ℕ) → Named name → one name ≡ two name) → IsEarliest one Named o → IsEarliest two Named o
+earliest_gives one two Named o same h = grind arith
+
+-- what supplies a name, by the table of the chosen modules
+pub supplied : (ms : List ModuleParts) (table : Table) (are : AreDefinitions ms table)
+    (definition : List ℕ → Option Definition) (name : List ℕ) (o : Option Definition) → o ≡ definition_in table name
+    → supplier ms definition name ≡ cond (is_some o) None (defining_module (definition name))
+supplied ms table are definition name o is = grind (arith, definition_some)
 
 -- a module has a missing name
 pub record HasMissing (chosen : List ModuleParts) (m : ModuleParts) : Type 0 where
@@ -210,15 +113,17 @@ module _ (chosen : List ModuleParts) where
   pub missing_in : (m : ModuleParts) → is_needed chosen m ≡ true → HasMissing chosen m
   missing_in m h = by (Any-from_list_any (λ (p : Public). is_missing chosen p.name) m.publics h)
     where
+      both : (a b : Bool) → (a && not b) ≡ true → (a ≡ true) × (b ≡ false)
+      both a b h = grind arith
+
       by : Any (λ (p : Public). is_missing chosen p.name ≡ true) m.publics → HasMissing chosen m
       by (k, p, below, at, missing) =
-          let parts = both_true (list_any (wants p.name) chosen) (defines chosen p.name) missing in
+          let parts = both (list_any (wants p.name) chosen) (defines chosen p.name) missing in
           record {
             name = p.name;
             wanted = parts.0;
             absent = parts.1;
-            has = list_any_at (λ (q : Public). bytes_eq q.name p.name) m.publics k p below
-                (ap (λ (q : Public). bytes_eq q.name p.name) at ∙ same_bytes p.name);
+            has = list_any_at (λ (q : Public). bytes_eq q.name p.name) m.publics k p below (rw at (same_bytes p.name));
           }
 
   pub needed_from : (m : ModuleParts) → HasMissing chosen m → is_needed chosen m ≡ true
@@ -226,80 +131,63 @@ module _ (chosen : List ModuleParts) where
     where
       by : Any (λ (p : Public). bytes_eq p.name h.name ≡ true) m.publics → is_needed chosen m ≡ true
       by (k, p, below, at, same) =
-          let is : p.name ≡ h.name = (bytes_eq-Decides p.name h.name).0 same in
-          let missing : is_missing chosen p.name ≡ true =
-          ap (is_missing chosen) is ∙ ap (λ b. b && not (defines chosen h.name)) h.wanted
-          ∙ ap (λ b. true && not b) h.absent in
           list_any_at (λ (q : Public). is_missing chosen q.name) m.publics k p below
-          (ap (λ (q : Public). is_missing chosen q.name) at ∙ missing)
+          (rw (at, (bytes_eq-Decides p.name h.name).0 same, h.wanted, h.absent))
 
 module _ (chosen members : List ModuleParts) where
-  abbrev gives : List ℕ → Option ℕ
-  gives = supplier chosen (public_definition members)
+  abbrev gives_of : List ℕ → Option ℕ
+  gives_of = supplier chosen (public_definition members)
 
-  -- a member that has the name is no earlier than its supplier
-  record Supplies (name : List ℕ) (k : ℕ) : Type 0 where
-    pub number : ℕ
-    pub is : gives name ≡ Some number
-    pub no_later : number ≤ k
+  -- the first member that has a name supplies it, where no chosen module defines it
+  gives_is : (name : List ℕ) → gives_of name ≡ cond (defines chosen name) None (position (has_public name) members)
+  gives_is name = rw (module_is members name)
+
+  given : (name : List ℕ) (n : ℕ) → gives_of name ≡ Some n
+      → (defines chosen name ≡ false) × (position (has_public name) members ≡ Some n)
+  given name n h = by (defines chosen name) (position (has_public name) members) (sym (gives_is name) ∙ h)
+    where
+      by : (b : Bool) (o : Option ℕ) → cond b None o ≡ Some n → (b ≡ false) × (o ≡ Some n)
+      by true o h = absurd (cc h)
+      by false o h = (refl, h)
 
   supplies : (name : List ℕ) (k : ℕ) (d : ModuleParts) → defines chosen name ≡ false → k < length members
-      → has_public name (get_or members k d) ≡ true → Supplies name k
-  supplies name k d absent below has = by (public_definition members name) refl
+      → has_public name (get_or members k d) ≡ true → (n : ℕ) × (gives_of name ≡ Some n) × (n ≤ k)
+  supplies name k d absent below has = by (position (has_public name) members) refl
     where
-      by : (o : Option Definition) → public_definition members name ≡ o → Supplies name k
-      by None is =
-          absurd (cc (ap is_some is, definition_some members name, list_any_at (has_public name) members k d below has))
-      by (Some f) is =
-          let w = first_with name 0 members f is in
-          record {
-            number = f.number;
-            is = ap (λ b. cond b None (defining_module (public_definition members name))) absent
-                ∙ ap defining_module is;
-            no_later = elim (cases_lt k w.0) [
-              | inl early ↦ absurd (cc (has, w.1.1.before k d early))
-              | inr late ↦ omega (arith, late, w.1.0)
-            ];
-          }
+      by : (o : Option ℕ) → position (has_public name) members ≡ o → (n : ℕ) × (gives_of name ≡ Some n) × (n ≤ k)
+      by None is = absurd (cc
+          (none_found (has_public name) members is, list_any_at (has_public name) members k d below has))
+      by (Some n) is = (
+        n,
+        cc (gives_is name),
+        elim (cases_lt k n) [
+          | inl early ↦ absurd (cc (has, (position-Some (has_public name) members n d is).2 k early))
+          | inr late ↦ late
+        ],
+      )
 
-  -- and the supplier is the first that has it
-  record IsGiven (name : List ℕ) (least : ℕ) : Type 0 where
-    pub absent : defines chosen name ≡ false
-    pub first : IsFirstWith name members least
-
-  given : (name : List ℕ) (least : ℕ) → gives name ≡ Some least → IsGiven name least
-  given name least h = by (defines chosen name) refl h
-    where
-      number : (o : Option Definition) → public_definition members name ≡ o → defining_module o ≡ Some least
-          → IsFirstWith name members least
-      number None is k = absurd (cc k)
-      number (Some f) is k =
-          let w = first_with name 0 members f is in
-          let same : w.0 ≡ least = omega (arith, w.1.0, same_Some f.number least k) in
-          subst (λ n. IsFirstWith name members n) same w.1.1
-
-      by : (b : Bool) → defines chosen name ≡ b → cond b None (defining_module (public_definition members name))
-          ≡ Some least → IsGiven name least
-      by true e k = absurd (cc k)
-      by false e k = record { absent = e; first = number (public_definition members name) refl k }
+  inside : (k l n : ℕ) → cond (nat_lt k l) (Some k) None ≡ Some n → n < l
+  inside k l n h = grind (arith, nat_tests)
 
   -- so the earliest supplier is the first member that is needed
-  pub next_is : (o : Option ℕ) → nat_lt MOST_MODULES (length chosen) ≡ false → IsEarliest gives (IsWanted chosen) o
+  pub next_is : (o : Option ℕ) → nat_lt MOST_MODULES (length chosen) ≡ false → IsEarliest gives_of (IsWanted chosen) o
       → IsNext chosen members o
   next_is None few h = inr (λ k d below. not_true (is_needed chosen (get_or members k d)) (λ needed.
       let x = missing_in chosen (get_or members k d) needed in
-      let s = supplies x.name k d x.absent below x.has in
-      absurd (cc (h x.name (record { wanted = x.wanted }), s.is))))
+      absurd (cc (h x.name (grind arith), (supplies x.name k d x.absent below x.has).1))))
   next_is (Some least) few h =
       let g = given h.name least h.is in
+      let below : least < length members = inside _ _ least g.1 in
       record {
         few = few;
-        inside = g.first.inside;
-        needed = λ d. needed_from chosen (get_or members least d)
-            (record { name = h.name; wanted = h.named.wanted; absent = g.absent; has = g.first.has d });
+        inside = below;
+        needed = λ d. needed_from chosen (get_or members least d) (record {
+          name = h.name;
+          wanted = h.named.wanted;
+          absent = g.0;
+          has = (position-Some (has_public h.name) members least d g.1).1;
+        });
         before = λ k d early. not_true (is_needed chosen (get_or members k d)) (λ needed.
             let x = missing_in chosen (get_or members k d) needed in
-            let s = supplies x.name k d x.absent (omega (arith, early, g.first.inside)) x.has in
-            let low = h.first x.name s.number (record { wanted = x.wanted }) s.is in
-            omega (arith, low, s.no_later, early));
+            grind (arith, supplies));
       }

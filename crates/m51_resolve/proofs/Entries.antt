@@ -1,13 +1,13 @@
 -- What the tables hold for an item of a module.
-use Rattle.m51_resolve.proofs.Common.{◌≡◌, ℕ, suc, ◌+◌, ◌<◌, ◌≤◌, Bool, true, false, cond, List, [], ◌∷◌, ◌++◌, length}
-use Rattle.m51_resolve.proofs.Common.{take, drop, get_or, refl, sym, ap, ◌∙◌, arith, Option, Some, None, flat_map}
+use Rattle.std.proofs.lemmas.Grind.{common_steps}
+use Rattle.m51_resolve.proofs.Common.{◌≡◌, ℕ, suc, ◌+◌, ◌<◌, ◌≤◌, Bool, cond, List, [], ◌∷◌, ◌++◌, length}
+use Rattle.m51_resolve.proofs.Common.{take, drop, get_or, refl, sym, ap, ◌∙◌, arith, Option, Some, flat_map}
 use Rattle.m51_resolve.proofs.Common.{option_map, slice_get, unwrap_or, option_map_or, option_or, bytes_eq, length-map}
 use Rattle.m51_resolve.proofs.Common.{MOST_MODULES, ModuleParts, Segment, External, Public, SegmentPart, Definition}
 use Rattle.m51_resolve.proofs.Common.{all_segments, firsts, joined_of, part_after, segments_of, AreStarts}
 use Rattle.m51_resolve.proofs.Common.{all_externals, definition_among, definition_from, public_definition}
 use Rattle.std.proofs.Common.{◌-◌}
-use Rattle.std.proofs.Common.{lit<}
-use Rattle.std.specs.Prelude.{IsSome, option_and_then}
+use Rattle.std.specs.Prelude.{IsSome}
 use Rattle.std.proofs.lemmas.List.{get_or_default}
 use Rattle.std.proofs.lemmas.Option.{get_or_from_slice_get, slice_get_within, slice_get-map}
 use Rattle.m51_cells.specs.declared.limits.TheConstants.{MOST_SEGMENTS}
@@ -32,21 +32,18 @@ pub record IsEntry {B : Type 0} (starts : List ℕ) (table : List B) (value : B)
 -- where the items of its module begin, and its own index
 pub begin : {B : Type 0} (starts : List ℕ) (table : List B) (value : B) (m s start from : ℕ)
     (e : IsEntry starts table value m s) → start ≡ get_or starts from start → from ≡ m → start ≡ e.before
-begin starts table value m s start from e read is = read ∙ ap (λ n. get_or starts n start) is ∙ e.start start
+begin starts table value m s start from e read is = grind arith
 
 pub stands : {B : Type 0} (starts : List ℕ) (table : List B) (value : B) (m s start from number : ℕ)
     (e : IsEntry starts table value m s) → start ≡ get_or starts from start → from ≡ m
     → number ≡ s → start + number - 1 ≡ e.before + e.index
-stands starts table value m s start from number e read is number_is =
-    let first = begin starts table value m s start from e read is in omega (arith, first, number_is, e.number)
+stands starts table value m s start from number e read is number_is = grind arith
 
 -- what is read there
 pub reads : {B : Type 0} (starts : List ℕ) (table : List B) (value item : B) (m s start from number : ℕ)
     (e : IsEntry starts table value m s) → start ≡ get_or starts from start → from ≡ m
     → number ≡ s → item ≡ get_or table (start + number - 1) item → item ≡ value
-reads starts table value item m s start from number e read is number_is item_is =
-    item_is ∙ ap (λ n. get_or table n item) (stands starts table value m s start from number e read is number_is)
-    ∙ e.at item
+reads starts table value item m s start from number e read is number_is item_is = grind arith
 
 entry : {A B : Type 0} (items : ModuleParts → List A) (modules : List ModuleParts) (starts : List ℕ) (table : List B)
     (value : B) (m s : ℕ) → AreStarts items modules starts
@@ -59,11 +56,11 @@ entry items modules starts table value m s are t at =
     record {
       inside = inside;
       before = before;
-      start = λ d. get_or_default starts m d 0 inside ∙ are.each m below;
+      start = grind (arith, get_or_default);
       index = t.index;
       number = t.number;
-      within = slice_get_within table (before + t.index) value at;
-      at = λ d. get_or_from_slice_get table (before + t.index) value d at;
+      within = grind (arith, slice_get_within);
+      at = grind (arith, get_or_from_slice_get);
     }
 
 -- the part that a segment is
@@ -75,15 +72,9 @@ pub record IsPartEntry (modules : List ModuleParts) (starts : List ℕ) (table :
   pub offset : part.offset < 65536
   pub value : (part.number, part.offset) ≡ part_of modules m s
 
-one_less : (s index : ℕ) → s ≡ suc index → s - 1 ≡ index
-one_less s index h = omega (arith, h)
-
 before_is : (modules : List ModuleParts) (m s : ℕ) (t : IsThere (λ m. m.segments) modules m s)
     → segments_before modules m s ≡ all_segments (take m modules) ++ take t.index t.holder.segments
-before_is modules m s t =
-    ap (λ o. all_segments (take m modules) ++ option_map_or
-    (λ (chosen : ModuleParts). take (s - 1) chosen.segments) o []) t.is
-    ∙ ap (λ n. all_segments (take m modules) ++ take n t.holder.segments) (one_less s t.index t.number)
+before_is modules m s t = grind arith
 
 pub part_entry : (modules : List ModuleParts) (joined : List JoinedSegment) (starts : List ℕ) (table : List SegmentPart)
     (external_starts : List ℕ) (found : List Definition) (m s : ℕ)
@@ -125,9 +116,7 @@ part_entry modules joined starts table external_starts defined m s kept h =
 among_by : (b : Bool) (number index : ℕ) (p : Public) (d : Definition) (later : Option Definition)
     → cond b (Some (record { number = number; index = index; kind = p.kind })) later ≡ Some d
     → (later ≡ Some d → d.number ≡ number) → d.number ≡ number
-among_by true number index p d later h k = let same : record { number = number; index = index; kind = p.kind } ≡ d = cc
-    in ap (λ (x : Definition). x.number) (sym same)
-among_by false number index p d later h k = k h
+among_by b number index p d later h k = grind arith
 
 pub among_number : (number index : ℕ) (name : List ℕ) (publics : List Public) (d : Definition)
     → definition_among number index name publics ≡ Some d → d.number ≡ number
@@ -139,8 +128,7 @@ among_number number index name (p ∷ more) d h =
 or_else_by : (first later : Option Definition) (d : Definition) (number most : ℕ) → option_or first later ≡ Some d
     → (first ≡ Some d → d.number ≡ number)
     → (later ≡ Some d → d.number < number + 1 + most) → d.number < number + suc most
-or_else_by None later d number most h k l = let below = l h in omega arith
-or_else_by (Some x) later d number most h k l = let is = k h in omega arith
+or_else_by first later d number most h k l = grind arith
 
 -- the module of a definition is one of those searched
 pub definition_number : (number : ℕ) (name : List ℕ) (modules : List ModuleParts) (d : Definition)
@@ -150,12 +138,11 @@ definition_number number name [] d h = cc
 definition_number number name (m ∷ more) d h =
     or_else_by (definition_among number 0 name m.publics) (definition_from (number + 1) name more) d number
     (length more) h
-    (among_number number 0 name m.publics d) (definition_number (number + 1) name more d)
+    (grind (arith, among_number)) (definition_number (number + 1) name more d)
 
 few_by : (modules : List ModuleParts) (name : List ℕ) (o : Option Definition) → public_definition modules name ≡ o
     → length modules ≤ MOST_MODULES → (unwrap_or o nowhere).number < 256
-few_by modules name None is few = lit< tt
-few_by modules name (Some d) is few = omega (arith, definition_number 0 name modules d is, few)
+few_by modules name o is few = grind (arith, definition_number)
 
 -- the public that resolves an external
 pub record IsPublicEntry (modules : List ModuleParts) (starts : List ℕ) (table : List Definition)
@@ -173,17 +160,12 @@ public_entry modules joined segment_starts parts starts table m e kept h =
     let items : ModuleParts → List External = λ m. m.externals in
     let t = there items modules m e h in
     let all = all_externals modules in
-    let n = length (flat_map items (take m modules)) + t.index in
-    let is : slice_get all n ≡ Some t.item = get_flat items modules m t.index t.holder t.item t.is t.at in
-    let at : slice_get table n ≡ Some (resolving modules t.item) =
-    ap (λ ds. slice_get ds n) kept.publics ∙ slice_get-map (resolving modules) all n
-    ∙ ap (option_map (resolving modules)) is in
-    record {
-      definition = resolving modules t.item;
-      entry = entry items modules starts table (resolving modules t.item) m e kept.public_starts t at;
-      number = few_by modules t.item.name (public_definition modules t.item.name) refl kept.resolved.few_modules;
-      value = sym
-          (ap (λ o. let d : Definition =
-          unwrap_or (option_and_then (λ (x : External). public_definition modules x.name) o) nowhere in
-          (d.number, d.index)) (found items modules m e t));
-    }
+    grind (
+      arith,
+      common_steps,
+      get_flat items modules m t.index t.holder t.item t.is t.at,
+      slice_get-map (resolving modules) all (length (flat_map items (take m modules)) + t.index),
+      resolving modules t.item,
+      entry items modules starts table (resolving modules t.item) m e kept.public_starts t,
+      few_by modules t.item.name (public_definition modules t.item.name) refl kept.resolved.few_modules,
+    )

@@ -34,4 +34,4 @@ joined_more segments count growing new parts s part h below is j ends =
 pub ends_fit : (segments : List Segment) (count : ℕ) (growing : List Growing) (parts : List SegmentPart)
     → AreJoined segments count growing parts → count ≤ 2 ^ 20
     → All (λ g. g.end < 2 ^ 40) growing
-ends_fit segments count growing parts h few = λ k d below. let e = h.ends k d below in omega arith
+ends_fit segments count growing parts h few = grind arith

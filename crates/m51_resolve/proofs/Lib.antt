@@ -17,5 +17,4 @@ pub mod Stopping
 pub mod Tables
 pub mod Earliest
 pub mod Skipping
-pub mod WantedNames
 pub mod Within

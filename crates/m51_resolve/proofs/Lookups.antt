@@ -1,6 +1,6 @@
 -- Looking up what a module has in the list of all.
-use Rattle.m51_resolve.proofs.Common.{◌≡◌, ℕ, zero, suc, ◌+◌, ◌≤◌, List, [], ◌∷◌, ◌++◌, length, take, drop, refl, sym}
-use Rattle.m51_resolve.proofs.Common.{ap, ◌∙◌, append_assoc, length-append, zero-add, arith, Option, Some, None}
+use Rattle.m51_resolve.proofs.Common.{◌≡◌, ℕ, zero, suc, ◌+◌, ◌≤◌, List, [], ◌∷◌, ◌++◌, length, take, drop, sym}
+use Rattle.m51_resolve.proofs.Common.{ap, ◌∙◌, append_assoc, length-append, zero-add, arith, Some}
 use Rattle.m51_resolve.proofs.Common.{flat_map, slice_get, append-nil, ModuleParts, Segment, part_after, parts_after}
 use Rattle.std.proofs.Common.{add_assoc}
 use Rattle.std.specs.Prelude.{IsSome, option_and_then}
@@ -18,24 +18,10 @@ pub record IsThere {A : Type 0} (items : ModuleParts → List A) (modules : List
   pub at : slice_get (items holder) index ≡ Some item
 
 module _ {A : Type 0} (items : ModuleParts → List A) (modules : List ModuleParts) (m : ℕ) where
-  there_at : (s : ℕ) (holder : ModuleParts) (index : ℕ) → s ≡ suc index → slice_get modules m ≡ Some holder
-      → (o : Option A) → slice_get (items holder) index ≡ o → IsSome o
-      → IsThere items modules m s
-  there_at s holder index number is None at h = cc
-  there_at s holder index number is (Some item) at h =
-      record { holder = holder; is = is; index = index; number = number; item = item; at = at }
-
-  there_by : (s : ℕ) (o : Option ModuleParts) → slice_get modules m ≡ o
-      → IsSome (option_and_then (λ (holder : ModuleParts). numbered (items holder) s) o) → IsThere items modules m s
-  there_by s None is h = cc
-  there_by zero (Some holder) is h = cc
-  there_by (suc index) (Some holder) is h =
-      there_at (suc index) holder index refl is (slice_get (items holder) index) refl h
-
   pub there : (s : ℕ)
       → IsSome (option_and_then (λ (holder : ModuleParts). numbered (items holder) s) (slice_get modules m))
       → IsThere items modules m s
-  there s h = there_by s (slice_get modules m) refl h
+  there s h = grind arith
 
   -- and the other way round
   pub found : (s : ℕ) (t : IsThere items modules m s)
@@ -45,7 +31,7 @@ module _ {A : Type 0} (items : ModuleParts → List A) (modules : List ModulePar
       ∙ ap (numbered (items t.holder)) t.number ∙ t.at
 
 pub get-append : {A : Type 0} (xs ys : List A) (n : ℕ) → slice_get (xs ++ ys) (length xs + n) ≡ slice_get ys n
-get-append [] ys n = ap (slice_get ys) (zero-add n)
+get-append [] ys n = grind arith
 get-append (x ∷ xs) ys n = ap (slice_get (x ∷ (xs ++ ys))) (suc_add (length xs) n) ∙ get-append xs ys n where
   suc_add : (a b : ℕ) → suc a + b ≡ suc (a + b)
   suc_add a b = omega arith
@@ -63,13 +49,10 @@ module _ {A : Type 0} (items : ModuleParts → List A) where
   get_flat [] m j holder item is at = cc
   get_flat (x ∷ modules) zero j holder item is at =
       let same : x ≡ holder = cc in
-      ap (slice_get (items x ++ flat_map items modules)) (zero-add j)
-      ∙ get_left (items x) (flat_map items modules) j item (ap (λ h. slice_get (items h) j) same ∙ at)
+      grind arith
+      ∙ get_left (items x) (flat_map items modules) j item (cc)
   get_flat (x ∷ modules) (suc m) j holder item is at =
-      let before = flat_map items (take m modules) in
-      ap (slice_get (items x ++ flat_map items modules))
-      (ap (λ n. n + j) (length-append (items x) before) ∙ add_assoc (length (items x)) (length before) j)
-      ∙ get-append (items x) (flat_map items modules) (length before + j) ∙ get_flat modules m j holder item is at
+      grind (arith, flat_map, length-append, get-append, get_flat modules m j holder item is at)
 
   -- and these are the items before it
   pub take_flat : (modules : List ModuleParts) (m j : ℕ) (holder : ModuleParts) → slice_get modules m ≡ Some holder
@@ -94,16 +77,12 @@ module _ {A : Type 0} (items : ModuleParts → List A) where
 pub get_part : (before segments : List Segment) (n : ℕ) (s : Segment) → slice_get segments n ≡ Some s
     → slice_get (parts_after before segments) n ≡ Some (part_after (before ++ take n segments) s)
 get_part before [] n s is = cc
-get_part before (x ∷ segments) zero s is =
-    let same : x ≡ s = cc in ap (λ y. Some (part_after before y)) same
-    ∙ ap (λ b. Some (part_after b s)) (sym (append-nil before))
-get_part before (x ∷ segments) (suc n) s is =
-    get_part (before ++ x ∷ []) segments n s is
-    ∙ ap (λ b. Some (part_after b s)) (append_assoc before (x ∷ []) (take n segments))
+get_part before (x ∷ segments) zero s is = cc (append-nil before)
+get_part before (x ∷ segments) (suc n) s is = grind (arith, get_part (before ++ x ∷ []) segments n s is, append_assoc)
 
 -- a list around one of its items
 pub around : {A : Type 0} (xs : List A) (n : ℕ) (x : A) → slice_get xs n ≡ Some x → xs
     ≡ take n xs ++ x ∷ drop (suc n) xs
 around [] n x is = cc
-around (y ∷ xs) zero x is = let same : y ≡ x = cc in ap (λ z. z ∷ xs) same
-around (y ∷ xs) (suc n) x is = ap (λ zs. y ∷ zs) (around xs n x is)
+around (y ∷ xs) zero x is = cc
+around (y ∷ xs) (suc n) x is = cc (around xs n x is)

@@ -1,13 +1,11 @@
 -- Where none is found.
 use Rattle.m51_resolve.proofs.Common.{◌≡◌, ℕ, suc, ◌+◌, ◌<◌, Bool, true, false, cond, not, ◌||◌, List, [], ◌∷◌, length}
-use Rattle.m51_resolve.proofs.Common.{ap, arith, Some, None, nat_lt, position, list_any}
+use Rattle.m51_resolve.proofs.Common.{arith, None, position, list_any}
 use Rattle.std.specs.List.{position_or_len}
-use Rattle.std.proofs.lemmas.Bool.Decides.{Decides-ltb}
 use Rattle.m51_resolve.proofs.Alike.{not_true}
 
 within_by : (b r : Bool) (n l : ℕ) → (b || r) ≡ true → (r ≡ true → n < l) → cond (not b) (1 + n) 0 < suc l
-within_by true r n l h k = omega arith
-within_by false r n l h k = let q = k h in omega arith
+within_by b r n l h k = grind arith
 
 within : {X : Type 0} (p : X → Bool) (xs : List X) → list_any p xs ≡ true → position_or_len p xs < length xs
 within p [] h = cc
@@ -15,8 +13,4 @@ within p (x ∷ xs) h = within_by (p x) (list_any p xs) (position_or_len p xs) (
 
 -- where none is found, none passes
 pub none_found : {X : Type 0} (p : X → Bool) (xs : List X) → position p xs ≡ None → list_any p xs ≡ false
-none_found p xs h = not_true (list_any p xs) (λ e.
-    let n = position_or_len p xs in
-    let inside : nat_lt n (length xs) ≡ true = (Decides-ltb n (length xs)).1 (within p xs e) in
-    let found : position p xs ≡ Some n = ap (λ b. cond b (Some n) None) inside in
-    cc)
+none_found p xs h = not_true (list_any p xs) (grind (arith, within))

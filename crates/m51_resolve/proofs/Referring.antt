@@ -1,18 +1,14 @@
 -- A valid module has what its fixups name.
-use Rattle.m51_resolve.proofs.Common.{◌≡◌, ℕ, ◌+◌, ◌≤◌, List, Some, refl, sym, ap, ◌∙◌, arith, slice_get}
+use Rattle.m51_resolve.proofs.Common.{◌≡◌, ℕ, ◌+◌, ◌≤◌, List, Some, arith, slice_get}
 use Rattle.m51_resolve.proofs.Common.{ModuleParts, Segment}
 use Rattle.std.proofs.Common.{◌-◌}
-use Rattle.std.specs.Prelude.{IsSome}
 use Rattle.std.specs.List.{Contains}
 use Rattle.std.proofs.lemmas.List.Elements.{All-contains}
 use Rattle.m51_cells.specs.declared.kind.Kind.TheVariants.{Code}
-use Rattle.m51_cells.specs.declared.kind.Base.{Base}
-use Rattle.m51_cells.specs.declared.kind.Base.TheVariants.{None as NoBase, Segment as InSegment, External as OfExternal}
 use Rattle.m51_module.specs.declared.content.Fixup.{Fixup}
-use Rattle.m51_module.specs.Validity.{field_len, IsFixupValid, IsHeld, IsPieceValid, IsTarget, IsValid, numbered}
+use Rattle.m51_module.specs.Validity.{field_len, IsFixupValid, IsHeld, IsValid, numbered}
 use Rattle.m51_module.proofs.FieldLengths.{some_byte}
-use Rattle.m51_resolve.specs.Joining.{segment_at}
-use Rattle.m51_resolve.specs.Referents.{IsBaseThere, IsFixupThere}
+use Rattle.m51_resolve.specs.Referents.{IsFixupThere}
 
 -- the segment of program memory in which a field lies
 pub record IsFieldIn (parts : ModuleParts) (f : Fixup) : Type 0 where
@@ -27,31 +23,12 @@ pub field_in : (parts : ModuleParts) (f : Fixup) → IsValid parts
 field_in parts f valid h =
     let some = some_byte f.form in
     let held : IsHeld parts.pieces f.segment (f.offset + (field_len f.form - 1)) =
-    h.held (field_len f.form - 1) (omega (arith, some)) in
-    let piece : IsPieceValid parts.segments held.piece =
-    All-contains (IsPieceValid parts.segments) parts.pieces held.piece valid.pieces held.is in
-    record {
-      segment = piece.segment;
-      is = ap (numbered parts.segments) (sym held.same) ∙ piece.is;
-      code = piece.code;
-      inside = omega (arith, held.below, piece.inside, some);
-    }
+    omega arith in
+    grind arith
 
 module _ (modules : List ModuleParts) (m : ℕ) (parts : ModuleParts) (here : slice_get modules m ≡ Some parts) where
-  segment_there : (s : ℕ) (segment : Segment) → numbered parts.segments s ≡ Some segment
-      → IsSome (segment_at modules m s)
-  segment_there s segment is = rw (here, is) refl
-
-  target_there : (target : Base) → IsTarget parts.segments parts.externals target → IsBaseThere modules m target
-  target_there NoBase h = tt
-  target_there (InSegment s) h = segment_there s h.0 h.1
-  target_there (OfExternal e) h = rw (here, h.1) refl
-
   pub fixup_there : (f : Fixup) → IsValid parts → Contains parts.fixups f → IsFixupThere modules m f
   fixup_there f valid is =
       let h = All-contains (IsFixupValid parts.segments parts.externals parts.pieces) parts.fixups f valid.fixups is in
       let field = field_in parts f valid h in
-      record {
-        segment = segment_there f.segment field.segment field.is;
-        target = target_there f.target h.target;
-      }
+      grind arith

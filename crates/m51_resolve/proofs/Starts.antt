@@ -1,6 +1,6 @@
 -- The items of all modules in one list.
 use Rattle.m51_resolve.proofs.Common.{◌≡◌, inl, inr, ℕ, ◌+◌, ◌*◌, ◌<◌, ◌≤◌, List, [], ◌∷◌, ◌++◌, length, take, get_or}
-use Rattle.m51_resolve.proofs.Common.{refl, sym, ap, ◌∙◌, subst, arith, length-append, flat_map, append-nil, take_more}
+use Rattle.m51_resolve.proofs.Common.{ap, arith, length-append, append-nil, take_more, flat_map}
 use Rattle.m51_resolve.proofs.Common.{ModuleParts, Segment, AreStarts}
 use Rattle.std.specs.Prelude.{slice_index}
 use Rattle.std.proofs.lemmas.List.{get_or_default}
@@ -26,31 +26,16 @@ pub record AreSegmentsOf (modules : List ModuleParts) (count : ℕ) (all : List 
 
 pub flat_start : {A : Type 0} (items : ModuleParts → List A) (modules : List ModuleParts)
     → AreFlat items modules 0 [] []
-flat_start items modules =
-    record { few = omega arith; flat = refl; len = refl; each = λ m below. absurd (omega (arith, below)) }
+flat_start items modules = grind arith
 
 -- the items of one more module
 pub flat_more : {A : Type 0} (items : ModuleParts → List A) (modules : List ModuleParts) (count : ℕ) (all : List A)
     (starts : List ℕ) (m : ModuleParts) (start : ℕ)
     → AreFlat items modules count all starts → count < length modules → m ≡ get_or modules count m → start ≡ length all
     → AreFlat items modules (count + 1) (all ++ items m) (starts ++ start ∷ [])
-flat_more {A} items modules count all starts m start h below is start_is =
-    let more : take (count + 1) modules ≡ take count modules ++ m ∷ [] = take_more modules count m below
-    ∙ ap (λ x. take count modules ++ x ∷ []) (sym is) in
-    record {
-      few = omega arith;
-      flat = ap (λ xs. xs ++ items m) h.flat
-          ∙ ap (λ xs. flat_map items (take count modules) ++ xs) (sym (append-nil (items m)))
-          ∙ sym (flat_map-append items (take count modules) (m ∷ [])) ∙ ap (flat_map items) (sym more);
-      len = omega (arith, h.len, length-append starts (start ∷ []));
-      each = λ k inside. elim (below_or_last k count inside) as
-          (λ _. slice_index (starts ++ start ∷ []) k ≡ length (flat_map items (take k modules))) [
-            | inl less ↦ get_or-append starts (start ∷ []) 0 k (omega (arith, less, h.len)) ∙ h.each k less
-            | inr last ↦ ap (λ n. slice_index (starts ++ start ∷ []) n) (last ∙ sym h.len)
-                ∙ get_or-append_seam starts start [] 0
-                ∙ start_is ∙ ap length h.flat ∙ ap (λ n. length (flat_map items (take n modules))) (sym last)
-          ];
-    }
+flat_more items modules count all starts m start h below is start_is =
+    let more : take (count + 1) modules ≡ take count modules ++ m ∷ [] = rw (take_more modules count m below, ← is) in
+    grind (arith, flat_map-append, append-nil, length-append, get_or-append, get_or-append_seam)
 
 -- one more valid module
 pub valid_more : (modules : List ModuleParts) (count : ℕ) (m : ModuleParts)
@@ -60,8 +45,7 @@ pub valid_more : (modules : List ModuleParts) (count : ℕ) (m : ModuleParts)
 valid_more modules count m valid below is own k inside d =
     elim (below_or_last k count inside) [
       | inl less ↦ valid k less d
-      | inr last ↦ subst (λ x. IsValid x)
-          (is ∙ get_or_default modules count m d below ∙ ap (λ n. get_or modules n d) (sym last)) own
+      | inr last ↦ rw (last, ← get_or_default modules count m d below, ← is) own
     ]
 
 -- all of them
@@ -69,7 +53,4 @@ pub flat_all : {A : Type 0} (items : ModuleParts → List A) (modules : List Mod
     (starts : List ℕ) → AreFlat items modules count all starts
     → length modules ≤ count → (all ≡ flat_map items modules) × AreStarts items modules starts
 flat_all items modules count all starts h past =
-    let whole : count ≡ length modules = omega (arith, h.few, past) in (
-      h.flat ∙ ap (λ n. flat_map items (take n modules)) whole ∙ ap (flat_map items) (take-length modules),
-      record { len = h.len ∙ whole; each = λ m below. h.each m (omega (arith, below, whole)) },
-    )
+    let whole : count ≡ length modules = omega (arith, h.few, past) in (grind (arith, take-length))

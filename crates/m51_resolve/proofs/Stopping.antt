@@ -1,28 +1,25 @@
 -- The choice may stop where more modules are chosen than a link takes: the answer is known.
-use Rattle.m51_resolve.proofs.Common.{◌≡◌, ℕ, zero, suc, ◌≤◌, true, false, cond, List, [], ◌∷◌, ◌++◌, length, sym, ap}
-use Rattle.m51_resolve.proofs.Common.{◌∙◌, length-append, arith, Option, Some, None, inl, inr, nat_lt, option_map}
-use Rattle.m51_resolve.proofs.Common.{option_map_or, option_or, MOST_MODULES, ModuleParts, choice, first_needed}
-use Rattle.m51_resolve.proofs.Common.{shared_public, unless_refused, IsNext}
+use Rattle.m51_resolve.proofs.Common.{◌≡◌, inl, inr, ℕ, zero, suc, ◌≤◌, true, false, List, [], ◌∷◌, ◌++◌, length, sym}
+use Rattle.m51_resolve.proofs.Common.{ap, ◌∙◌, arith, Option, Some, None, length-append, option_map_or, nat_lt}
+use Rattle.m51_resolve.proofs.Common.{MOST_MODULES, ModuleParts, choice, first_needed, IsNext}
 use Rattle.std.specs.Prelude.{Err}
 use Rattle.std.proofs.lemmas.Bool.Decides.{nat_tests}
 use Rattle.m51_module.specs.declared.linked.Quantity.TheVariants.{Modules}
-use Rattle.m51_module.specs.declared.linked.Refusal.TheVariants.{L1, Limit}
+use Rattle.m51_module.specs.declared.linked.Refusal.TheVariants.{Limit}
 use Rattle.m51_resolve.specs.Choice.{chosen_of}
 use Rattle.m51_resolve.specs.Rules.{resolved_or_refused}
-use Rattle.m51_resolve.proofs.Answering.{publics_refused}
 use Rattle.m51_resolve.proofs.Skipping.{choosing_done, IsChoosing}
-
-grows_by : (turns : ℕ) (chosen : List ModuleParts) (o : Option (ModuleParts × List ModuleParts))
-    → ((left' chosen' : List ModuleParts) → length chosen' ≤ length (choice turns left' chosen'))
-    → length chosen ≤ length (option_map_or (λ next. choice turns next.1 (chosen ++ next.0 ∷ [])) o chosen)
-grows_by turns chosen None h = omega arith
-grows_by turns chosen (Some found) h =
-    omega (arith, h found.1 (chosen ++ found.0 ∷ []), length-append chosen (found.0 ∷ []))
 
 -- what is chosen stays chosen
 grows : (turns : ℕ) (left chosen : List ModuleParts) → length chosen ≤ length (choice turns left chosen)
 grows zero left chosen = omega arith
-grows (suc turns) left chosen = grows_by turns chosen (first_needed chosen left) (grows turns)
+grows (suc turns) left chosen = by (first_needed chosen left) (grows turns)
+  where
+    by : (o : Option (ModuleParts × List ModuleParts))
+        → ((left' chosen' : List ModuleParts) → length chosen' ≤ length (choice turns left' chosen'))
+        → length chosen ≤ length (option_map_or (λ next. choice turns next.1 (chosen ++ next.0 ∷ [])) o chosen)
+    by None more = omega arith
+    by (Some found) more = grind (arith, length-append)
 
 above : (a b c : ℕ) → nat_lt a b ≡ true → b ≤ c → nat_lt a c ≡ true
 above a b c h k = grind (arith, nat_tests)
@@ -30,10 +27,7 @@ above a b c h k = grind (arith, nat_tests)
 -- too many modules are refused, whatever they are
 too_many : (modules : List ModuleParts) → nat_lt MOST_MODULES (length modules) ≡ true → resolved_or_refused modules
     ≡ Err (Limit Modules)
-too_many modules h =
-    ap (unless_refused modules) (publics_refused modules (Limit Modules)
-    (ap (λ b. option_or (cond b (Some (Limit Modules)) None) (option_or (option_map L1 (shared_public modules)) None))
-    h))
+too_many modules h = cc
 
 pub few_is : (count : ℕ) → nat_lt MOST_MODULES count ≡ false → count ≤ MOST_MODULES
 few_is count h = grind (arith, nat_tests, h)
@@ -45,5 +39,5 @@ stopped given members chosen h (inl many) =
     too_many chosen many
     ∙ sym (too_many (chosen_of given members)
     (above MOST_MODULES (length chosen) (length (chosen_of given members)) many
-    (omega (arith, grows (length h.left) h.left chosen, ap length h.goes))))
-stopped given members chosen h (inr none) = ap resolved_or_refused (choosing_done given members chosen h none)
+    (grind (arith, grows))))
+stopped given members chosen h (inr none) = cc (choosing_done given members chosen h none)

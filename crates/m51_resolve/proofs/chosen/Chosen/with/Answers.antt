@@ -7,8 +7,5 @@ invariant_of-result c =
     let count : c.len.result ≡ length c.self.inside.modules.items = omega arith in
     subst (λ ms. AreNamed ms c.note_publics.new.table.entries c.want_externals.new.names.keys)
     (sym c.in_ok-push.ensures.items)
-    (named_push c.self.inside.modules.items c.args.member c.self.inside.definitions.entries
-    c.note_publics.new.table.entries
-    c.self.inside.wanted.keys c.want_externals.new.names.keys c.len.result c.publics.result.now c.externals.result.now
-    c.self.invariant count
+    (named_push _ _ _ _ _ _ _ c.self.inside.modules.items c.len.result c.self.invariant count
     c.in_ok-note_publics.ensures c.publics.ensures.list c.in_ok-want_externals.ensures c.externals.ensures.list)

@@ -1,28 +1,24 @@
 -- The pairs that walks along edges join, found unit by unit.
-use Rattle.m51_graph.proofs.Common.{◌≡◌, ◌⊎◌, inl, inr, ℕ, zero, suc, ◌+◌, ◌<◌, true, Bool, ◌||◌, ◌&&◌, nat_eq, List}
-use Rattle.m51_graph.proofs.Common.{[], ◌∷◌, length, take, get_or, refl, sym, ap, subst, ◌∙◌, arith, Decides, Contains}
-use Rattle.m51_graph.proofs.Common.{cases_eq, Decides-eqb, Any-from_list_any, list_any_at, Edges, HasEdge, IsWalk}
-use Rattle.m51_graph.proofs.Common.{last_of, Reaches, reach_edge, flipped, edge_test, same_edge, LeadWithin}
+use Rattle.m51_graph.proofs.Common.{◌≡◌, ◌⊎◌, inl, inr, ℕ, zero, suc, ◌+◌, ◌<◌, Bool, true, ◌&&◌, List, [], ◌∷◌, length}
+use Rattle.m51_graph.proofs.Common.{take, get_or, refl, ap, subst, ◌∙◌, arith, nat_eq, cases_eq, Decides-eqb, Decides}
+use Rattle.m51_graph.proofs.Common.{edge_test, same_edge, LeadWithin, reach_edge, Edges, HasEdge, IsWalk, Reaches}
+use Rattle.m51_graph.proofs.Common.{last_of, flipped}
 use Rattle.std.proofs.Math.Bool.{and_comm, or_comm}
 use Rattle.std.proofs.lemmas.List.Folds.{list_any_more}
 use Rattle.m51_relations.specs.Rows.{closed_below, with_pair}
 use Rattle.m51_graph.specs.Leading.{leads}
 use Rattle.m51_relations.proofs.BitLaws.{same_pairs}
-use Rattle.m51_graph.proofs.Deciding.{and_decides, leads_is, or_decides, reach_trans}
+use Rattle.m51_graph.proofs.Deciding.{and_decides, any_decides, leads_is, or_decides, reach_trans, with_ends}
 
 -- the test for an edge is true exactly if the edge exists
 pub edge_tells : (edges : Edges) (u v : ℕ) → Decides (edge_test edges u v) (HasEdge edges u v)
 edge_tells edges u v =
-    let same : (edge : ℕ × ℕ) → Decides (same_edge (u, v) edge) ((u ≡ edge.0) × (v ≡ edge.1)) =
-    λ edge. and_decides (nat_eq u edge.0) (nat_eq v edge.1) (Decides-eqb u edge.0) (Decides-eqb v edge.1) in (
-      λ h.
-          let any = Any-from_list_any (same_edge (u, v)) edges h in
-          let edge : ℕ × ℕ = any.1 in
-          let told = (same edge).0 any.4 in
-          let is : edge ≡ (u, v) = ap (λ (a : ℕ). (a, edge.1)) (sym told.0) ∙ ap (λ (b : ℕ). (u, b)) (sym told.1) in
-          subst (λ (p : ℕ × ℕ). Contains edges p) is (any.0, any.2, any.3),
-      λ h. list_any_at (same_edge (u, v)) edges h.0 (u, v) h.1
-          (ap (same_edge (u, v)) h.2 ∙ (same (u, v)).1 (refl, refl)),
+    let told =
+    any_decides (same_edge (u, v)) (λ (edge : ℕ × ℕ). (u ≡ edge.0) × (v ≡ edge.1))
+    (λ (edge : ℕ × ℕ). and_decides (nat_eq u edge.0) (nat_eq v edge.1) (Decides-eqb u edge.0) (Decides-eqb v edge.1))
+    edges in (
+      λ h. let some = told.0 h in with_ends edges some.0 u v some.2.0 some.2.1 some.1,
+      λ h. told.1 ((u, v), h, (refl, refl)),
     )
 
 -- one more edge
@@ -31,10 +27,9 @@ pub edge_more : (edges : Edges) (i : ℕ) (d : ℕ × ℕ) (has : ℕ → ℕ �
     → with_pair (get_or edges i d).0 (get_or edges i d).1 has ≡ edge_test (take (i + 1) edges)
 edge_more edges i d has below is =
     let edge : ℕ × ℕ = get_or edges i d in
-    same_pairs (with_pair edge.0 edge.1 has) (edge_test (take (i + 1) edges))
-    (λ u v. ap (λ (p : ℕ → ℕ → Bool). (nat_eq u edge.0 && nat_eq v edge.1) || p u v) is
-    ∙ or_comm (nat_eq u edge.0 && nat_eq v edge.1) (edge_test (take i edges) u v)
-    ∙ sym (list_any_more (same_edge (u, v)) edges i d below))
+    rw is (same_pairs (with_pair edge.0 edge.1 (edge_test (take i edges))) (edge_test (take (i + 1) edges))
+    (λ u v. rw (list_any_more (same_edge (u, v)) edges i d below)
+    (or_comm (nat_eq u edge.0 && nat_eq v edge.1) (edge_test (take i edges) u v))))
 
 -- one more edge, reversed
 pub caller_more : (edges : Edges) (i : ℕ) (d : ℕ × ℕ) (has : ℕ → ℕ → Bool) → i < length edges → has
@@ -42,11 +37,10 @@ pub caller_more : (edges : Edges) (i : ℕ) (d : ℕ × ℕ) (has : ℕ → ℕ 
     → with_pair (get_or edges i d).1 (get_or edges i d).0 has ≡ flipped (edge_test (take (i + 1) edges))
 caller_more edges i d has below is =
     let edge : ℕ × ℕ = get_or edges i d in
-    same_pairs (with_pair edge.1 edge.0 has) (flipped (edge_test (take (i + 1) edges)))
-    (λ u v. ap (λ (p : ℕ → ℕ → Bool). (nat_eq u edge.1 && nat_eq v edge.0) || p u v) is
-    ∙ ap (λ b. b || edge_test (take i edges) v u) (and_comm (nat_eq u edge.1) (nat_eq v edge.0))
-    ∙ or_comm (nat_eq v edge.0 && nat_eq u edge.1) (edge_test (take i edges) v u)
-    ∙ sym (list_any_more (same_edge (v, u)) edges i d below))
+    rw is (same_pairs (with_pair edge.1 edge.0 (flipped (edge_test (take i edges))))
+    (flipped (edge_test (take (i + 1) edges)))
+    (λ u v. rw (list_any_more (same_edge (v, u)) edges i d below, and_comm (nat_eq u edge.1) (nat_eq v edge.0))
+    (or_comm (nat_eq v edge.0 && nat_eq u edge.1) (edge_test (take i edges) v u))))
 
 module _ (edges : Edges) (has : ℕ → ℕ → Bool) (tells : (u v : ℕ) → Decides (has u v) (HasEdge edges u v)) where
   -- a walk without the unit k between its ends, or one to k and one on from it
@@ -72,37 +66,20 @@ module _ (edges : Edges) (has : ℕ → ℕ → Bool) (tells : (u v : ℕ) → D
   closed_edge zero u v e = (tells u v).1 e
   closed_edge (suc k) u v e = (via_tells k u v).1 (inl (closed_edge k u v e))
 
-  to_last : (k u : ℕ) → Via k u k → closed_below k has u k ≡ true
-  to_last k u (inl h) = h
-  to_last k u (inr h) = h.0
-
-  from_last : (k v : ℕ) → Via k k v → closed_below k has k v ≡ true
-  from_last k v (inl h) = h
-  from_last k v (inr h) = h.1
-
   -- two walks that meet in a unit below the bound
   closed_on : (k u w v : ℕ) → w < k → closed_below k has u w ≡ true → closed_below k has w v ≡ true
       → closed_below k has u v ≡ true
+  unfolding closed_below
   closed_on zero u w v below p q = absurd (omega (arith, below))
-  closed_on (suc k) u w v below p q =
-      let one = (via_tells k u w).0 p in
-      let two = (via_tells k w v).0 q in
-      (via_tells k u v).1 (elim (cases_eq w k) [
-        | inl here ↦ inr
-            (to_last k u (subst (λ n. Via k u n) here one), from_last k v (subst (λ n. Via k n v) here two))
-        | inr other ↦
-            let less : w < k = omega (arith, below, other) in
-            elim one [
-              | inl a ↦ elim two [
-                | inl b ↦ inl (closed_on k u w v less a b)
-                | inr b ↦ inr (closed_on k u w k less a b.0, b.1)
-              ]
-              | inr a ↦ elim two [
-                | inl b ↦ inr (a.0, closed_on k k w v less a.1 b)
-                | inr b ↦ inr (a.0, b.1)
-              ]
-            ]
-      ])
+  closed_on (suc k) u w v below p q = elim (cases_eq w k) [
+    | inl here ↦ at_last (rw here at p) (rw here at q)
+    | inr other ↦
+        let less : w < k = omega (arith, below, other) in
+        grind (arith, p, q, closed_on k u w v less, closed_on k u w k less, closed_on k k w v less)
+  ] where
+    at_last : closed_below (suc k) has u k ≡ true → closed_below (suc k) has k v ≡ true
+        → closed_below (suc k) has u v ≡ true
+    at_last p q = grind arith
 
   module _ (count : ℕ) (within : LeadWithin count edges) where
     closed_along : (u w : ℕ) (more : List ℕ) → closed_below count has u w ≡ true → IsWalk edges w more

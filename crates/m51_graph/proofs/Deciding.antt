@@ -1,10 +1,10 @@
 -- The decision whether a walk leads from one unit to another is right.
-use Rattle.m51_graph.proofs.Common.{◌≡◌, ◌⊎◌, inl, inr, ℕ, suc, ◌+◌, ◌<◌, true, false, Bool, ◌||◌, ◌&&◌, nat_eq, List}
-use Rattle.m51_graph.proofs.Common.{[], ◌∷◌, refl, sym, ap, subst, ◌∙◌, arith, Decides, false≢true, Decides-eqb, Edges}
-use Rattle.m51_graph.proofs.Common.{HasEdge, IsWalk, last_of, Reaches, contains_after, first_or_after, none_in_empty}
-use Rattle.m51_graph.proofs.Common.{reach_edge}
-use Rattle.std.proofs.lemmas.Bool.Decides.{same_from_decides}
-use Rattle.m51_module.proofs.Reach.{reach_on, reach_from, lead_on}
+use Rattle.m51_graph.proofs.Common.{◌≡◌, ◌⊎◌, inl, inr, ℕ, Bool, ◌&&◌, ◌||◌, List, [], ◌∷◌, refl, sym, ap, subst, arith}
+use Rattle.m51_graph.proofs.Common.{nat_eq, false≢true, Decides-eqb, Any-from_list_any, list_any_at, Decides, Contains}
+use Rattle.m51_graph.proofs.Common.{list_any, contains_after, first_or_after, none_in_empty, reach_edge, Edges, HasEdge}
+use Rattle.m51_graph.proofs.Common.{IsWalk, Reaches, last_of}
+use Rattle.std.proofs.lemmas.Bool.Decides.{Decides-and, Decides-or, same_from_decides}
+use Rattle.m51_module.proofs.Reach.{reach_on, reach_from}
 use Rattle.m51_graph.specs.Leading.{leads}
 
 -- a walk, and then a longer one
@@ -87,13 +87,21 @@ join_reach edge edges u w (inr both) =
 
 -- Bool tests as facts
 pub or_decides : {P Q : Type 0} → (a b : Bool) → Decides a P → Decides b Q → Decides (a || b) (P ⊎ Q)
-or_decides true b d e = (λ h. inl (d.0 refl), λ h. refl)
-or_decides false b d e =
-    (λ h. inr (e.0 h), λ h. elim h [ inl p ↦ absurd (false≢true (d.1 p)) | inr q ↦ e.1 q ])
+or_decides a b d e = Decides-or a b d e
 
 pub and_decides : {P Q : Type 0} → (a b : Bool) → Decides a P → Decides b Q → Decides (a && b) (P × Q)
-and_decides true b d e = (λ h. (d.0 refl, e.0 h), λ h. e.1 h.1)
-and_decides false b d e = (λ h. absurd (false≢true h), λ h. absurd (false≢true (d.1 h.0)))
+and_decides a b d e = Decides-and a b d e
+
+pub any_decides : {X : Type 0} (p : X → Bool) (P : X → Type 0) → ((x : X) → Decides (p x) (P x)) → (xs : List X)
+    → Decides (list_any p xs) ((x : X) × Contains xs x × P x)
+any_decides p P each xs = (
+  λ h. let any = Any-from_list_any p xs h in (any.1, (any.0, any.2, any.3), (each any.1).0 any.4),
+  λ h. list_any_at p xs h.1.0 h.0 h.1.1 (rw h.1.2 ((each h.0).1 h.2)),
+)
+
+-- an edge by its ends
+pub with_ends : (edges : Edges) (e : ℕ × ℕ) (u v : ℕ) → u ≡ e.0 → v ≡ e.1 → Contains edges e → Contains edges (u, v)
+with_ends edges e u v from to h = rw (from, to) h
 
 -- the decision is true exactly if a walk exists
 pub leads_tells : (edges : Edges) (u w : ℕ) → Decides (leads edges u w) (Reaches edges u w)

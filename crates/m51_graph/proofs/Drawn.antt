@@ -1,14 +1,12 @@
 -- Edges drawn one after another.
-use Rattle.m51_graph.proofs.Common.{◌≡◌, ℕ, ◌+◌, ◌<◌, List, [], ◌∷◌, ◌++◌, length, drop, get_or, Option, Some, None}
-use Rattle.m51_graph.proofs.Common.{refl, sym, ap, ◌∙◌, arith, add-one, flat_map, cons_option, filter_map}
-use Rattle.m51_graph.proofs.Common.{range_with_len, Control, ModuleParts, Edges, with_edge, with_edges, added_by}
-use Rattle.m51_graph.proofs.Common.{module_edges, subst, Contains}
+use Rattle.m51_graph.proofs.Common.{◌≡◌, ℕ, ◌+◌, ◌<◌, List, [], ◌∷◌, ◌++◌, length, drop, get_or, refl, sym, ap, subst}
+use Rattle.m51_graph.proofs.Common.{◌∙◌, arith, add-one, Contains, range_with_len, flat_map, Control, added_by}
+use Rattle.m51_graph.proofs.Common.{module_edges, with_edge, with_edges, Edges, ModuleParts}
 use Rattle.std.proofs.Common.{drop-cons, append-nil}
 use Rattle.std.proofs.lemmas.Grind.{flat_map-append}
 use Rattle.std.proofs.lemmas.List.Elements.{Contains-get_or}
 use Rattle.m51_cells.proofs.Small.{range_suc}
 use Rattle.m51_graph.specs.Drawing.{with_added}
-use Rattle.m51_graph.specs.DrawnEdges.{with_found}
 
 -- some edges, and then more
 pub with_append : (edges one two : Edges) → with_edges edges (one ++ two) ≡ with_edges (with_edges edges one) two
@@ -31,20 +29,6 @@ added_step titles controls i d old new below is =
     ap (λ (edges : Edges). with_edges edges (lines (drop (i + 1) controls))) is
     ∙ sym (with_append old here (lines (drop (i + 1) controls)))
     ∙ ap (λ cs. with_edges old (lines cs)) (sym (drop_rest controls i d below))
-
--- with the first of them, if it was found
-found_first : (now rest : Edges) (found : Option (ℕ × ℕ)) → with_edges (with_found now found) rest
-    ≡ with_edges now (cons_option found rest)
-found_first now rest None = refl
-found_first now rest (Some e) = refl
-
-pub found_more : {A : Type 0} (f : A → Option (ℕ × ℕ)) (xs : List A) (i : ℕ) (d : A) (now new : Edges) → i < length xs
-    → new ≡ with_found now (f (get_or xs i d))
-    → with_edges new (filter_map f (drop (i + 1) xs)) ≡ with_edges now (filter_map f (drop i xs))
-found_more f xs i d now new below is =
-    let rest = filter_map f (drop (i + 1) xs) in
-    ap (λ (edges : Edges). with_edges edges rest) is ∙ found_first now rest (f (get_or xs i d))
-    ∙ ap (λ ys. with_edges now (filter_map f ys)) (sym (drop_rest xs i d below))
 
 -- one more module
 pub modules_step : (modules : List ModuleParts) (m : ℕ) (edges new : Edges)

@@ -1,10 +1,9 @@
 -- Tables from names and joined numbers to units.
-use Rattle.m51_graph.proofs.Common.{◌≡◌, inl, inr, ℕ, zero, suc, ◌+◌, ◌<◌, ◌≤◌, true, false, Bool, cond, nat_eq, List}
-use Rattle.m51_graph.proofs.Common.{[], ◌∷◌, ◌++◌, length, take, get_or, Option, Some, None, refl, sym, ap, subst, ◌∙◌}
-use Rattle.m51_graph.proofs.Common.{arith, option_or, bytes_eq, cases_Bool, ne_eqb, take_more, JoinedSegment, named}
-use Rattle.m51_graph.proofs.Common.{units_from, units_of}
+use Rattle.m51_graph.proofs.Common.{◌≡◌, inl, inr, ℕ, zero, suc, ◌+◌, ◌<◌, ◌≤◌, Bool, cond, List, [], ◌∷◌, ◌++◌, length}
+use Rattle.m51_graph.proofs.Common.{take, get_or, refl, sym, ap, ◌∙◌, arith, Option, Some, None, nat_eq, cases_Bool}
+use Rattle.m51_graph.proofs.Common.{ne_eqb, take_more, option_or, bytes_eq, named, units_from, units_of, JoinedSegment}
 use Rattle.std.proofs.Common.{position}
-use Rattle.std.proofs.Common.{eq-eqb}
+use Rattle.std.proofs.Common.{add-zero, eq-eqb}
 use Rattle.std.specs.Prelude.{slice_index_or, unwrap_or}
 use Rattle.std.specs.List.{position_from}
 use Rattle.std.proofs.lemmas.Iterator.Adapters.{position_from-zero}
@@ -16,41 +15,27 @@ use Rattle.m51_graph.specs.Numbered.{AreNumbers, IsUnitTable, number_by_name, un
 -- one more item
 from_push : {X : Type 0} (p : X → Bool) (n : ℕ) (xs : List X) (x : X)
     → position_from p n (xs ++ x ∷ []) ≡ option_or (position_from p n xs) (cond (p x) (Some (n + length xs)) None)
-from_push p n [] x = ap (λ k. cond (p x) (Some k) None) (omega arith)
+from_push p n [] x = rw (add-zero n)
 from_push p n (y ∷ xs) x =
-    elim (p y) as
-    (λ b. cond b (Some n) (position_from p (n + 1) (xs ++ x ∷ []))
-    ≡ option_or (cond b (Some n) (position_from p (n + 1) xs)) (cond (p x) (Some (n + suc (length xs))) None)) [
-      | true ↦ refl
-      | false ↦ from_push p (n + 1) xs x
-          ∙ ap (λ k. option_or (position_from p (n + 1) xs) (cond (p x) (Some k) None)) (omega arith)
-    ]
+    let next : n + 1 + length xs ≡ n + suc (length xs) = omega arith in
+    rw (from_push p (n + 1) xs x, next) (grind arith)
 
 position_more : {X : Type 0} (p : X → Bool) (xs : List X) (i : ℕ) (d : X) → i < length xs
     → position p (take (i + 1) xs) ≡ option_or (position p (take i xs)) (cond (p (get_or xs i d)) (Some i) None)
 position_more p xs i d below =
     let x = get_or xs i d in
     position_from-zero p (take (i + 1) xs)
-    ∙ ap (position_from p 0) (take_more xs i d below)
-    ∙ from_push p 0 (take i xs) x
+    ∙ ap (position_from p 0) (take_more xs i d below) ∙ from_push p 0 (take i xs) x
     ∙ ap (λ n. option_or (position_from p 0 (take i xs)) (cond (p x) (Some n) None))
     (omega (arith, length-take-le i xs (omega (arith, below))))
     ∙ ap (λ o. option_or o (cond (p x) (Some i) None)) (sym (position_from-zero p (take i xs)))
 
-first_or : (o : Option ℕ) (i : ℕ) → Some (unwrap_or o i) ≡ option_or o (Some i)
-first_or None i = refl
-first_or (Some n) i = refl
-
-or_none : (o : Option ℕ) → o ≡ option_or o None
-or_none None = refl
-or_none (Some n) = refl
+or_same : (o : Option ℕ) (i : ℕ) → (Some (unwrap_or o i) ≡ option_or o (Some i)) × (o ≡ option_or o None)
+or_same o i = grind arith
 
 -- the table has the first units of the titles before the next one
 pub record AreBefore (titles : List (List ℕ)) (i : ℕ) (numbers : List (List ℕ × ℕ)) : Type 0 where
   pub each : (name : List ℕ) → number_by_name numbers name ≡ named (take i titles) name
-
-pub before_first : (titles : List (List ℕ)) → AreBefore titles 0 []
-before_first titles = record { each = λ name. refl }
 
 -- one more title
 pub before_more : (titles : List (List ℕ)) (i : ℕ) (d title : List ℕ) (now new : List (List ℕ × ℕ)) → i < length titles
@@ -60,20 +45,12 @@ pub before_more : (titles : List (List ℕ)) (i : ℕ) (d title : List ℕ) (now
     → AreBefore titles (i + 1) new
 before_more titles i d title now new below is before updates = record {
   each = λ name.
-      let test : List ℕ → Bool = λ t. bytes_eq t name in
       let old = named (take i titles) name in
       let whole : named (take (i + 1) titles) name ≡ option_or old (cond (bytes_eq title name) (Some i) None) =
-      position_more test titles i d below ∙ ap (λ t. option_or old (cond (bytes_eq t name) (Some i) None)) (sym is) in
-      updates name
-      ∙ elim (cases_Bool (bytes_eq title name)) [
-        | inl same ↦
-            let e : title ≡ name = (bytes_eq-Decides title name).0 same in
-            ap (λ b. cond b (Some (unwrap_or (number_by_name now title) i)) (number_by_name now name)) same
-            ∙ ap (λ t. Some (unwrap_or (number_by_name now t) i)) e ∙ ap (λ o. Some (unwrap_or o i)) (before.each name)
-            ∙ first_or old i ∙ sym (whole ∙ ap (λ b. option_or old (cond b (Some i) None)) same)
-        | inr other ↦
-            ap (λ b. cond b (Some (unwrap_or (number_by_name now title) i)) (number_by_name now name)) other
-            ∙ before.each name ∙ or_none old ∙ sym (whole ∙ ap (λ b. option_or old (cond b (Some i) None)) other)
+      rw is (position_more (λ t. bytes_eq t name) titles i d below) in
+      updates name ∙ elim (cases_Bool (bytes_eq title name)) [
+        | inl same ↦ rw (whole, same, (bytes_eq-Decides title name).0 same, before.each name) (or_same old i).0
+        | inr other ↦ rw (whole, other, before.each name) (or_same old i).1
       ];
 }
 
@@ -87,46 +64,33 @@ before_all titles i numbers few all before =
 none_before : (m number unit : ℕ) (segments : List JoinedSegment) → m < number
     → position_from (nat_eq m) unit (units_from number segments) ≡ None
 none_before m number unit [] below = refl
-none_before m number unit (j ∷ more) below =
-    elim (is_code j.kind) as
-    (λ b. position_from (nat_eq m) unit (cond b (number ∷ units_from (number + 1) more) (units_from (number + 1) more))
-    ≡ None) [
-      | true ↦ ap (λ b. cond b (Some unit) (position_from (nat_eq m) (unit + 1) (units_from (number + 1) more)))
-          (ne_eqb m number (λ e. absurd (omega (arith, e, below))))
-          ∙ none_before m (number + 1) (unit + 1) more (omega (arith, below))
-      | false ↦ none_before m (number + 1) unit more (omega (arith, below))
-    ]
+none_before m number unit (j ∷ more) below = elim (cases_Bool (is_code j.kind)) [
+  | inl code ↦ rw (
+    code,
+    ne_eqb m number (λ e. absurd (omega (arith, e, below))),
+    none_before m (number + 1) (unit + 1) more (omega (arith, below)),
+  )
+  | inr other ↦ rw (other, none_before m (number + 1) unit more (omega (arith, below)))
+]
 
 -- the table has the unit of each joined number
 entry_is : (number unit : ℕ) (segments : List JoinedSegment) (n : ℕ)
     → slice_index_or (units_by_segment unit segments) n None
     ≡ position_from (nat_eq (number + n)) unit (units_from number segments)
 entry_is number unit [] n = refl
-entry_is number unit (j ∷ more) zero =
-    elim (is_code j.kind) as
-    (λ b. slice_index_or
-    (cond b (Some unit ∷ units_by_segment (unit + 1) more) (None ∷ units_by_segment unit more)) 0 None
-    ≡ position_from (nat_eq (number + 0)) unit
-    (cond b (number ∷ units_from (number + 1) more) (units_from (number + 1) more))) [
-      | true ↦ sym
-          (ap (λ b. cond b (Some unit) (position_from (nat_eq (number + 0)) (unit + 1) (units_from (number + 1) more)))
-          (eq-eqb (number + 0) number (omega arith)))
-      | false ↦ sym (none_before (number + 0) (number + 1) unit more (omega arith))
-    ]
+entry_is number unit (j ∷ more) zero = elim (cases_Bool (is_code j.kind)) [
+  | inl code ↦ rw (code, eq-eqb (number + 0) number (omega arith))
+  | inr other ↦ rw other (sym (none_before (number + 0) (number + 1) unit more (omega arith)))
+]
 entry_is number unit (j ∷ more) (suc n) =
-    let next : number + suc n ≡ number + 1 + n = omega arith in
-    elim (is_code j.kind) as
-    (λ b. slice_index_or (cond b (Some unit ∷ units_by_segment (unit + 1) more) (None ∷ units_by_segment unit more))
-    (suc n) None
-    ≡ position_from (nat_eq (number + suc n)) unit
-    (cond b (number ∷ units_from (number + 1) more) (units_from (number + 1) more))) [
-      | true ↦ entry_is (number + 1) (unit + 1) more n
-          ∙ ap (λ m. position_from (nat_eq m) (unit + 1) (units_from (number + 1) more)) (sym next)
-          ∙ sym (ap
-          (λ b. cond b (Some unit) (position_from (nat_eq (number + suc n)) (unit + 1) (units_from (number + 1) more)))
-          (ne_eqb (number + suc n) number (λ e. absurd (omega (arith, e)))))
-      | false ↦ entry_is (number + 1) unit more n
-          ∙ ap (λ m. position_from (nat_eq m) unit (units_from (number + 1) more)) (sym next)
+    let next : number + 1 + n ≡ number + suc n = omega arith in
+    elim (cases_Bool (is_code j.kind)) [
+      | inl code ↦ rw (code, ne_eqb (number + suc n) number (λ e. absurd (omega (arith, e))))
+          (entry_is (number + 1) (unit + 1) more n
+          ∙ ap (λ m. position_from (nat_eq m) (unit + 1) (units_from (number + 1) more)) next)
+      | inr other ↦ rw other
+          (entry_is (number + 1) unit more n
+          ∙ ap (λ m. position_from (nat_eq m) unit (units_from (number + 1) more)) next)
     ]
 
 pub unit_table : (segments : List JoinedSegment) → length (units_of segments) ≤ 1000

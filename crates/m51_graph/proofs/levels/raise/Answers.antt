@@ -1,6 +1,6 @@
-use Rattle.m51_graph.proofs.Common.{◌≡◌, ◌<◌, ℕ, ◌+◌, Bool, ◌||◌, length, take, get_or, sym, ap, subst, ◌∙◌, arith}
+use Rattle.m51_graph.proofs.Common.{◌≡◌, ℕ, ◌+◌, ◌||◌, length, take, get_or, sym, subst, arith}
 use Rattle.m51_graph.proofs.Common.{Edges, IsClimbing, LeadWithin}
-use Rattle.m51_graph.proofs.Climbing.{climbs_none, climbs_more, level_most, ends_within, Ends}
+use Rattle.m51_graph.proofs.Climbing.{climbs_none, climbs_more, level_most, ends_within}
 use Rattle.m51_graph.proofs.levels.raise.Goals as goal
 use Rattle.m51_graph.proofs.levels.raise.Goals.{then-lift, else-lift}
 
@@ -14,8 +14,7 @@ lift-requires c =
     let i : ℕ = c.loop-from.from-index in
     let within : LeadWithin (length levels) edges =
     subst (λ n. LeadWithin n edges) (sym c.loop-from.auto.levels) c.requires.within in
-    let ends : Ends (length levels) (get_or edges i (0, 0)) =
-    ends_within (length levels) i (0, 0) edges within c.loop-from-test.true in
+    let ends = ends_within (length levels) i (0, 0) edges within c.loop-from-test.true in
     record {
       lower = ends.from;
       upper = ends.to;
@@ -34,13 +33,11 @@ loop-from-preserved c =
     let i : ℕ = c.loop-from.from-index in
     let within : LeadWithin (length levels) edges =
     subst (λ n. LeadWithin n edges) (sym c.loop-from.auto.levels) c.requires.within in
-    let before : Bool = c.loop-from.rose in
-    let rose : (c.lift.result || before) ≡ c.if-lift.rose =
+    let rose : (c.lift.result || c.loop-from.rose) ≡ c.if-lift.rose =
     elim c.if-lift.branch [
-      | then-lift w ↦ ap (λ b. b || before) w.if-lift.true ∙ sym w.rose-is
-      | else-lift w ↦ ap (λ b. b || before) w.if-lift.false ∙ sym w.rose-is
+      | then-lift w ↦ rw (w.if-lift.true, w.rose-is)
+      | else-lift w ↦ rw (w.if-lift.false, w.rose-is)
     ] in
     subst (λ b. IsClimbing edges (take (i + 1) edges) c.args.levels.now c.lift.new.levels b) rose
-    (climbs_more edges i
-    (0, 0) c.args.levels.now levels c.lift.new.levels before c.lift.result within c.loop-from-test.true c.lift.ensures
-    c.loop-from.invariant)
+    (climbs_more edges i (0, 0) c.args.levels.now levels c.lift.new.levels c.loop-from.rose c.lift.result within
+    c.loop-from-test.true c.lift.ensures c.loop-from.invariant)

@@ -1,4 +1,4 @@
-use Rattle.m51_graph.proofs.Common.{ℕ, ◌+◌, ◌*◌, Bool, sym, subst, ◌∙◌, vectors, pairs, lies_under, AddsBits}
+use Rattle.m51_graph.proofs.Common.{ℕ, Bool, sym, ◌∙◌, vectors, pairs, lies_under}
 use Rattle.m51_graph.proofs.Bytes.{adds_set, adds_clear}
 use Rattle.m51_graph.proofs.relating.root_byte.Goals as goal
 use Rattle.m51_graph.proofs.relating.root_byte.Goals.{then-lies_under, else-lies_under}
@@ -8,10 +8,10 @@ loop-vector-preserved c =
     let test : ℕ → Bool = λ vector. lies_under (pairs c.args.reach.now) c.args.roots.now vector c.args.unit in
     let l = c.loop-vector in
     elim c.if-lies_under.branch [
-      | then-lies_under w ↦ subst (λ n. AddsBits test vectors (l.vector-index + 1) n (l.weight * 2)) (sym w.bits-is)
+      | then-lies_under w ↦ rw w.bits-is
           (adds_set test vectors l.vector-index l.bits l.weight 0 c.loop-vector-test.true l.invariant
           (sym c.lies_under.ensures ∙ w.if-lies_under.true))
-      | else-lies_under w ↦ subst (λ n. AddsBits test vectors (l.vector-index + 1) n (l.weight * 2)) (sym w.bits-is)
+      | else-lies_under w ↦ rw w.bits-is
           (adds_clear test vectors l.vector-index l.bits l.weight 0 c.loop-vector-test.true l.invariant
           (sym c.lies_under.ensures ∙ w.if-lies_under.false))
     ]

@@ -1,10 +1,11 @@
 -- The map of a layout: its placed extents, its units, the heaviest chains, and the bytes in use.
-use Rattle.std.specs.Prelude.{ℕ, ◌+◌, ◌/◌, ◌%◌, ◌<◌, ◌==◌, ◌&&◌, nat_le, nat_lt, Bool, true, false, if◌then◌else◌, List}
+use Rattle.std.specs.Prelude.{ℕ, ◌+◌, ◌/◌, ◌%◌, ◌<◌, ◌==◌, ◌&&◌, nat_le, nat_lt, Bool, if◌then◌else◌, List}
 use Rattle.std.specs.Prelude.{[], ◌∷◌, ◌++◌, map, length, slice_index, codes, All, flat_map, count_by}
 use Rattle.std.specs.List.{filter, range_with_len, list_any}
 use Rattle.std.specs.Fmt.{decimal}
 use Rattle.m51_cells.specs.declared.kind.Kind.{Kind}
 use Rattle.m51_cells.specs.declared.kind.Kind.TheVariants.{Code, Xdata, Direct, Idata, Bits, Number}
+use Rattle.m51_cells.specs.declared.kind.Reloc.TheVariants.{Unit as UnitType}
 use Rattle.m51_cells.specs.Hex.{hex4}
 use Rattle.m51_cells.specs.Name.{title_at}
 use Rattle.m51_module.specs.declared.linked.Chain.{Chain}
@@ -12,8 +13,9 @@ use Rattle.m51_module.specs.declared.parts.LayoutParts.{LayoutParts}
 use Rattle.m51_module.specs.declared.placed.Mark.{Mark}
 use Rattle.m51_module.specs.declared.placed.Mark.TheVariants.{Bank, Reserve, Absolute, Plain, Overlaid}
 use Rattle.m51_module.specs.declared.placed.Placed.{Placed}
+use Rattle.m51_module.specs.Chains.{is_overlaid_data}
 use Rattle.m51_module.specs.Roots.{vectors}
-use Rattle.m51_module.specs.Walks.{Edges, has_edge}
+use Rattle.m51_module.specs.Walks.{has_edge}
 use Rattle.m51_print.specs.Lines.{titles_of, numbered_title}
 
 -- the word of a kind, left-aligned in 5 columns; NUMBER has none
@@ -85,14 +87,10 @@ chain_line root bytes units =
 unfoldable pub line_of_chain : LayoutParts → Chain → List ℕ
 line_of_chain l chain = chain_line (unit_title l chain.root) chain.bytes (map (unit_title l) chain.units)
 
--- an extent of this mark and kind is an overlaid segment of DATA, of any type
-abbrev pub is_overlaid_in_data : Mark → Kind → Bool
-is_overlaid_in_data Overlaid Direct = true
-is_overlaid_in_data mark kind = false
-
--- the extent is an overlaid segment of DATA that covers the byte at this address of internal RAM
+-- the extent is an overlaid segment of DATA, of any type, and covers the byte at this address of internal RAM
 abbrev pub overlays : ℕ → Placed → Bool
-overlays address p = is_overlaid_in_data p.mark p.kind && nat_le p.base address && nat_lt address (p.base + p.size)
+overlays address p =
+    is_overlaid_data p.kind UnitType p.mark && (nat_le p.base address && nat_lt address (p.base + p.size))
 
 -- how many of the first addresses of internal RAM lie in some overlaid segment of DATA
 unfoldable pub overlaid_below : List Placed → ℕ → ℕ

@@ -1,14 +1,16 @@
 //! The bytes of internal RAM that overlaid segments of DATA cover.
 ghost use Rattle.std.specs.Prelude.{◌≡◌, ◌≤◌, count_by};
 ghost use Rattle.std.specs.List.{list_any, range_with_len};
-ghost use Rattle.m51_print.specs.Map.{is_overlaid_in_data, overlays, overlaid_below};
+ghost use Rattle.m51_cells.specs.declared.kind.Reloc.{Reloc};
+ghost use Rattle.m51_module.specs.Chains.{is_overlaid_data};
+ghost use Rattle.m51_print.specs.Map.{overlays, overlaid_below};
 
 use m51_cells::Kind;
 use m51_module::{Mark, Placed};
 
 // Whether an extent of this mark and kind is an overlaid segment of DATA, of any type.
 fn is_overlaid_in_data(mark: Mark, kind: Kind) -> bool
-    ensures { result ≡ is_overlaid_in_data mark kind }
+    ensures { result ≡ is_overlaid_data kind Reloc.Unit mark }
 {
     match (mark, kind) {
         (Mark::Overlaid, Kind::Direct) => true,
@@ -22,8 +24,7 @@ fn overlays(address: u32, placed: &Placed) -> bool
 {
     let base = u32::from(placed.base);
     is_overlaid_in_data(placed.mark, placed.kind)
-        && base <= address
-        && address < base + u32::from(placed.size)
+        && (base <= address && address < base + u32::from(placed.size))
 }
 
 // Whether some overlaid segment of DATA covers the byte at this address.

@@ -73,18 +73,12 @@ same_done answer other c told is done =
 worked_caused : (words : List (List ℕ)) (c : Change) (told : Status) (keeps : Option (List ℕ)) → MayKeep told keeps
     → IsWorked words c told
     → IsCaused words c told
-worked_caused words c status.Ran keeps may worked = worked
-worked_caused words c status.Event keeps may worked = worked
 worked_caused words c status.Usage keeps may worked = absurd may
-worked_caused words c status.Source keeps may worked = worked
-worked_caused words c status.Link keeps may worked = worked
-worked_caused words c status.Object keeps may worked = worked
-worked_caused words c status.Script keeps may worked = worked
 worked_caused words c status.Limit keeps may worked = inl worked
 worked_caused words c status.ReadFault keeps may worked = absurd may
 worked_caused words c status.WriteFault keeps may worked = absurd may
 worked_caused words c status.Memory keeps may worked = absurd may
-worked_caused words c status.Stack keeps may worked = worked
+worked_caused words c told keeps may worked = worked
 
 caused_as : (words : List (List ℕ)) (c : Change) (told is : Status) → told ≡ is → IsCaused words c is
     → IsCaused words c told

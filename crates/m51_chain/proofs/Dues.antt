@@ -32,31 +32,11 @@ answer_told : (words : List (List ℕ)) (held : Files) (c : Change) (told : Stat
     → (answer : Answer) × (IsAnswer words held answer ⊎ IsUnread words (Some held) c answer) × Ended answer c told
     → IsTold words held c told
 answer_told words held c status.Memory some it = absurd some
-answer_told words held c status.Ran some it = it
-answer_told words held c status.Event some it = it
-answer_told words held c status.Usage some it = it
-answer_told words held c status.Source some it = it
-answer_told words held c status.Link some it = it
-answer_told words held c status.Object some it = it
-answer_told words held c status.Script some it = it
-answer_told words held c status.Limit some it = it
-answer_told words held c status.ReadFault some it = it
-answer_told words held c status.WriteFault some it = it
-answer_told words held c status.Stack some it = it
+answer_told words held c told some it = it
 
 kept_no_memory : (s : Status) (keeps : Option (List ℕ)) → MayKeep s keeps → IsNoMemory s
 kept_no_memory status.Memory keeps h = h
-kept_no_memory status.Ran keeps h = tt
-kept_no_memory status.Event keeps h = tt
-kept_no_memory status.Usage keeps h = tt
-kept_no_memory status.Source keeps h = tt
-kept_no_memory status.Link keeps h = tt
-kept_no_memory status.Object keeps h = tt
-kept_no_memory status.Script keeps h = tt
-kept_no_memory status.Limit keeps h = tt
-kept_no_memory status.ReadFault keeps h = tt
-kept_no_memory status.WriteFault keeps h = tt
-kept_no_memory status.Stack keeps h = tt
+kept_no_memory other keeps h = tt
 
 -- an answer that is due is none of out of memory
 due_no_memory : (words : List (List ℕ)) (holds : Option Files) (before after : ReadAt) (answer : Answer)

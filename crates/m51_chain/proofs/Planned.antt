@@ -36,11 +36,7 @@ may_end (ending.Party boards steps) keeps = may_if _ keeps
 
 may_refuse : (why : Reason) → MayKeep (status_of why) None
 may_refuse reason.Source = refl
-may_refuse reason.Link = refl
-may_refuse reason.Object = refl
-may_refuse reason.Script = refl
-may_refuse reason.Limit = refl
-may_refuse reason.Stack = refl
+may_refuse other = refl
 
 -- the plan for work has the outcome of the work
 pub work_outcome : (job : Job) (contents : List (List ℕ)) (name : Option (List ℕ)) (work : Result Finished Stop)

@@ -45,11 +45,7 @@ not_end (ending.Party boards steps) h = not_if _ h
 
 refuses : (why : Reason) → IsRefusal (status_of why)
 refuses reason.Source = tt
-refuses reason.Link = tt
-refuses reason.Object = tt
-refuses reason.Script = tt
-refuses reason.Limit = tt
-refuses reason.Stack = tt
+refuses other = tt
 
 module _ (Ends : List ℕ → Finish → Type 0) where
   by_status : (it : Plan) → IsRefusal (answer_of it).status → IsRunPlan Ends it
@@ -69,13 +65,7 @@ run_weaker P Q on (plan.Accepted keeps text end) h = (h.0, on text end h.1)
 any_build : (job : Job) (Is : BuildJob → Type 0) → ((build : BuildJob) → job ≡ jobs.Build build → Is build)
     → IfBuild job Is
 any_build (jobs.Build build) Is on = on build refl
-any_build (jobs.Asm other) Is on = tt
-any_build (jobs.Library other) Is on = tt
-any_build (jobs.Flat other) Is on = tt
-any_build (jobs.Gen other) Is on = tt
-any_build (jobs.Dis other) Is on = tt
-any_build (jobs.Stack other) Is on = tt
-any_build (jobs.Party other) Is on = tt
+any_build other Is on = tt
 
 -- the run of a linked program is that of its files
 pub run_of_files : (job : BuildJob) (contents : List (List ℕ)) (found : LinkedFiles) (text : List ℕ) (end : Finish)

@@ -70,14 +70,7 @@ planned_for : (asked : List (List ℕ)) (job : Option Job) (holds : Option Files
     → IsPlannedRun asked holds before after it
 planned_for asked (Some (jobs.Build job)) holds before after it is run planned =
     record { job = job; is = is; run = planned (no_name job.hex run) }
-planned_for asked (Some (jobs.Asm other)) holds before after it is run planned = absurd (cc run)
-planned_for asked (Some (jobs.Library other)) holds before after it is run planned = absurd (cc run)
-planned_for asked (Some (jobs.Flat other)) holds before after it is run planned = absurd (cc run)
-planned_for asked (Some (jobs.Gen other)) holds before after it is run planned = absurd (cc run)
-planned_for asked (Some (jobs.Dis other)) holds before after it is run planned = absurd (cc run)
-planned_for asked (Some (jobs.Stack other)) holds before after it is run planned = absurd (cc run)
-planned_for asked (Some (jobs.Party other)) holds before after it is run planned = absurd (cc run)
-planned_for asked None holds before after it is run planned = absurd (cc run)
+planned_for asked other holds before after it is run planned = absurd (cc run)
 
 pub planned_run : (asked : List (List ℕ)) (holds : Option Files) (before after : ReadAt) (it : Plan) (is : Bool)
     → is ≡ is_run (job_of asked) → is ≡ true
@@ -90,10 +83,7 @@ planned_run asked holds before after it is run held planned =
 ends_so : (job : BuildJob) (holds : Option Files) (before after : ReadAt) (text : List ℕ) (end : Finish)
     → IsRunFor job holds before after text end → IsRun end
 ends_so job holds before after text (ending.Run board steps) h = tt
-ends_so job holds before after text ending.Ran h = absurd h.run.run
-ends_so job holds before after text ending.Event h = absurd h.run.run
-ends_so job holds before after text (ending.FlatRun board steps) h = absurd h.run.run
-ends_so job holds before after text (ending.Party boards steps) h = absurd h.run.run
+ends_so job holds before after text other h = absurd h.run.run
 
 pub is_run_plan : (asked : List (List ℕ)) (holds : Option Files) (before after : ReadAt) (it : Plan)
     → IsPlannedRun asked holds before after it → IsRunPlan (λ text end. IsRun end) it
@@ -104,10 +94,7 @@ is_run_plan asked holds before after it h =
 of_ending : (shape : Shape) (text : List ℕ) (end : Finish) (P Q : Answer → Type 0) → ((a : Answer) → P a → Q a)
     → OfEnding shape text end P → OfEnding shape text end Q
 of_ending shape text (ending.Run board steps) P Q on h = on (run_answer shape text board steps) h
-of_ending shape text ending.Ran P Q on h = h
-of_ending shape text ending.Event P Q on h = h
-of_ending shape text (ending.FlatRun board steps) P Q on h = h
-of_ending shape text (ending.Party boards steps) P Q on h = h
+of_ending shape text other P Q on h = h
 
 pub of_plan : (shape : Shape) (it : Plan) (P Q : Answer → Type 0) → ((a : Answer) → P a → Q a)
     → OfPlan shape it P → OfPlan shape it Q

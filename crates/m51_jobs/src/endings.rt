@@ -67,10 +67,7 @@ pub fn ending_of(name: &str) -> Option<Ending>
 pub fn is_source(name: &str) -> bool
     ensures { result ≡ is_source name.now }
 {
-    match ending_of(name) {
-        Some(Ending::Source) => true,
-        _ => false,
-    }
+    matches!(ending_of(name), Some(Ending::Source))
 }
 
 /// Whether the file of this name is an include.
@@ -79,20 +76,17 @@ pub fn is_source(name: &str) -> bool
 pub fn is_include(name: &str) -> bool
     ensures { result ≡ is_include name.now }
 {
-    match ending_of(name) {
-        Some(Ending::Include) => true,
-        _ => false,
-    }
+    matches!(ending_of(name), Some(Ending::Include))
 }
 
 // Whether the file is a source or an include.
 fn is_text_file(name: &str) -> bool
     ensures { result ≡ is_text_file name.now }
 {
-    match ending_of(name) {
-        Some(Ending::Source) | Some(Ending::Include) => true,
-        _ => false,
-    }
+    matches!(
+        ending_of(name),
+        Some(Ending::Source) | Some(Ending::Include)
+    )
 }
 
 // Whether each file has one of the four endings.

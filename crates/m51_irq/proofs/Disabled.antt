@@ -1,24 +1,27 @@
--- Where EA is 0 no source asks, so none is chosen.
-use Rattle.std.proofs.Common.{◌≡◌, Bool, true, false, ◌&&◌, cond, if◌then◌else◌, List, [], ◌∷◌, Option, Some, None}
+-- Where no source asks, as where EA is 0, none is chosen.
+use Rattle.std.proofs.Common.{◌≡◌, Bool, true, false, ◌&&◌, if◌then◌else◌, List, [], ◌∷◌, Option, Some, None}
 use Rattle.std.proofs.Common.{refl, ap, ◌∙◌}
+use Rattle.std.proofs.lemmas.Bool.{and_parts, not-true}
+use Rattle.std.specs.Prelude.{not}
 use Rattle.std.specs.List.{find}
 use Rattle.m51_flat.specs.declared.state.Cpu.{Cpu}
 use Rattle.m51_flat.specs.declared.state.Source.{Source}
+use Rattle.m51_flat.specs.declared.state.Source.TheVariants.{Ie0, Tf0, Ie1, Tf1, Serial, Timer2}
 use Rattle.m51_flat.specs.declared.state.Level.{Level}
 use Rattle.m51_flat.specs.declared.state.Level.TheVariants.{Low, High}
 use Rattle.m51_flat.specs.Sfr.{flag}
 use Rattle.m51_irq.specs.Sources.{asks, has_flag, level_of, enable_bit, sources}
-use Rattle.m51_irq.specs.Choice.{asks_at, chosen, first_asking, is_same_level, or_else}
+use Rattle.m51_irq.specs.Choice.{asks_at, chosen, first_asking, is_same_level, none_asks, or_else}
 
-never : (a b c : Bool) → (a && (false && b)) && c ≡ false
-never true b c = refl
-never false b c = refl
+never : (a b : Bool) → a && (false && b) ≡ false
+never true b = refl
+never false b = refl
 
-none_asks : (cpu : Cpu) → flag cpu 168 7 ≡ false → (l : Level) (s : Source) → asks_at cpu l s ≡ false
+disabled : (cpu : Cpu) → flag cpu 168 7 ≡ false → (s : Source) → asks cpu s ≡ false
 unfolding asks
-none_asks cpu h l s =
-    ap (λ e. (has_flag cpu s && (e && flag cpu 168 (enable_bit s))) && is_same_level (level_of cpu s) l) h
-    ∙ never (has_flag cpu s) (flag cpu 168 (enable_bit s)) (is_same_level (level_of cpu s) l)
+disabled cpu h s =
+    ap (λ e. has_flag cpu s && (e && flag cpu 168 (enable_bit s))) h
+    ∙ never (has_flag cpu s) (flag cpu 168 (enable_bit s))
 
 none_found : (p : Source → Bool) → ((s : Source) → p s ≡ false) → (xs : List Source) → find p xs ≡ None
 none_found p h [] = refl
@@ -31,9 +34,34 @@ none_left false true low a b h k = refl
 none_left false false true a b h k = ap (λ x. or_else x None) h
 none_left false false false a b h k = ap (λ x. or_else x b) h ∙ k
 
-pub none_enabled : (cpu : Cpu) → flag cpu 168 7 ≡ false → chosen cpu ≡ None
+none_chosen : (cpu : Cpu) → ((s : Source) → asks cpu s ≡ false) → chosen cpu ≡ None
 unfolding chosen
-none_enabled cpu h =
+none_chosen cpu h =
+    let at : (l : Level) (s : Source) → asks_at cpu l s ≡ false =
+    λ l s. ap (λ b. b && is_same_level (level_of cpu s) l) (h s) in
     none_left cpu.held cpu.high cpu.low (first_asking cpu High) (first_asking cpu Low)
-    (none_found (asks_at cpu High) (none_asks cpu h High) sources)
-    (none_found (asks_at cpu Low) (none_asks cpu h Low) sources)
+    (none_found (asks_at cpu High) (at High) sources) (none_found (asks_at cpu Low) (at Low) sources)
+
+pub none_enabled : (cpu : Cpu) → flag cpu 168 7 ≡ false → chosen cpu ≡ None
+none_enabled cpu h = none_chosen cpu (disabled cpu h)
+
+none_of : (cpu : Cpu) → none_asks cpu ≡ true → (s : Source) → asks cpu s ≡ false
+none_of cpu h =
+    let five = and_parts _ (not (asks cpu Timer2)) h in
+    let four = and_parts _ (not (asks cpu Serial)) five.0 in
+    let three = and_parts _ (not (asks cpu Tf1)) four.0 in
+    let two = and_parts _ (not (asks cpu Ie1)) three.0 in
+    let one = and_parts (not (asks cpu Ie0)) (not (asks cpu Tf0)) two.0 in
+    λ s. each s one.0 one.1 two.1 three.1 four.1 five.1
+  where
+    each : (s : Source) → not (asks cpu Ie0) ≡ true → not (asks cpu Tf0) ≡ true → not (asks cpu Ie1) ≡ true
+        → not (asks cpu Tf1) ≡ true → not (asks cpu Serial) ≡ true → not (asks cpu Timer2) ≡ true → asks cpu s ≡ false
+    each Ie0 a b c d e f = not-true (asks cpu Ie0) a
+    each Tf0 a b c d e f = not-true (asks cpu Tf0) b
+    each Ie1 a b c d e f = not-true (asks cpu Ie1) c
+    each Tf1 a b c d e f = not-true (asks cpu Tf1) d
+    each Serial a b c d e f = not-true (asks cpu Serial) e
+    each Timer2 a b c d e f = not-true (asks cpu Timer2) f
+
+pub none_asked : (cpu : Cpu) → none_asks cpu ≡ true → chosen cpu ≡ None
+none_asked cpu h = none_chosen cpu (none_of cpu h)

@@ -2,7 +2,7 @@
 ghost use Rattle.std.specs.Prelude.{◌≡◌, None, option_copied, if◌then◌else◌};
 ghost use Rattle.std.specs.List.{find};
 ghost use Rattle.m51_flat.specs.declared.state.Level.TheVariants.{Low};
-ghost use Rattle.m51_irq.specs.Choice.{asks_at, chosen, first_asking};
+ghost use Rattle.m51_irq.specs.Choice.{asks_at, chosen, first_asking, none_asks};
 
 use crate::sources::{asks, level_of};
 use m51_flat::{Cpu, Level, Source};
@@ -52,9 +52,35 @@ fn first_low(cpu: &Cpu) -> Option<Source>
     }
 }
 
+// No source asks, which is so in most steps.
+#[inline(always)]
+fn none_asks(cpu: &Cpu) -> bool
+    ensures { result ≡ none_asks cpu.now }
+{
+    !asks(cpu, Source::Ie0)
+        && !asks(cpu, Source::Tf0)
+        && !asks(cpu, Source::Ie1)
+        && !asks(cpu, Source::Tf1)
+        && !asks(cpu, Source::Serial)
+        && !asks(cpu, Source::Timer2)
+}
+
 // The interrupt that is to be taken, where all may be enabled.
-#[tactic(auto, unfolding(crate::specs::Choice::chosen))]
+#[tactic(auto, using(crate::proofs::Disabled::none_asked))]
+#[inline(never)]
 fn choose_enabled(cpu: &Cpu) -> Option<Source>
+    ensures { result ≡ chosen cpu.now }
+{
+    if none_asks(cpu) {
+        None
+    } else {
+        choose_asking(cpu)
+    }
+}
+
+// The same, where a source may ask.
+#[tactic(auto, unfolding(crate::specs::Choice::chosen))]
+fn choose_asking(cpu: &Cpu) -> Option<Source>
     ensures { result ≡ chosen cpu.now }
 {
     if cpu.held {
@@ -75,6 +101,7 @@ fn choose_enabled(cpu: &Cpu) -> Option<Source>
 ///
 /// Source: family manual.
 #[tactic(auto, using(crate::proofs::Disabled::none_enabled))]
+#[inline(always)]
 pub fn choose(cpu: &Cpu) -> Option<Source>
     ensures { result ≡ chosen cpu.now }
 {

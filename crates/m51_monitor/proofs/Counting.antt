@@ -1,14 +1,14 @@
 -- How many units the records name, and how often each.
-use Rattle.m51_monitor.proofs.Common.{◌≡◌, ◌≢◌, ◌⊎◌, inl, inr, ℕ, suc, ◌+◌, ◌*◌, ◌<◌, ◌≤◌, Bool, true, false, List, []}
-use Rattle.m51_monitor.proofs.Common.{◌∷◌, ◌++◌, refl, sym, ap, subst, ◌∙◌, ⊎_elim, arith, length, nat_eq, Contains}
-use Rattle.m51_monitor.proofs.Common.{list_any, eqb_tells, contains_first, LayoutParts, IsRootAt, IsSound, HasEdge}
+use Rattle.m51_monitor.proofs.Common.{◌≡◌, ◌⊎◌, inl, inr, ℕ, suc, ◌+◌, ◌*◌, ◌<◌, ◌≤◌, Bool, true, false, List, []}
+use Rattle.m51_monitor.proofs.Common.{◌∷◌, ◌++◌, refl, sym, ap, subst, ◌∙◌, arith, length, nat_eq, Contains}
+use Rattle.m51_monitor.proofs.Common.{eqb_tells, contains_first, LayoutParts, IsRootAt, IsSound, HasEdge}
 use Rattle.m51_monitor.proofs.Common.{none_in_empty, Cause, Call, Interrupt, times, AreActivations, ReturnRecord}
 use Rattle.m51_monitor.proofs.Common.{Records, one_more_where, is_unit_among, units_named, named_over, first_or}
 use Rattle.m51_monitor.proofs.Common.{running, BeginsAt, IsWalkAbove, AreWalksOver, AreWalks, AreRelatedAll, one_more}
 use Rattle.m51_monitor.proofs.Common.{interrupts}
 use Rattle.std.proofs.Common.{length-append, eqb}
 use Rattle.std.specs.List.{IsDistinct, AllByRecursion}
-use Rattle.std.proofs.lemmas.List.Elements.{Contains-append_cases}
+use Rattle.std.proofs.lemmas.List.Elements.{Contains-append_left}
 use Rattle.std.proofs.lemmas.Map.Steps.{length-le_from_distinct_below}
 use Rattle.m51_module.specs.Walks.{Reaches}
 use Rattle.m51_module.proofs.Reach.{lead_on}
@@ -20,7 +20,8 @@ use Rattle.m51_flat.specs.Vectors.{vector_of}
 use Rattle.m51_monitor.proofs.Entering.{times_same}
 use Rattle.m51_monitor.proofs.Lists.{Differ, contains_tail, contains_cases, differ_times, first_append, among_tells}
 use Rattle.m51_monitor.proofs.Lists.{most_one, no_plus}
-use Rattle.m51_monitor.proofs.Standing.{all_related}
+use Rattle.m51_monitor.proofs.Numbers.{first_under}
+use Rattle.m51_monitor.proofs.Standing.{all_related, each_more}
 
 where_plus : (b : Bool) (n k : ℕ) → one_more_where b n + k ≡ one_more_where b (n + k)
 where_plus true n k = omega arith
@@ -39,7 +40,7 @@ record Walked (l : LayoutParts) (c others : ℕ) (us : List ℕ) : Type 0 where
   is : us ≡ top ++ below
   differ : Differ top
   leads : (a : ℕ) → Contains top a → (a ≡ c) ⊎ Reaches l.edges a c
-  units : (a : ℕ) → Contains top a → a < length l.units
+  units : (a : ℕ) → Contains us a → a < length l.units
   few : length below ≤ 1000 * others
   rare : (u : ℕ) → times below u ≤ others
 
@@ -48,16 +49,14 @@ few_more n k h = omega (arith, h)
 
 module _ (l : LayoutParts) (sound : IsSound l) where
   walked_root : (v r others : ℕ) (us : List ℕ) → IsRootAt l v r → length us ≤ 1000 * others
-      → ((u : ℕ) → times us u ≤ others) → Walked l r others (r ∷ us)
-  walked_root v r others us h few rare = record {
+      → ((u : ℕ) → times us u ≤ others) → ((a : ℕ) → Contains us a → a < length l.units) → Walked l r others (r ∷ us)
+  walked_root v r others us h few rare units = record {
     top = r ∷ [];
     below = us;
     is = refl;
     differ = (none_in_empty r, tt);
-    leads = λ a k. ⊎_elim (λ (e : a ≡ r). inl e) (λ (k : Contains [] a). absurd (none_in_empty a k))
-        (contains_cases a r [] k);
-    units = λ a k. ⊎_elim (λ (e : a ≡ r). subst (λ a. a < length l.units) (sym e) (root_below l v r h))
-        (λ (k : Contains [] a). absurd (none_in_empty a k)) (contains_cases a r [] k);
+    leads = λ a k. elim (contains_cases a r [] k) [ inl e ↦ inl e | inr k ↦ absurd (none_in_empty a k) ];
+    units = λ a k. each_more (λ a. a < length l.units) r us (root_below l v r h) units a (contains_cases a r us k);
     few = few;
     rare = rare;
   }
@@ -68,10 +67,11 @@ module _ (l : LayoutParts) (sound : IsSound l) where
     below = w.below;
     is = ap (λ us. v ∷ us) w.is;
     differ = (λ k. sound.no_cycle v (lead_on l.edges v c v (w.leads v k) h), w.differ);
-    leads = λ a k. ⊎_elim (λ (e : a ≡ v). inl e) (λ (k : Contains w.top a). inr (lead_on l.edges a c v (w.leads a k) h))
-        (contains_cases a v w.top k);
-    units = λ a k. ⊎_elim (λ (e : a ≡ v). subst (λ a. a < length l.units) (sym e) (sound.edges c v h).1)
-        (λ (k : Contains w.top a). w.units a k) (contains_cases a v w.top k);
+    leads = λ a k. elim (contains_cases a v w.top k) [
+      | inl e ↦ inl e
+      | inr k ↦ inr (lead_on l.edges a c v (w.leads a k) h)
+    ];
+    units = λ a k. each_more (λ a. a < length l.units) v us (sound.edges c v h).1 w.units a (contains_cases a v us k);
     few = w.few;
     rare = w.rare;
   }
@@ -79,11 +79,10 @@ module _ (l : LayoutParts) (sound : IsSound l) where
   none_equal : (u : ℕ) (us : List ℕ) → (Contains us u → ⊥) → AllByRecursion (λ y. eqb u y ≡ false) us
   none_equal u [] h = tt
   none_equal u (y ∷ ys) h = (
-    ⊎_elim
-        (λ (t : (eqb u y ≡ true) × (u ≡ y)). absurd
-        (h (subst (λ x. Contains (y ∷ ys) x) (sym t.1) (contains_first y ys))))
-        (λ (t : (eqb u y ≡ false) × (u ≢ y)). t.0)
-        (eqb_tells u y),
+    elim (eqb_tells u y) [
+      | inl t ↦ absurd (h (subst (λ x. Contains (y ∷ ys) x) (sym t.1) (contains_first y ys)))
+      | inr t ↦ t.0
+    ],
     none_equal u ys (λ k. h (contains_tail u y ys k)),
   )
 
@@ -95,10 +94,11 @@ module _ (l : LayoutParts) (sound : IsSound l) where
   walked_few : (c others : ℕ) (us : List ℕ) → Walked l c others us → length us ≤ 1000 * (others + 1)
   walked_few c others us w =
       let top : length w.top ≤ length l.units =
-      length-le_from_distinct_below w.top (length l.units) (differ_is w.top w.differ) (λ q e. ⊎_elim
-      (λ (t : (list_any (eqb q) w.top ≡ true) × Contains w.top q). w.units q t.1)
-      (λ (t : (list_any (eqb q) w.top ≡ false) × (Contains w.top q → ⊥)). absurd (cc (e, t.0)))
-      (among_tells w.top q)) in
+      length-le_from_distinct_below w.top (length l.units) (differ_is w.top w.differ) (λ q e.
+      elim (among_tells w.top q) [
+        | inl t ↦ w.units q (subst (λ xs. Contains xs q) (sym w.is) (Contains-append_left w.top w.below q t.1))
+        | inr t ↦ absurd (cc (e, t.0))
+      ]) in
       let all : length us ≡ length w.top + length w.below = ap length w.is ∙ length-append w.top w.below in
       let units : length l.units ≤ 1000 = sound.few_units in
       let few : length w.below ≤ 1000 * others = w.few in
@@ -112,11 +112,12 @@ module _ (l : LayoutParts) (sound : IsSound l) where
       omega (arith, all, top, most_one (is_unit_among w.top u), w.rare u)
 
   begin_few : (v others : ℕ) (below us : List ℕ) → length below ≤ 1000 * others → ((u : ℕ) → times below u ≤ others)
-      → BeginsAt l v us → Walked l (first_or (us ++ below) 0) others (us ++ below)
-  begin_few v others below [] few rare h = absurd h
-  begin_few v others below (u ∷ []) few rare h = walked_root v u others below h few rare
-  begin_few v others below (t ∷ u ∷ us) few rare h =
-      walked_on u t others (u ∷ us ++ below) (begin_few v others below (u ∷ us) few rare h.1) h.0
+      → ((a : ℕ) → Contains below a → a < length l.units) → BeginsAt l v us
+      → Walked l (first_or (us ++ below) 0) others (us ++ below)
+  begin_few v others below [] few rare units h = absurd h
+  begin_few v others below (u ∷ []) few rare units h = walked_root v u others below h few rare units
+  begin_few v others below (t ∷ u ∷ us) few rare units h =
+      walked_on u t others (u ∷ us ++ below) (begin_few v others below (u ∷ us) few rare units h.1) h.0
 
   go_few : (others : ℕ) (below us : List ℕ) → Walked l (first_or below 0) others below
       → WalksOn l.edges (first_or below 0) us → Walked l (first_or (us ++ below) 0) others (us ++ below)
@@ -127,7 +128,8 @@ module _ (l : LayoutParts) (sound : IsSound l) where
 
   begin_first_few : (reset : List ℕ) → BeginsAt l 0 reset → Walked l (first_or reset 0) 0 reset
   begin_first_few [] h = absurd h
-  begin_first_few (u ∷ []) h = walked_root 0 u 0 [] h (omega arith) (λ u. omega arith)
+  begin_first_few (u ∷ []) h =
+      walked_root 0 u 0 [] h (omega arith) (λ u. omega arith) (λ a k. absurd (none_in_empty a k))
   begin_first_few (t ∷ u ∷ us) h = walked_on u t 0 (u ∷ us) (begin_first_few (u ∷ us) h.1) h.0
 
   above_few : (busy below : List ℕ) (others : ℕ) (cause : Cause) (us : List ℕ) → IsWalkAbove l below busy cause us
@@ -136,7 +138,7 @@ module _ (l : LayoutParts) (sound : IsSound l) where
   above_few busy below others Call us h w = go_few others below us w h
   above_few busy below others (Interrupt source) us h w =
       begin_few (vector_of source) (others + 1) below us (walked_few (first_or below 0) others below w)
-      (walked_rare (first_or below 0) others below w) h.0
+      (walked_rare (first_or below 0) others below w) w.units h.0
 
   over_few : (reset : List ℕ) (rs : List ReturnRecord) → AreWalksOver l reset rs
       → Walked l (first_or (named_over reset rs) 0) (interrupts rs) (named_over reset rs)
@@ -151,8 +153,10 @@ module _ (l : LayoutParts) (sound : IsSound l) where
   walk_differs c (v ∷ vs) h =
       let w = walk_differs c vs h.1 in (
         (λ k. sound.no_cycle v (lead_on l.edges v (first_or vs c) v (w.1 v k) h.0), w.0),
-        λ a k. ⊎_elim (λ (e : a ≡ v). inl e)
-            (λ (q : Contains vs a). inr (lead_on l.edges a (first_or vs c) v (w.1 a q) h.0)) (contains_cases a v vs k),
+        λ a k. elim (contains_cases a v vs k) [
+          | inl e ↦ inl e
+          | inr q ↦ inr (lead_on l.edges a (first_or vs c) v (w.1 a q) h.0)
+        ],
       )
 
   root_differs : (v : ℕ) (us : List ℕ) → BeginsAt l v us
@@ -160,14 +164,15 @@ module _ (l : LayoutParts) (sound : IsSound l) where
   root_differs v [] h = absurd h
   root_differs v (u ∷ []) h = (
     (none_in_empty u, tt),
-    λ a k. ⊎_elim (λ (e : a ≡ u). inl e) (λ (q : Contains [] a). absurd (none_in_empty a q))
-        (contains_cases a u [] k),
+    λ a k. elim (contains_cases a u [] k) [ inl e ↦ inl e | inr q ↦ absurd (none_in_empty a q) ],
   )
   root_differs v (t ∷ u ∷ us) h =
       let w = root_differs v (u ∷ us) h.1 in (
         (λ k. sound.no_cycle t (lead_on l.edges t u t (w.1 t k) h.0), w.0),
-        λ a k. ⊎_elim (λ (e : a ≡ t). inl e) (λ (q : Contains (u ∷ us) a). inr (lead_on l.edges a u t (w.1 a q) h.0))
-            (contains_cases a t (u ∷ us) k),
+        λ a k. elim (contains_cases a t (u ∷ us) k) [
+          | inl e ↦ inl e
+          | inr q ↦ inr (lead_on l.edges a u t (w.1 a q) h.0)
+        ],
       )
 
   record_differs : (below busy : List ℕ) (cause : Cause) (us : List ℕ) → IsWalkAbove l below busy cause us → Differ us
@@ -200,42 +205,11 @@ module _ (l : LayoutParts) (sound : IsSound l) where
       (over_few a.reset a.returns h.stand.over) u in
       omega (arith, rare, h.levels)
 
-  -- what is named is a unit
-  walk_below : (c : ℕ) (us : List ℕ) → WalksOn l.edges c us → (a : ℕ) → Contains us a → a < length l.units
-  walk_below c [] h a k = absurd (none_in_empty a k)
-  walk_below c (v ∷ vs) h a k = ⊎_elim
-      (λ (e : a ≡ v). subst (λ a. a < length l.units) (sym e) (sound.edges (first_or vs c) v h.0).1)
-      (λ (q : Contains vs a). walk_below c vs h.1 a q)
-      (contains_cases a v vs k)
-
-  root_units : (v : ℕ) (us : List ℕ) → BeginsAt l v us → (a : ℕ) → Contains us a → a < length l.units
-  root_units v [] h a k = absurd h
-  root_units v (u ∷ []) h a k = ⊎_elim
-      (λ (e : a ≡ u). subst (λ a. a < length l.units) (sym e) (root_below l v u h))
-      (λ (q : Contains [] a). absurd (none_in_empty a q))
-      (contains_cases a u [] k)
-  root_units v (t ∷ u ∷ us) h a k = ⊎_elim
-      (λ (e : a ≡ t). subst (λ a. a < length l.units) (sym e) (sound.edges u t h.0).1)
-      (λ (q : Contains (u ∷ us) a). root_units v (u ∷ us) h.1 a q)
-      (contains_cases a t (u ∷ us) k)
-
-  record_below : (below busy : List ℕ) (cause : Cause) (us : List ℕ) → IsWalkAbove l below busy cause us → (a : ℕ)
-      → Contains us a → a < length l.units
-  record_below below busy Call us h = walk_below (first_or below 0) us h
-  record_below below busy (Interrupt source) us h = root_units (vector_of source) us h.0
-
-  over_below : (reset : List ℕ) (rs : List ReturnRecord) → AreWalksOver l reset rs → (a : ℕ)
-      → Contains (named_over reset rs) a → a < length l.units
-  over_below reset [] h a k = root_units 0 reset h a k
-  over_below reset (r ∷ rs) h a k = ⊎_elim
-      (λ (q : Contains r.units a). record_below (named_over reset rs) (running rs) r.cause r.units h.0 a q)
-      (λ (q : Contains (named_over reset rs) a). over_below reset rs h.1 a q)
-      (Contains-append_cases r.units (named_over reset rs) a k)
-
   -- a unit that is named on top of others may be entered
   pub may_enter : (b : Records) (u : ℕ) (us : List ℕ) → units_named b ≡ u ∷ us → AreActivations l b → MayEnter l us u
   may_enter b u us e h = record {
-    unit_is = over_below b.reset b.returns h.stand.over u (subst (λ xs. Contains xs u) (sym e) (contains_first u us));
+    unit_is = (over_few b.reset b.returns h.stand.over).units u
+        (subst (λ xs. Contains xs u) (sym e) (contains_first u us));
     room = let few : length (u ∷ us) ≤ 3000 = subst (λ xs. length xs ≤ 3000) e (named_few b h) in omega (arith, few);
     few =
         let rare : times (u ∷ us) u ≤ 3 = subst (λ xs. times xs u ≤ 3) e (named_rare b u h) in
@@ -246,9 +220,5 @@ module _ (l : LayoutParts) (sound : IsSound l) where
 
   pub first_below : (b : Records) → AreActivations l b → 0 < length (units_named b)
       → first_or (units_named b) 0 < length l.units
-  first_below b h some = first (units_named b) some (over_below b.reset b.returns h.stand.over)
-    where
-      first : (us : List ℕ) → 0 < length us → ((a : ℕ) → Contains us a → a < length l.units)
-          → first_or us 0 < length l.units
-      first [] some all = absurd (omega (arith, some))
-      first (u ∷ us) some all = all u (contains_first u us)
+  first_below b h some =
+      first_under (units_named b) (length l.units) some (over_few b.reset b.returns h.stand.over).units

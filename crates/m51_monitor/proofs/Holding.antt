@@ -1,4 +1,5 @@
 -- How many of the named units own each segment.
+use Rattle.std.proofs.lemmas.Grind.{common_steps}
 use Rattle.m51_monitor.proofs.Common.{◌≡◌, ◌≢◌, ◌⊎◌, inl, inr, ℕ, suc, ◌+◌, ◌-◌, ◌<◌, ◌≤◌, Bool, true, false, nat_eq}
 use Rattle.m51_monitor.proofs.Common.{List, [], ◌∷◌, ◌++◌, length, drop, take, refl, sym, ap, subst, ◌∙◌, ⊎_elim, arith}
 use Rattle.m51_monitor.proofs.Common.{get_or-set_same, get_or-set_other, slice_index, slice_set, Contains, eqb_tells}
@@ -9,7 +10,7 @@ use Rattle.std.proofs.lemmas.List.{drop_more}
 use Rattle.m51_module.specs.Plan.{AreLocals}
 use Rattle.m51_module.specs.Rising.{Rises}
 use Rattle.m51_monitor.specs.Activity.{holding}
-use Rattle.m51_monitor.proofs.Lists.{Differ, among_tells, contains_cases, contains_tail, differ_times, most_one}
+use Rattle.m51_monitor.proofs.Lists.{Differ, among_tells, contains_cases, contains_tail, differ_times}
 use Rattle.m51_monitor.proofs.Lists.{no_plus}
 
 -- no named unit owns the segment, or one does
@@ -32,20 +33,17 @@ holding_tells l (v ∷ us) t = ⊎_elim
     (among_tells (owners_of l.owners t) v)
 
 where_few : (b : Bool) (n k : ℕ) → n ≤ k → one_more_where b n ≤ k + 1
-where_few true n k h = omega (arith, h)
-where_few false n k h = omega (arith, h)
+where_few b n k h = grind arith
 
 holding_few : (l : LayoutParts) (us : List ℕ) (t : ℕ) → holding l us t ≤ length us
 holding_few l [] t = omega arith
-holding_few l (u ∷ us) t = let few =
-    where_few (is_unit_among (owners_of l.owners t) u) (holding l us t) (length us) (holding_few l us t) in
-    omega (arith, few)
+holding_few l (u ∷ us) t =
+    omega (arith, where_few (is_unit_among (owners_of l.owners t) u) (holding l us t) (length us) (holding_few l us t))
 
 rises_differ : (xs : List ℕ) → Rises xs → Differ xs
 rises_differ [] h = tt
 rises_differ (x ∷ xs) h = (
-  λ k. let less : x < x = subst (λ y. x < y) k.2 (h 0 (suc k.0) x (omega arith) (omega (arith, k.1))) in
-      omega (arith, less),
+  λ k. omega (arith, h 0 (suc k.0) x (omega arith) (omega (arith, k.1))),
   rises_differ xs (λ i j d before inside. h (suc i) (suc j) d (omega (arith, before)) (omega (arith, inside))),
 )
 
@@ -73,30 +71,19 @@ module _ (l : LayoutParts) (u : ℕ) (locals : List ℕ) (are : AreLocals l u lo
 
   pub held_more : (us old new : List ℕ) → AreHolders l us old → length new ≡ length old
       → ((t : ℕ) → slice_index new t ≡ slice_index old t + times locals t) → AreHolders l (u ∷ us) new
-  held_more us old new are_old len each = record {
-    len = len ∙ are_old.len;
-    number = λ t h. let e = each t in let n = are_old.number t h in let o = one_holder us t in omega (arith, e, n, o);
-  }
+  held_more us old new are_old len each = grind (arith, one_holder)
 
   pub held_less : (us old new : List ℕ) → AreHolders l (u ∷ us) old → length new ≡ length old
       → ((t : ℕ) → slice_index new t + times locals t ≡ slice_index old t) → AreHolders l us new
-  held_less us old new are_old len each = record {
-    len = len ∙ are_old.len;
-    number = λ t h. let e = each t in let n = are_old.number t h in let o = one_holder us t in omega (arith, e, n, o);
-  }
+  held_less us old new are_old len each = grind (arith, one_holder)
 
   pub room_for : (us old : List ℕ) → AreHolders l us old → length us < 3000 → (t : ℕ) → t < length old
       → slice_index old t + times locals t < 65536
-  room_for us old are_old few t h =
-      let n = are_old.number t (omega (arith, h, are_old.len)) in
-      let one = most_one (is_unit_among locals t) in
-      omega (arith, few, n, one, locals_times t, holding_few l us t)
+  room_for us old are_old few t h = grind (arith, locals_times, holding_few)
 
   pub some_held : (us old : List ℕ) → AreHolders l (u ∷ us) old → (t : ℕ) → t < length old
       → times locals t ≤ slice_index old t
-  some_held us old are_old t h =
-      let n = are_old.number t (omega (arith, h, are_old.len)) in
-      omega (arith, n, one_holder us t)
+  some_held us old are_old t h = grind (arith, one_holder)
 
 -- what is left to be counted, from an index in the list
 abbrev pub left : List ℕ → ℕ → ℕ → ℕ
@@ -104,22 +91,14 @@ left locals index t = times (drop index locals) t
 
 left_same : (locals : List ℕ) (index : ℕ) → index < length locals
     → left locals index (slice_index locals index) ≡ left locals (index + 1) (slice_index locals index) + 1
-left_same locals index inside = ap (λ xs. times xs (slice_index locals index)) (drop_more locals index 0 inside)
-    ∙ here (slice_index locals index) (drop (index + 1) locals)
-  where
-    here : (u : ℕ) (us : List ℕ) → times (u ∷ us) u ≡ times us u + 1
-    here u us = ⊎_elim (λ (t : (nat_eq u u ≡ true) × (u ≡ u)). rw t.0 refl)
-        (λ (t : (nat_eq u u ≡ false) × (u ≢ u)). absurd (t.1 refl)) (eqb_tells u u)
+left_same locals index inside = grind (arith, drop_more)
 
 left_other : (locals : List ℕ) (index t : ℕ) → index < length locals → slice_index locals index ≢ t
     → left locals index t ≡ left locals (index + 1) t
-left_other locals index t inside ne = ap (λ xs. times xs t) (drop_more locals index 0 inside) ∙ ⊎_elim
-    (λ (e : (nat_eq (slice_index locals index) t ≡ true) × (slice_index locals index ≡ t)). absurd (ne e.1))
-    (λ (e : (nat_eq (slice_index locals index) t ≡ false) × (slice_index locals index ≢ t)). rw e.0 refl)
-    (eqb_tells (slice_index locals index) t)
+left_other locals index t inside ne = grind (arith, drop_more)
 
 pub left_some : (locals : List ℕ) (index : ℕ) → index < length locals → 1 ≤ left locals index (slice_index locals index)
-left_some locals index inside = let e = left_same locals index inside in omega (arith, e)
+left_some locals index inside = grind (arith, left_same)
 
 module _ (locals now old : List ℕ) (index : ℕ) (inside : index < length locals)
     (here : slice_index locals index < length now) where
@@ -158,10 +137,8 @@ module _ (locals now old : List ℕ) (index : ℕ) (inside : index < length loca
 
 -- at the end nothing is left
 pub none_left : (locals : List ℕ) (t : ℕ) → left locals (length locals) t ≡ 0
-none_left [] t = refl
-none_left (x ∷ locals) t = none_left locals t
+none_left locals t = grind (arith, common_steps)
 
 -- a list that is borrowed whole and given back as long is what was given back
 pub whole_row : (count : ℕ) (old new : List ℕ) → count ≡ length new → take count (new ++ drop (length new) old) ≡ new
-whole_row count old new e = ap (λ n. take n (new ++ drop (length new) old)) e
-    ∙ take-append_seam new (drop (length new) old)
+whole_row count old new e = grind (arith, take-append_seam)

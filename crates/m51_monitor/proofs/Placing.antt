@@ -1,7 +1,8 @@
 -- Segments of a sound layout turn live or outside.
-use Rattle.m51_monitor.proofs.Common.{◌≡◌, ◌≢◌, ◌⊎◌, inl, inr, ℕ, Bool, zero, suc, ◌+◌, ◌<◌, ◌≤◌, false, Some, List, []}
-use Rattle.m51_monitor.proofs.Common.{◌∷◌, length, refl, sym, ap, subst, ◌∙◌, ⊎_elim, arith, slice_index}
-use Rattle.m51_monitor.proofs.Common.{slice_index_or, Contains, slice_get_within, cases_lt, Cell, Covers, LayoutParts}
+use Rattle.std.proofs.lemmas.Grind.{common_steps}
+use Rattle.m51_monitor.proofs.Common.{◌≡◌, ◌≢◌, ◌⊎◌, ℕ, Bool, ◌+◌, ◌<◌, false, List}
+use Rattle.m51_monitor.proofs.Common.{length, ◌∙◌, ⊎_elim, arith, slice_index}
+use Rattle.m51_monitor.proofs.Common.{slice_index_or, Contains, slice_get_within, Cell, Covers, LayoutParts}
 use Rattle.m51_monitor.proofs.Common.{Placed, extent_at, IsPlaced, IsSound, CellState, Shared, cell_state, IsTurned}
 use Rattle.m51_monitor.proofs.Common.{Turned, Under, Beside, AreTurned, IsLocalAmong}
 use Rattle.std.proofs.lemmas.Option.{slice_get-get_or}
@@ -9,11 +10,10 @@ use Rattle.std.proofs.lemmas.List.Elements.{Contains-get_or}
 use Rattle.m51_module.specs.Plan.{AreLocals}
 use Rattle.m51_module.specs.Sound.{IsFit}
 use Rattle.m51_monitor.specs.Turning.{IsLocalOf}
-use Rattle.m51_monitor.proofs.Reading.{covers_or_not}
 
 pub placed_at : (l : LayoutParts) (t : ℕ) (p : Placed) → t < length l.placed → slice_index_or l.placed t p ≡ p
     → IsPlaced l t p
-placed_at l t p h e = slice_get-get_or l.placed t p h ∙ ap Some e
+placed_at l t p h e = grind (arith, slice_get-get_or)
 
 pub fit_at : (l : LayoutParts) (t : ℕ) (p : Placed) → IsSound l → IsPlaced l t p → IsFit p
 fit_at l t p sound at = sound.fit t p at
@@ -21,7 +21,7 @@ fit_at l t p sound at = sound.fit t p at
 -- nothing has turned yet
 pub none_among : (l : LayoutParts) (Is : ℕ → Type 0) (to : CellState) (m : Shared) → ((t : ℕ) → Is t → ⊥)
     → AreTurned l Is to m m
-none_among l Is to m none = record { cell = λ c is. Beside (λ t h p at k. none t h) refl }
+none_among l Is to m none = grind arith
 
 -- the same of other words for the same segments
 pub turned_as : (l : LayoutParts) (Is As : ℕ → Type 0) (to : CellState) (m m' : Shared) → ((t : ℕ) → Is t → As t)
@@ -31,7 +31,7 @@ turned_as l Is As to m m' into from h =
   where
     by_cell : (c : Cell) (old new : CellState) → Turned l Is to c old new → Turned l As to c old new
     by_cell c old new (Under t is p at k e) = Under t (into t is) p at k e
-    by_cell c old new (Beside none e) = Beside (λ t is p at k. none t (from t is) p at k) e
+    by_cell c old new (Beside none e) = grind arith
 
 module _ (l : LayoutParts) (Is As : ℕ → Type 0) (to : CellState) (s : ℕ) (p : Placed) (at : IsPlaced l s p)
     (here : As s) (into : (t : ℕ) → Is t → As t) (from : (t : ℕ) → As t → (t ≡ s) ⊎ Is t) where
@@ -40,16 +40,12 @@ module _ (l : LayoutParts) (Is As : ℕ → Type 0) (to : CellState) (s : ℕ) (
   next_cell c old mid new inside outside h = ⊎_elim
       (λ (k : Covers (extent_at p) c). Under s here p at k (inside k))
       (λ (k : Covers (extent_at p) c → ⊥). beside c old mid new k (outside k) h)
-      (covers_or_not (extent_at p) c)
+      (grind arith)
     where
       beside : (c : Cell) (old mid new : CellState) → (Covers (extent_at p) c → ⊥) → new ≡ mid
           → Turned l Is to c old mid → Turned l As to c old new
       beside c old mid new out e (Under t is q at_t k f) = Under t (into t is) q at_t k (e ∙ f)
-      beside c old mid new out e (Beside none f) = Beside (λ t is q at_t k. ⊎_elim
-          (λ (same : t ≡ s). let alike : q ≡ p = cc (subst (λ t. IsPlaced l t q) same at_t, at) in
-          out (subst (λ (p : Placed). Covers (extent_at p) c) alike k))
-          (λ (was : Is t). none t was q at_t k)
-          (from t is)) (e ∙ f)
+      beside c old mid new out e (Beside none f) = grind arith
 
   -- one segment more has turned
   pub next_turned : (old mid new : Shared) → IsTurned (extent_at p) to mid new → AreTurned l Is to old mid
@@ -62,35 +58,21 @@ module _ (l : LayoutParts) (Is As : ℕ → Type 0) (to : CellState) (s : ℕ) (
 
 -- inside a list the default does not matter
 pub get_or_same : (xs : List ℕ) (k d : ℕ) → k < length xs → slice_index xs k ≡ slice_index_or xs k d
-get_or_same [] k d h = absurd (omega (arith, h))
-get_or_same (x ∷ xs) zero d h = refl
-get_or_same (x ∷ xs) (suc k) d h = get_or_same xs k d (omega (arith, h))
+get_or_same xs k d h = grind (arith, common_steps)
 
 pub last_or_before : (t k : ℕ) → t < k + 1 → (t ≡ k) ⊎ (t < k)
-last_or_before t k h = ⊎_elim (λ (q : t < k). inr q) (λ (q : k ≤ t). inl (omega (arith, q, h))) (cases_lt t k)
+last_or_before t k h = grind arith
 
 module _ (l : LayoutParts) (holders locals : List ℕ) (index : ℕ) (to : CellState) (below : index < length locals) where
   before : (t : ℕ) → IsLocalAmong holders locals index t → IsLocalAmong holders locals (index + 1) t
   before t k = record { index = k.index; below = omega (arith, k.below); inside = k.inside; is = k.is; free = k.free }
-
-  here_or_before : (t : ℕ) → IsLocalAmong holders locals (index + 1) t
-      → (t ≡ slice_index locals index) ⊎ IsLocalAmong holders locals index t
-  here_or_before t k = ⊎_elim
-      (λ (e : k.index ≡ index). inl (sym k.is ∙ ap (slice_index locals) e))
-      (λ (h : k.index < index). inr
-      (record { index = k.index; below = h; inside = k.inside; is = k.is; free = k.free }))
-      (last_or_before k.index index k.below)
 
   -- the segment at this index has turned
   pub turned : (p : Placed) (old mid new : Shared) → IsPlaced l (slice_index locals index) p
       → slice_index holders (slice_index locals index) ≡ 0 → IsTurned (extent_at p) to mid new
       → AreTurned l (IsLocalAmong holders locals index) to old mid
       → AreTurned l (IsLocalAmong holders locals (index + 1)) to old new
-  turned p old mid new at free turn h =
-      next_turned l (IsLocalAmong holders locals index) (IsLocalAmong holders locals (index + 1)) to
-      (slice_index locals index) p at
-      (record { index = index; below = omega arith; inside = below; is = refl; free = free })
-      before here_or_before old mid new turn h
+  turned p old mid new at free turn h = grind (arith, next_turned)
 
   -- it stays, as something holds it
   pub stays : (old mid : Shared) → slice_index holders (slice_index locals index) ≢ 0
@@ -99,15 +81,12 @@ module _ (l : LayoutParts) (holders locals : List ℕ) (index : ℕ) (to : CellS
   stays old mid held h = turned_as l (IsLocalAmong holders locals index) (IsLocalAmong holders locals (index + 1)) to
       old mid
       before
-      (λ t k. ⊎_elim
-      (λ (e : t ≡ slice_index locals index). absurd (held (subst (λ t. slice_index holders t ≡ 0) e k.free)))
-      (λ (m : IsLocalAmong holders locals index t). m)
-      (here_or_before t k))
+      (grind arith)
       h
 
 pub none : (l : LayoutParts) (holders locals : List ℕ) (to : CellState) (m : Shared)
     → AreTurned l (IsLocalAmong holders locals 0) to m m
-none l holders locals to m = none_among l (IsLocalAmong holders locals 0) to m (λ t k. omega (arith, k.below))
+none l holders locals to m = grind arith
 
 pub turned_all : (l : LayoutParts) (holders locals : List ℕ) (unit : ℕ) (to : CellState) (old new : Shared)
     → AreLocals l unit locals → AreTurned l (IsLocalAmong holders locals (length locals)) to old new
@@ -115,11 +94,11 @@ pub turned_all : (l : LayoutParts) (holders locals : List ℕ) (unit : ℕ) (to 
 turned_all l holders locals unit to old new are h =
     turned_as l (IsLocalAmong holders locals (length locals)) (IsLocalOf l holders unit) to old new
     (λ t k. record {
-      owns = (are.owned t).0 (subst (Contains locals) k.is (Contains-get_or locals k.index 0 k.inside));
+      owns = (are.owned t).0 (rw k.is at (Contains-get_or locals k.index 0 k.inside));
       free = k.free;
     })
     (λ t k. let c = (are.owned t).1 k.owns in
-    record { index = c.0; below = c.1; inside = c.1; is = get_or_same locals c.0 t c.1 ∙ c.2; free = k.free })
+    grind (arith, get_or_same))
     h
 
 -- what a unit owns is placed
@@ -136,5 +115,4 @@ item_is locals bound index all h = all (slice_index locals index) (Contains-get_
 -- what fails below a number and at it fails up to it
 pub none_up_to : (P : ℕ → Bool) (k : ℕ) → ((t : ℕ) → t < k → P t ≡ false) → P k ≡ false → (t : ℕ) → t < k + 1
     → P t ≡ false
-none_up_to P k below at t h =
-    ⊎_elim (λ (e : t ≡ k). ap P e ∙ at) (λ (before : t < k). below t before) (last_or_before t k h)
+none_up_to P k below at t h = grind arith

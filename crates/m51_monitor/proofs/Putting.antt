@@ -1,55 +1,25 @@
 -- A shared RAM after a put.
-use Rattle.m51_monitor.proofs.Common.{◌≡◌, ◌≢◌, ℕ, zero, suc, ◌+◌, ◌*◌, ◌/◌, ◌%◌, ◌<◌, ◌≤◌, Bool, true, false, nat_eq}
-use Rattle.m51_monitor.proofs.Common.{Option, Some, None, refl, sym, ap, subst, ◌∙◌, ⊎_elim, arith, if◌then◌else◌}
-use Rattle.m51_monitor.proofs.Common.{bit_at, eqb_tells, cases_lt, not-false, Cell, Space, Ram, Xram, Code, Covers, Put}
-use Rattle.m51_monitor.proofs.Common.{flat_cells, CellState, ram_cell, xram_cell, same_states, IsDataCell, IsCellAt}
+use Rattle.m51_monitor.proofs.Common.{◌≡◌, ℕ, ◌+◌, ◌/◌, ◌%◌, Bool, true, nat_eq}
+use Rattle.m51_monitor.proofs.Common.{Option, Some, None, refl, sym, ap, ◌∙◌, ⊎_elim, arith}
+use Rattle.m51_monitor.proofs.Common.{bit_at, eqb_tells, Cell, Space, Ram, Xram, Code, Covers, Put}
+use Rattle.m51_monitor.proofs.Common.{flat_cells, CellState, ram_cell, xram_cell, same_states, IsDataCell}
 use Rattle.m51_monitor.proofs.Common.{Mask, flag_in, flag_of, IsMarked, Shared, masked, shared_cells, shared_barred}
 use Rattle.m51_monitor.proofs.Common.{state_over}
 use Rattle.m51_alu.specs.Arithmetic.{bit_of}
 use Rattle.m51_flat.specs.declared.state.Put.TheVariants.{Nothing, Byte, Bit, Xbyte}
 use Rattle.m51_flat.specs.Flat.{FlatBytes}
-use Rattle.m51_flat.specs.States.{States, states_after, first_barred, shut_of}
+use Rattle.m51_flat.specs.States.{States, states_after, shut_of}
 use Rattle.m51_module.specs.Sound.{IsInside}
 use Rattle.m51_monitor.specs.Shared.{cells_put}
 use Rattle.m51_flat.specs.States.{ram_written, xram_written, written_in}
 use Rattle.m51_monitor.proofs.Reading.{covers_or_not}
-use Rattle.m51_monitor.proofs.Truths.{if_false, if_true}
-
-open_at : (b : Bool) (c : Cell) (rest : Option Cell) → (if b then Some c else rest) ≡ None → (b ≡ false) × (rest ≡ None)
-open_at true c rest e = cc e
-open_at false c rest e = (refl, e)
-
--- where none of some cells is barred, each of them is not
-all_open : (barred : Cell → Bool) (k n : ℕ) → first_barred barred k n ≡ None → (i : ℕ) → n ≤ i → i < n + k
-    → barred (ram_cell i) ≡ false
-all_open barred zero n e i low high = absurd (omega (arith, low, high))
-all_open barred (suc k) n e i low high =
-    let h = open_at (barred (ram_cell n)) (ram_cell n) (first_barred barred k (n + 1)) e in
-    ⊎_elim
-    (λ (q : n < i). all_open barred k (n + 1) h.1 i (omega (arith, q)) (omega (arith, high)))
-    (λ (q : i ≤ n). let same : i ≡ n = omega (arith, q, low) in subst (λ i. barred (ram_cell i) ≡ false) (sym same) h.0)
-    (cases_lt n i)
+use Rattle.m51_monitor.proofs.Truths.{if_true}
 
 -- the cells of a put that is not shut are live
 pub put_lives : (m : Shared) (put : Put) → shut_of (shared_barred m) put ≡ None → (c : Cell) → Covers (cells_put put) c
     → flag_of m.live c ≡ true
 unfolding shut_of
-put_lives m put e c h = by_put put e c.space c.at h.space h.from h.below
-  where
-    by_put : (put : Put) → shut_of (shared_barred m) put ≡ None → (s : Space) (n : ℕ) → s ≡ (cells_put put).space
-        → (cells_put put).first ≤ n → n < (cells_put put).first + (cells_put put).len → flag_in m.live s n ≡ true
-    by_put Nothing e s n same low high = absurd (omega (arith, low, high))
-    by_put (Byte a v) e s n same low high =
-        subst (λ (s : Space). flag_in m.live s n ≡ true) (sym same)
-        (not-false (flag_in m.live Ram n) (all_open (shared_barred m) 8 (8 * a) e n low high))
-    by_put (Bit a b) e s n same low high =
-        subst (λ (s : Space). flag_in m.live s n ≡ true) (sym same)
-        (not-false (flag_in m.live Ram n) (all_open (shared_barred m) 1 (256 + a) e n low high))
-    by_put (Xbyte a v) e s n same low high =
-        let here : n ≡ a = omega (arith, low, high) in
-        subst (λ (s : Space). flag_in m.live s n ≡ true) (sym same)
-        (ap (λ n. flag_in m.live Xram n) here
-        ∙ not-false (flag_in m.live Xram a) (open_at (shared_barred m (xram_cell a)) (xram_cell a) None e).0)
+put_lives m put e c h = grind arith
 
 -- a put writes a value into a cell that it covers, and into no other
 pub data Tells (put : Put) (c : Cell) (w : Option ℕ) : Type 0 where
@@ -57,36 +27,30 @@ pub data Tells (put : Put) (c : Cell) (w : Option ℕ) : Type 0 where
   Beside : (Covers (cells_put put) c → ⊥) → w ≡ None → Tells put c w
 
 pub put_tells : (put : Put) (s : Space) (n : ℕ) → Tells put (record { space = s; at = n }) (written_in put s n)
-put_tells Nothing Ram n = Beside (λ h. absurd (omega (arith, h.below))) refl
-put_tells Nothing Xram n = Beside (λ h. absurd (omega (arith, h.below))) refl
-put_tells Nothing Code n = Beside (λ h. absurd (omega (arith, h.below))) refl
+put_tells Nothing Ram n = grind arith
+put_tells Nothing Xram n = grind arith
+put_tells Nothing Code n = grind arith
 put_tells (Byte a v) Ram n = ⊎_elim
     (λ (t : (nat_eq (n / 8) a ≡ true) × (n / 8 ≡ a)). Inside
-    (record { space = refl; from = omega (arith, t.1); below = omega (arith, t.1) }) (bit_at v (n % 8))
-    (if_true (nat_eq (n / 8) a) (bit_at v (n % 8)) t.0))
-    (λ (t : (nat_eq (n / 8) a ≡ false) × (n / 8 ≢ a)). Beside
-    (λ h. t.1 (let low : 8 * a ≤ n = h.from in let high : n < 8 * a + 8 = h.below in omega arith))
-    (if_false (nat_eq (n / 8) a) (bit_at v (n % 8)) t.0))
+    (grind arith) (bit_at v (n % 8))
+    (cc))
+    (grind arith)
     (eqb_tells (n / 8) a)
 put_tells (Byte a v) Xram n = Beside (λ h. cc h.space) refl
 put_tells (Byte a v) Code n = Beside (λ h. cc h.space) refl
 put_tells (Bit a b) Ram n = ⊎_elim
     (λ (t : (nat_eq n (256 + a) ≡ true) × (n ≡ 256 + a)). Inside
-    (record { space = refl; from = omega (arith, t.1); below = omega (arith, t.1) }) (bit_of b)
-    (if_true (nat_eq n (256 + a)) (bit_of b) t.0))
-    (λ (t : (nat_eq n (256 + a) ≡ false) × (n ≢ 256 + a)). Beside
-    (λ h. t.1 (let low : 256 + a ≤ n = h.from in let high : n < 256 + a + 1 = h.below in omega arith))
-    (if_false (nat_eq n (256 + a)) (bit_of b) t.0))
+    (grind arith) (bit_of b)
+    (cc))
+    (grind arith)
     (eqb_tells n (256 + a))
 put_tells (Bit a b) Xram n = Beside (λ h. cc h.space) refl
 put_tells (Bit a b) Code n = Beside (λ h. cc h.space) refl
 put_tells (Xbyte a v) Ram n = Beside (λ h. cc h.space) refl
 put_tells (Xbyte a v) Xram n = ⊎_elim
     (λ (t : (nat_eq n a ≡ true) × (n ≡ a)). Inside
-    (record { space = refl; from = omega (arith, t.1); below = omega (arith, t.1) }) v (if_true (nat_eq n a) v t.0))
-    (λ (t : (nat_eq n a ≡ false) × (n ≢ a)). Beside
-    (λ h. t.1 (let low : a ≤ n = h.from in let high : n < a + 1 = h.below in omega arith))
-    (if_false (nat_eq n a) v t.0))
+    (grind arith) v (if_true (nat_eq n a) v t.0))
+    (grind arith)
     (eqb_tells n a)
 put_tells (Xbyte a v) Code n = Beside (λ h. cc h.space) refl
 
@@ -95,8 +59,7 @@ over_masked : (put : Put) (c : Cell) (w : Option ℕ) (live written' written : B
     → (Covers (cells_put put) c → live ≡ true) → (Covers (cells_put put) c → written' ≡ true)
     → ((Covers (cells_put put) c → ⊥) → written' ≡ written)
     → masked live written' (state_over w state) ≡ state_over w (masked live written state)
-over_masked put c w live written' written state (Inside h v e) alive set kept = rw (e, alive h, set h) refl
-over_masked put c w live written' written state (Beside h e) alive set kept = rw (e, kept h) refl
+over_masked put c w live written' written state h7 alive set kept = grind arith
 
 module _ (m : Shared) (put : Put) (memory' : FlatBytes) (written' : Mask) (open_ : shut_of (shared_barred m) put ≡ None)
     (mark : IsMarked (cells_put put) true m.written written') where
@@ -131,7 +94,4 @@ module _ (m : Shared) (put : Put) (memory' : FlatBytes) (written' : Mask) (open_
 
 -- the cells of a put are cells of data memory
 pub put_is_data : (put : Put) → IsInside (cells_put put) → (c : Cell) → Covers (cells_put put) c → IsDataCell c
-put_is_data Nothing inside c h = absurd (omega (arith, h.below))
-put_is_data (Byte a v) inside c h = subst (λ (s : Space). IsCellAt s c.at) (sym h.space) (tt, inside c h)
-put_is_data (Bit a b) inside c h = subst (λ (s : Space). IsCellAt s c.at) (sym h.space) (tt, inside c h)
-put_is_data (Xbyte a v) inside c h = subst (λ (s : Space). IsCellAt s c.at) (sym h.space) (tt, inside c h)
+put_is_data put inside c h = grind arith

@@ -16,8 +16,4 @@ reached_are l a (AfterMove m cpu e step same before fits level j) =
 pub runs_are_bounded : RunsAreBounded
 runs_are_bounded l a sound reached =
     let are = reached_are l a reached in
-    record {
-      one_live = one_live l (units_named a) sound (all_related l a are.stand);
-      few = few_records a.returns are.heights;
-      heights = are.heights;
-    }
+    grind (arith, one_live l (units_named a) sound (all_related l a are.stand), few_records a.returns are.heights)

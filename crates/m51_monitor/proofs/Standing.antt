@@ -1,16 +1,17 @@
 -- The units that the records name are related.
-use Rattle.m51_monitor.proofs.Common.{◌≡◌, ◌≢◌, ◌⊎◌, inl, inr, ℕ, List, [], ◌∷◌, ◌++◌, refl, sym, ap, subst, ◌∙◌}
-use Rattle.m51_monitor.proofs.Common.{Contains, contains_first, LayoutParts, IsRootAt, HasEdge, none_in_empty, Cause}
+use Rattle.std.proofs.Common.{arith}
+use Rattle.m51_monitor.proofs.Common.{◌≡◌, ◌≢◌, ◌⊎◌, inl, inr, ℕ, List, [], ◌∷◌, ◌++◌, refl, sym, subst, ◌∙◌}
+use Rattle.m51_monitor.proofs.Common.{Contains, LayoutParts, IsRootAt, HasEdge, Cause}
 use Rattle.m51_monitor.proofs.Common.{Call, Interrupt, IsWalkAbove, ReturnRecord, Records, units_named, named_over}
 use Rattle.m51_monitor.proofs.Common.{first_or, running, BeginsAt, AreWalksOver, AreWalks, AreRelatedAll}
 use Rattle.m51_module.specs.Conflict.{Same, Before, After, FirstUnderNone, SecondUnderNone, UnderTwo}
-use Rattle.m51_module.specs.Plan.{UnitLiesUnder, UnitsRelated, layout_graph}
+use Rattle.m51_module.specs.Plan.{UnitLiesUnder, UnitsRelated}
 use Rattle.m51_module.specs.Walks.{Reaches}
-use Rattle.m51_module.proofs.Reach.{lead_on, under_on, under_root}
+use Rattle.m51_module.proofs.Reach.{lead_on, under_on}
 use Rattle.m51_monitor.specs.Records.{runs_also}
 use Rattle.m51_monitor.specs.Records.{WalksOn}
 use Rattle.m51_flat.specs.Vectors.{vector_of}
-use Rattle.m51_monitor.proofs.Lists.{contains_tail, contains_cases, first_append}
+use Rattle.m51_monitor.proofs.Lists.{contains_tail, contains_cases}
 
 -- a unit leads to the current one c, under the root that runs; or it lies under another root
 data Stood (l : LayoutParts) (w c : ℕ) (ws : List ℕ) (a : ℕ) : Type 0 where
@@ -34,7 +35,7 @@ turned l a b (SecondUnderNone h) = FirstUnderNone h
 turned l a b (UnderTwo x y ne p q) = UnderTwo y x (λ e. ne (sym e)) q p
 
 other_root : (w x : ℕ) (ws : List ℕ) → (Contains ws w → ⊥) → Contains ws x → w ≢ x
-other_root w x ws fresh h e = fresh (subst (Contains ws) (sym e) h)
+other_root w x ws fresh h e = grind arith
 
 -- the unit that an edge leads to from the current one, and any that was named before
 new_related : (l : LayoutParts) (w c v : ℕ) (ws : List ℕ) (b : ℕ) → (Contains ws w → ⊥) → UnitLiesUnder l w v
@@ -47,11 +48,11 @@ pairs_more : (l : LayoutParts) (v : ℕ) (us : List ℕ) → ((b : ℕ) → Cont
     → ((a b : ℕ) → Contains us a → Contains us b → UnitsRelated l a b) → (a b : ℕ) → (a ≡ v) ⊎ Contains us a
     → (b ≡ v) ⊎ Contains us b → UnitsRelated l a b
 pairs_more l v us new old a b (inl p) (inl q) = Same (p ∙ sym q)
-pairs_more l v us new old a b (inl p) (inr q) = subst (λ a. UnitsRelated l a b) (sym p) (new b q)
-pairs_more l v us new old a b (inr p) (inl q) = subst (λ b. UnitsRelated l a b) (sym q) (turned l v a (new a p))
+pairs_more l v us new old a b (inl p) (inr q) = rw p (new b q)
+pairs_more l v us new old a b (inr p) (inl q) = rw q (turned l v a (new a p))
 pairs_more l v us new old a b (inr p) (inr q) = old a b p q
 
-each_more : (P : ℕ → Type 0) (v : ℕ) (us : List ℕ) → P v → ((a : ℕ) → Contains us a → P a) → (a : ℕ)
+pub each_more : (P : ℕ → Type 0) (v : ℕ) (us : List ℕ) → P v → ((a : ℕ) → Contains us a → P a) → (a : ℕ)
     → (a ≡ v) ⊎ Contains us a → P a
 each_more P v us new old a (inl p) = subst P (sym p) new
 each_more P v us new old a (inr p) = old a p
@@ -65,7 +66,7 @@ stood_on l w c v ws a h (Elsewhere x q p) = Elsewhere x q p
 fine_on : (l : LayoutParts) (w c v : ℕ) (ws us : List ℕ) → Fine l w c ws us → HasEdge l.edges c v
     → Fine l w v ws (v ∷ us)
 fine_on l w c v ws us f h =
-    let under : UnitLiesUnder l w v = under_on (layout_graph l) w c v f.under h in
+    let under : UnitLiesUnder l w v = grind (arith, under_on) in
     record {
       under = under;
       fresh = f.fresh;
@@ -77,25 +78,17 @@ fine_on l w c v ws us f h =
 
 -- the first root runs
 fine_first : (l : LayoutParts) (w r : ℕ) → IsRootAt l w r → Fine l w r [] (r ∷ [])
-fine_first l w r h = record {
-  under = under_root (layout_graph l) w r h;
-  fresh = none_in_empty w;
-  each = λ a k. each_more (Stood l w r []) r [] (Here (under_root (layout_graph l) w r h) (inl refl))
-      (λ a k. absurd (none_in_empty a k)) a (contains_cases a r [] k);
-  pairs = λ a b j k. pairs_more l r [] (λ b k. absurd (none_in_empty b k)) (λ a b j k. absurd (none_in_empty a j)) a b
-      (contains_cases a r [] j) (contains_cases b r [] k);
-}
+fine_first l w r h = grind arith
 
 stood_below : (l : LayoutParts) (w c : ℕ) (ws : List ℕ) (v r a : ℕ) → Stood l w c ws a
     → (x : ℕ) × Contains (w ∷ ws) x × UnitLiesUnder l x a
-stood_below l w c ws v r a (Here p q) = (w, contains_first w ws, p)
-stood_below l w c ws v r a (Elsewhere x q p) = (x, contains_tail x w ws q, p)
+stood_below l w c ws v r a h7 = grind (arith, contains_tail)
 
 -- another root runs above
 fine_above : (l : LayoutParts) (w c v r : ℕ) (ws us : List ℕ) → Fine l w c ws us → IsRootAt l v r
     → (Contains (w ∷ ws) v → ⊥) → Fine l v r (w ∷ ws) (r ∷ us)
 fine_above l w c v r ws us f h fresh =
-    let under : UnitLiesUnder l v r = under_root (layout_graph l) v r h in
+    let under : UnitLiesUnder l v r = grind arith in
     let below = λ (a : ℕ) (k : Contains us a). stood_below l w c ws v r a (f.each a k) in
     record {
       under = under;
@@ -103,7 +96,7 @@ fine_above l w c v r ws us f h fresh =
       each = λ a k. each_more (Stood l v r (w ∷ ws)) r us (Here under (inl refl))
           (λ a k. Elsewhere (below a k).0 (below a k).1 (below a k).2) a (contains_cases a r us k);
       pairs = λ a b j k. pairs_more l r us
-          (λ b k. UnderTwo v (below b k).0 (other_root v (below b k).0 (w ∷ ws) fresh (below b k).1) under
+          (λ b k. UnderTwo v (below b k).0 (grind arith) under
           (below b k).2) f.pairs a b (contains_cases a r us j) (contains_cases b r us k);
     }
 
@@ -131,23 +124,22 @@ go_above : (l : LayoutParts) (w : ℕ) (ws below us : List ℕ) → Fine l w (fi
 go_above l w ws below [] f h = f
 go_above l w ws below (v ∷ vs) f h =
     fine_on l w (first_or (vs ++ below) 0) v ws (vs ++ below) (go_above l w ws below vs f h.1)
-    (subst (λ u. HasEdge l.edges u v) (sym (first_append vs below 0)) h.0)
+    (grind arith)
 
 stack_above : (l : LayoutParts) (busy below : List ℕ) (cause : Cause) (us : List ℕ) → IsWalkAbove l below busy cause us
     → Stacked l busy below → Stacked l (runs_also cause busy) (us ++ below)
-stack_above l busy below Call us h s =
-    record { w = s.w; ws = s.ws; is = s.is; fine = go_above l s.w s.ws below us s.fine h }
+stack_above l busy below Call us h s = grind (arith, go_above l s.w s.ws below us s.fine h)
 stack_above l busy below (Interrupt source) us h s = record {
   w = vector_of source;
   ws = s.w ∷ s.ws;
-  is = ap (λ vs. vector_of source ∷ vs) s.is;
+  is = cc;
   fine = begin_above l s.w (first_or below 0) (vector_of source) s.ws below us s.fine
-      (subst (λ vs. Contains vs (vector_of source) → ⊥) s.is h.1) h.0;
+      (grind arith) h.0;
 }
 
 stacked : (l : LayoutParts) (reset : List ℕ) (rs : List ReturnRecord) → AreWalksOver l reset rs
     → Stacked l (running rs) (named_over reset rs)
-stacked l reset [] h = record { w = 0; ws = []; is = refl; fine = begin_first l 0 reset h }
+stacked l reset [] h = grind (arith, begin_first l 0 reset h)
 stacked l reset (r ∷ rs) h =
     stack_above l (running rs) (named_over reset rs) r.cause r.units h.0 (stacked l reset rs h.1)
 

@@ -9,6 +9,7 @@ ghost use Rattle.m51_flat.specs.States.{Absent, shut_of};
 ghost use Rattle.m51_monitor.specs.Activity.{Activity, AreHolders, AreTimes, MayEnter, KeepsStores, answers_in};
 ghost use Rattle.m51_monitor.specs.Activity.{times};
 ghost use Rattle.m51_monitor.specs.declared.activity.TheConstants.{MOST_NAMED};
+ghost use Rattle.m51_monitor.specs.Frames.{EndsAt};
 ghost use Rattle.m51_monitor.specs.Records.{first_or};
 ghost use Rattle.m51_monitor.specs.Resolved.{outside_of};
 ghost use Rattle.m51_monitor.specs.Shared.{Shared, shared_barred, shared_cells, turned_to};
@@ -62,6 +63,17 @@ fn placed_at(layout: &Layout, segment: usize) -> &Placed
     ensures fit { IsFit result.now }
 {
     &layout.placed()[segment]
+}
+
+// The address after the last byte of a unit.
+#[tactic(auto, using(m51_module::proofs::Units::unit_place, m51_module::proofs::Units::unit_at_place))]
+fn end_of(layout: &Layout, unit: u16) -> u32
+    requires { unit < length layout.now.units }
+    ensures { EndsAt layout.now unit result }
+{
+    cite(layout.placed());
+    let placed = placed_at(layout, usize::from(layout.units()[usize::from(unit)]));
+    u32::from(placed.base) + u32::from(placed.size)
 }
 
 // Turns the segment of this index in the list live and unset, or outside, where nothing holds it.
@@ -296,6 +308,14 @@ impl Activity {
         ensures { result ≡ first_or self.now.units 0 }
     {
         self.units[self.units.len() - 1]
+    }
+
+    /// The address after the bytes of the last of the units.
+    pub(crate) fn last_end(&self) -> u32
+        requires { 0 < length self.now.units }
+        ensures { EndsAt self.now.layout (first_or self.now.units 0) result }
+    {
+        end_of(&self.layout, self.last())
     }
 
     /// The unit that was last when this number of units was named.

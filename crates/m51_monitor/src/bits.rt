@@ -93,8 +93,9 @@ impl Flags {
         self.bytes[byte] == 0xFF
     }
 
-    // Sets one flag.
-    fn set(&mut self, index: usize, value: bool)
+    /// Sets one flag.
+    #[inline(always)]
+    pub(crate) fn set(&mut self, index: usize, value: bool)
         requires { index < length self.old }
         ensures { AreSet index (index + 1) value self.old self.new }
     {

@@ -71,6 +71,28 @@ impl Mask {
         self.ram.set_byte(usize::from(address));
     }
 
+    /// Sets the flag of a bit of internal RAM, by its bit address. It is kept apart from what is done in every step.
+    #[tactic(auto, using(crate::proofs::Marks::on_ram))]
+    #[inline(never)]
+    pub(crate) fn mark_bit(&mut self, address: u8)
+        ensures marked { IsMarked (extent Space.Ram (256 + address) 1) true self.old self.new }
+        ensures mask { IsMask self.new }
+    {
+        cite(&self.ram);
+        self.ram.set(256 + usize::from(address), true);
+    }
+
+    /// Sets the flag of a byte of external memory. It is kept apart likewise.
+    #[tactic(auto, using(crate::proofs::Marks::on_xram))]
+    #[inline(never)]
+    pub(crate) fn mark_xbyte(&mut self, address: u16)
+        ensures marked { IsMarked (extent Space.Xram address 1) true self.old self.new }
+        ensures mask { IsMask self.new }
+    {
+        cite(&self.xram);
+        self.xram.set(usize::from(address), true);
+    }
+
     // Sets the flags of the cells of an extent that ends inside its memory.
     #[tactic(auto, using(crate::proofs::Marks::on_ram, crate::proofs::Marks::on_xram, crate::proofs::Marks::on_code))]
     fn mark_some(&mut self, cells: Extent, value: bool)

@@ -1,10 +1,11 @@
 //! The monitor: which units are active, and what a step changes.
-ghost use Rattle.std.specs.Prelude.{◌≡◌, ◌≢◌, ◌<◌, ◌≤◌, ◌∷◌, ℕ, [], ◌++◌, vec_capacity, None, Some, Ok, IfOk, IfSome};
-ghost use Rattle.std.specs.Prelude.{IfNone, length, true};
+ghost use Rattle.std.specs.Prelude.{◌≡◌, ◌≢◌, ◌<◌, ◌≤◌, ◌+◌, ◌%◌, ◌∷◌, ℕ, [], ◌++◌, vec_capacity, None, Some, Ok};
+ghost use Rattle.std.specs.Prelude.{IfNone, IfOk, IfSome, false, length, reverse, true};
 ghost use Rattle.std.specs.List.{Contains};
-ghost use Rattle.m51_module.specs.Plan.{IsRootAt};
+ghost use Rattle.m51_module.specs.Plan.{IsRootAt, IsUnitAt};
 ghost use Rattle.m51_flat.specs.States.{shut_of};
 ghost use Rattle.m51_flat.specs.Sfr.{latch, sp};
+ghost use Rattle.m51_monitor.specs.Frames.{IsPast, top_of};
 ghost use Rattle.m51_monitor.specs.Monitored.{AnswersAt, AreNumbers, HasAddress, HasLevel, MonitorStandsFor, IsStart};
 ghost use Rattle.m51_monitor.specs.Monitored.{StandsAfter, AreActivations, WasJudged};
 ghost use Rattle.m51_monitor.specs.Monitored.{live_in, stores_after, stores_changed};
@@ -16,6 +17,7 @@ ghost use Rattle.m51_monitor.specs.Transfers.{byte_put, jumped, moved, return_pu
 
 use crate::activity::Activity;
 use crate::cause::{Cause, ReturnFrame};
+use crate::judging::topmost;
 use crate::shared::SharedRam;
 use crate::step::Move;
 use m51_cells::{Cell, MOST_RETURN_RECORDS, NoMemory, cite};
@@ -34,11 +36,16 @@ const SP: usize = 0x01;
 pub struct Monitor {
     pub(crate) activity: Activity,
     pub(crate) frames: Vec<ReturnFrame>,
+    // The current unit, the address after it, and SP of the topmost frame or 0: each step compares with them, and few
+    // change them.
+    unit: u16,
+    end: u32,
+    pub(crate) top: u8,
 }
 
 impl Model for Monitor {
     ghost use Rattle.std.specs.Prelude.{◌≤◌, vec_capacity};
-    ghost use Rattle.m51_monitor.specs.Frames.{AreFrames, records_of};
+    ghost use Rattle.m51_monitor.specs.Frames.{AreAtHand, AreFrames, records_of};
     ghost use Rattle.m51_cells.specs.declared.limits.TheConstants.{MOST_RETURN_RECORDS};
     ghost use Rattle.m51_monitor.specs.Monitored as monitored;
 
@@ -52,7 +59,8 @@ impl Model for Monitor {
 
     ghost invariant = { λ m. AreFrames m.frames.items m.activity.units
         × monitored.AreActivations m.activity.layout (records_of m.frames.items m.activity.units)
-        × (MOST_RETURN_RECORDS ≤ vec_capacity m.frames) };
+        × (MOST_RETURN_RECORDS ≤ vec_capacity m.frames)
+        × AreAtHand m.activity.layout m.frames.items m.activity.units m.unit m.end m.top };
 }
 
 // The byte that a put stores. Where a record is made, both puts are bytes.
@@ -108,6 +116,17 @@ fn add(frames: &mut Vec<ReturnFrame>, frame: ReturnFrame)
     }
 }
 
+// SP of the topmost frame, or 0.
+#[tactic(auto, using(crate::proofs::Framing::top_none, crate::proofs::Framing::top_some))]
+fn top_of(frames: &[ReturnFrame]) -> u8
+    ensures { result ≡ top_of (reverse frames.now) }
+{
+    match topmost(frames) {
+        None => 0,
+        Some(frame) => frame.sp,
+    }
+}
+
 impl Monitor {
     /// At the reset, of a layout with a root at 0000H: that root is active, plain segments and the common cells have
     /// the fill, and overlaid segments are unset. Error: out of memory.
@@ -133,7 +152,14 @@ impl Monitor {
         let mut activity = Activity::start(alloc, layout, fill)?;
         activity.is_sound();
         activity.enter(root);
-        Ok(Monitor { activity, frames })
+        let end = activity.last_end();
+        Ok(Monitor {
+            activity,
+            frames,
+            unit: root,
+            end,
+            top: 0,
+        })
     }
 
     /// The layout.
@@ -169,7 +195,21 @@ impl Monitor {
         ensures unit { result < length self.now.layout.units }
     {
         self.activity.is_sound();
-        self.activity.last()
+        self.unit
+    }
+
+    /// Whether `count` bytes from an address in the current unit on lie in that unit.
+    ///
+    /// Source: own choice ("Units").
+    #[inline(always)]
+    pub fn holds(&self, from: u16, count: u8) -> bool
+        requires { IsUnitAt self.now.layout from (current self.now.records) }
+        ensures inside { result ≡ true → (n : ℕ) → n < count
+            → IsUnitAt self.now.layout ((from + n) % 65536) (current self.now.records) }
+        ensures outside { result ≡ false → IsPast self.now.layout from count (current self.now.records) }
+    {
+        self.activity.is_sound();
+        u32::from(from) + u32::from(count) <= self.end
     }
 
     /// The number of return records, 0 to 128. Their units form walks, SP of each is at least two above that of the
@@ -214,6 +254,8 @@ impl Monitor {
     {
         self.activity.is_sound();
         self.activity.enter(unit);
+        self.unit = unit;
+        self.end = self.activity.last_end();
     }
 
     // Puts the record of a call within the current unit on top.
@@ -229,6 +271,7 @@ impl Monitor {
             &mut self.frames,
             frame(Cause::Call, return_address, sp_after, start),
         );
+        self.top = sp_after;
     }
 
     // Puts a record with a unit on top.
@@ -246,6 +289,9 @@ impl Monitor {
             frame(cause, return_address, sp_after, start),
         );
         self.activity.enter(unit);
+        self.unit = unit;
+        self.end = self.activity.last_end();
+        self.top = sp_after;
     }
 
     // Takes the top record away.
@@ -259,6 +305,9 @@ impl Monitor {
     {
         if let Some(top) = self.frames.pop() {
             self.activity.leave_to(top.start);
+            self.unit = self.activity.last();
+            self.end = self.activity.last_end();
+            self.top = top_of(&self.frames);
         }
     }
 
@@ -310,8 +359,10 @@ impl Monitor {
     {
         self.are_activations();
         cite(stack_pointer(&effect.cpu));
+        // Read before the first is written.
+        let second = effect.second;
         self.put(&effect.first);
-        self.put(&effect.second);
+        self.put(&second);
         self.change(effect, step);
     }
 

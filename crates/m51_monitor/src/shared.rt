@@ -49,40 +49,18 @@ fn ram_cell(at: usize) -> Cell
     }
 }
 
-// The cells of a memory from the first on, of this count.
-fn row(space: Space, first: u32, len: u32) -> Extent
-    requires { first + len ≤ cells_in space }
-    ensures value { result ≡ extent space first len }
-    ensures inside { IsInside result }
-{
-    Extent { space, first, len }
-}
-
-// The cells of a put.
-fn cells_put(put: &Put) -> Extent
-    ensures cells { result ≡ cells_put put.now }
-    ensures inside { IsInside result }
-{
-    match *put {
-        Put::Nothing => row(Space::Code, 0, 0),
-        Put::Byte { address, .. } => row(Space::Ram, 8 * u32::from(address), 8),
-        Put::Bit { address, .. } => row(Space::Ram, 256 + u32::from(address), 1),
-        Put::Xbyte { address, .. } => row(Space::Xram, u32::from(address), 1),
-    }
-}
-
-// Sets the flags of the cells of a put; those of a byte, which most puts are, at once.
+// Sets the flags of the cells of a put. Those of a byte, which most puts are, are set here, the others elsewhere.
+#[tactic(auto, using(crate::proofs::Marks::none_marked))]
 #[inline(always)]
-fn mark_put(mask: &mut Mask, put: &Put)
-    ensures marked { IsMarked (cells_put put.now) true mask.old mask.new }
-    ensures mask { IsMask mask.new }
-    ensures inside { IsInside (cells_put put.now) }
+fn mark_put(mask: &mut Mask, put: Put)
+    ensures marked { IsMarked (cells_put put) true mask.old mask.new }
+    ensures inside { IsInside (cells_put put) }
 {
-    let cells = cells_put(put);
-    if let Put::Byte { address, .. } = *put {
-        mask.mark_byte(address);
-    } else {
-        mask.mark(cells, true);
+    match put {
+        Put::Nothing => {}
+        Put::Byte { address, .. } => mask.mark_byte(address),
+        Put::Bit { address, .. } => mask.mark_bit(address),
+        Put::Xbyte { address, .. } => mask.mark_xbyte(address),
     }
 }
 
@@ -249,10 +227,12 @@ impl CellStore for SharedRam {
     #[tactic(auto, using(m51_flat::proofs::Flat::open_to_puts))]
     #[inline(always)]
     fn put(&mut self, put: &Put) {
-        if let Put::Nothing = *put {
+        // A copy, since the memory that is written could be that of the put.
+        let put = *put;
+        if let Put::Nothing = put {
             return;
         }
-        self.memory.put(put);
+        self.memory.put(&put);
         mark_put(&mut self.written, put);
     }
 }

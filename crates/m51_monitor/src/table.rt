@@ -25,6 +25,14 @@ impl Monitor {
         }
     }
 
+    // SP is less than that of the top record.
+    #[tactic(auto, using(crate::proofs::Framing::below_top))]
+    fn is_below_top(&self, sp_after: u8) -> bool
+        ensures { result ≡ is_sp_below self.now.records.returns 0 sp_after }
+    {
+        sp_after < self.top
+    }
+
     // To the next instruction.
     #[inline(always)]
     fn next(&self, sp_after: u8, at: Option<u16>) -> Result<Move, Why>
@@ -33,7 +41,7 @@ impl Monitor {
         if !is_at(at, self.current()) {
             return Err(Why::PastEnd);
         }
-        if self.is_sp_below(0, sp_after) {
+        if self.is_below_top(sp_after) {
             return Err(Why::SpBelow);
         }
         Ok(Move::Stay)
@@ -98,7 +106,7 @@ impl Monitor {
             Transfer::Jump => jump_or_call(
                 self.layout(),
                 self.current(),
-                self.is_sp_below(0, sp_after),
+                self.is_below_top(sp_after),
                 false,
                 at,
             ),

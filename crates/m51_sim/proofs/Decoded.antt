@@ -1,24 +1,25 @@
 -- The instructions of an image, decoded one after another.
-use Rattle.m51_sim.proofs.Common.{◌≡◌, ℕ, ◌+◌, ◌<◌, ◌≤◌, List, [], ◌∷◌, ◌++◌, Option, length, refl, sym, ap, subst, ◌∙◌}
-use Rattle.m51_sim.proofs.Common.{⊎_elim, arith, length-append, Instr}
+use Rattle.m51_sim.proofs.Common.{◌≡◌, ℕ, ◌+◌, ◌<◌, ◌≤◌, List, [], ◌∷◌, ◌++◌, length, refl, sym, ap, subst, ◌∙◌}
+use Rattle.m51_sim.proofs.Common.{⊎_elim, arith, length-append}
 use Rattle.std.specs.Prelude.{slice_index_or}
 use Rattle.std.proofs.Math.ListN.{get_or-append}
 use Rattle.std.proofs.Math.Seq.{get_or-append_seam}
 use Rattle.std.proofs.lemmas.Bool.{cases_lt}
-use Rattle.m51_sim.specs.Effects.{instr_at}
+use Rattle.m51_sim.specs.declared.program.Row.{Row}
+use Rattle.m51_sim.specs.Plain.{row_of}
 use Rattle.m51_sim.specs.Rows.{AreDecodedRows}
 
 pub no_rows : (image : List ℕ) → AreDecodedRows image [] 0
 no_rows image = record { len = refl; row = λ a d h. absurd (omega (arith, h)) }
 
-pub one_row : (image : List ℕ) (rows : List (Option Instr)) (count : ℕ) (row : Option Instr)
-    → row ≡ instr_at image count → AreDecodedRows image rows count → AreDecodedRows image (rows ++ row ∷ []) (count + 1)
+pub one_row : (image : List ℕ) (rows : List Row) (count : ℕ) (row : Row)
+    → row ≡ row_of image count → AreDecodedRows image rows count → AreDecodedRows image (rows ++ row ∷ []) (count + 1)
 one_row image rows count row e are = record {
   len = let len = length-append rows (row ∷ []) in omega (arith, len, are.len);
   row = λ a d h. ⊎_elim
       (λ (before : a < count). get_or-append rows (row ∷ []) d a (omega (arith, before, are.len)) ∙ are.row a d before)
       (λ (last : count ≤ a). let here : length rows ≡ a = omega (arith, h, last, are.len) in
-      subst (λ a. slice_index_or (rows ++ row ∷ []) a d ≡ instr_at image a) here
-      (get_or-append_seam rows row [] d ∙ e ∙ ap (instr_at image) (sym are.len)))
+      subst (λ a. slice_index_or (rows ++ row ∷ []) a d ≡ row_of image a) here
+      (get_or-append_seam rows row [] d ∙ e ∙ ap (row_of image) (sym are.len)))
       (cases_lt a count);
 }

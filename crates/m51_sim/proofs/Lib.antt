@@ -23,3 +23,4 @@ pub mod TakenTypes
 pub mod Alone
 pub mod Quiet
 pub mod Resting
+pub mod Plain

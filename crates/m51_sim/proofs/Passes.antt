@@ -11,7 +11,7 @@ use Rattle.m51_timers_uart.specs.Sending.{Ticked}
 use Rattle.m51_timers_uart.specs.Tick.{ticked}
 use Rattle.m51_timers_uart.proofs.Kept.{the_rest_is_kept}
 use Rattle.m51_sim.specs.declared.cycles.Passing.{Passing}
-use Rattle.m51_sim.specs.Boards.{state_with}
+use Rattle.m51_sim.specs.Boards.{IsPassed, passing, state_with}
 use Rattle.m51_sim.specs.Cycles.{AreFew, after_tick, cycle_passed, cycles_passed, first_sent, next_cycle}
 use Rattle.m51_sim.specs.Cycles.{sent_in}
 use Rattle.m51_sim.specs.Effects.{attempt_of, changed_by, passed_into, performed, port_entry}
@@ -39,14 +39,6 @@ cycles_keep inputs zero p = control_itself p.cpu
 cycles_keep inputs (suc count) p =
     let q = cycles_passed inputs count p in
     control_twice p.cpu q.cpu (cycle_passed inputs q).cpu (cycles_keep inputs count p) (cycle_keeps inputs q)
-
--- the cycles of an effect are passed, by the parts of a chip
-abbrev pub passing : ChipState → Entries → Passing
-passing chip told = record { cpu = chip.cpu; periph = chip.periph; cycle = chip.cycle; sent = told.sent }
-
-pub record IsPassed (inputs : Inputs) (old new : ChipState) (e : Effect) (told : Entries) : Type 0 where
-  pub port : told.port ≡ port_entry old.cycle e
-  pub passed : passing new told ≡ cycles_passed inputs e.cycles (changed_by old.cycle old.periph e)
 
 pub passed_keeps : (inputs : Inputs) (old new : ChipState) (e : Effect) (told : Entries)
     → IsPassed inputs old new e told → KeepsControl e.cpu new.cpu

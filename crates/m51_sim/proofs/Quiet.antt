@@ -110,20 +110,3 @@ pub rest_lasts : (script : Script) (p q : Passing) (cycle : ℕ) → q ≡ recor
     → Rests script q
 rest_lasts script p q cycle e h =
     subst (Rests script) (sym e) (record { pins = h.pins; frames = h.frames; devices = h.devices })
-
-none_begins : (cpu : Cpu) (sbuf : Option ℕ) (p : Periph) → sbuf ≡ None → p ≡ written_to cpu sbuf p
-none_begins cpu None p h = refl
-none_begins cpu (Some byte) p h = absurd (cc h)
-
--- devices that rest do so after an effect that sends nothing and keeps the registers that show it
-pub rest_stays : (script : Script) (p q : Passing) (e : Effect) → Rests script p → looked_at p.cpu ≡ looked_at e.cpu
-    → e.sbuf ≡ None → q.cpu ≡ e.cpu → q.periph ≡ written_to e.cpu e.sbuf p.periph → Rests script q
-rest_stays script p q e rest same none is begun =
-    let still = still_rest p.cpu e.cpu same all_high p.periph rest.devices in
-    let kept = none_begins e.cpu e.sbuf p.periph none ∙ sym begun in
-    record {
-      pins = rest.pins;
-      frames = rest.frames;
-      devices = subst (λ (c : Cpu). AreResting c all_high q.periph) (sym is)
-          (subst (λ (d : Periph). AreResting e.cpu all_high d) kept still);
-    }

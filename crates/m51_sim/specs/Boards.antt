@@ -5,6 +5,7 @@ use Rattle.m51_cells.specs.declared.event.Event.{Event}
 use Rattle.m51_module.specs.declared.parts.LayoutParts.{LayoutParts}
 use Rattle.m51_module.specs.Plan.{IsUnitAt}
 use Rattle.m51_flat.specs.declared.state.Cpu.{Cpu}
+use Rattle.m51_flat.specs.declared.state.Effect.{Effect}
 use Rattle.m51_flat.specs.declared.state.Level.{Level}
 use Rattle.m51_flat.specs.States.{CellState, States, Holds, Absent, Fresh}
 use Rattle.m51_flat.specs.Reads.{CellMap}
@@ -19,7 +20,9 @@ use Rattle.m51_monitor.specs.Shared.{cell_state}
 use Rattle.m51_monitor.specs.Stores.{Stores, has_cell, is_common}
 use Rattle.m51_sim.specs.declared.chip.Draft.{Draft}
 use Rattle.m51_sim.specs.declared.runs.Entries.{Entries}
-use Rattle.m51_sim.specs.Cycles.{inputs_of}
+use Rattle.m51_sim.specs.declared.cycles.Passing.{Passing}
+use Rattle.m51_sim.specs.Cycles.{Inputs, cycles_passed, inputs_of}
+use Rattle.m51_sim.specs.Effects.{changed_by, port_entry}
 use Rattle.m51_sim.specs.Runs.{State}
 use Rattle.m51_sim.specs.FlatMachine.{filled_map, reset_with}
 use Rattle.m51_sim.specs.SeparateMachine.{Separate, separate_start}
@@ -40,6 +43,14 @@ pub record BoardState : Type 0 where
 pub record FlatState : Type 0 where
   pub chip : ChipState
   pub memory : FlatBytes
+
+-- the cycles of an effect are passed, by the parts of a chip
+abbrev pub passing : ChipState → Entries → Passing
+passing chip told = record { cpu = chip.cpu; periph = chip.periph; cycle = chip.cycle; sent = told.sent }
+
+pub record IsPassed (inputs : Inputs) (old new : ChipState) (e : Effect) (told : Entries) : Type 0 where
+  pub port : told.port ≡ port_entry old.cycle e
+  pub passed : passing new told ≡ cycles_passed inputs e.cycles (changed_by old.cycle old.periph e)
 
 -- what a step leaves as it is
 pub record Loaded : Type 0 where

@@ -7,12 +7,15 @@ use Rattle.m51_cells.specs.declared.event.Entry.TheVariants.{Sent as SentByte}
 use Rattle.m51_flat.specs.declared.state.Pins.{Pins}
 use Rattle.m51_timers_uart.specs.declared.periph.Sent.{Sent}
 use Rattle.m51_timers_uart.specs.declared.receiving.Frame.{Frame}
+use Rattle.m51_timers_uart.specs.OnlyCounting.{AreCounting}
 use Rattle.m51_timers_uart.specs.Resting.{AreResting}
 use Rattle.m51_timers_uart.specs.Sending.{Ticked}
 use Rattle.m51_timers_uart.specs.Tick.{ticked}
 use Rattle.m51_script.specs.declared.script.Script.{Script}
 use Rattle.m51_script.specs.Levels.{all_high, levels_after}
 use Rattle.m51_script.specs.Timing.{those}
+use Rattle.m51_sim.specs.declared.cycles.Pace.{Pace}
+use Rattle.m51_sim.specs.declared.cycles.Pace.TheVariants.{Resting, Counting}
 use Rattle.m51_sim.specs.declared.cycles.Passing.{Passing}
 use Rattle.m51_sim.specs.declared.cycles.Timed.{Timed}
 
@@ -76,3 +79,14 @@ pub record Rests (script : Script) (p : Passing) : Type 0 where
   pub pins : script.pins.cycles ≡ []
   pub frames : script.frames.cycles ≡ []
   pub devices : AreResting p.cpu all_high p.periph
+
+-- the same, but the devices count
+pub record Counts (script : Script) (p : Passing) : Type 0 where
+  pub pins : script.pins.cycles ≡ []
+  pub frames : script.frames.cycles ≡ []
+  pub devices : AreCounting p.cpu all_high p.periph
+
+-- the devices go at this pace
+abbrev pub IsPaced : Pace → Script → Passing → Type 0
+IsPaced Resting script p = Rests script p
+IsPaced Counting script p = Counts script p

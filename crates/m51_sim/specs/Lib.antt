@@ -1,6 +1,7 @@
 pub mod Runs
 pub mod Cycles
 pub mod Effects
+pub mod Plain
 pub mod Rows
 pub mod Allowed
 pub mod FlatMachine

@@ -9,7 +9,8 @@ ghost use Rattle.m51_monitor.specs.Monitored.{live_in};
 ghost use Rattle.m51_monitor.specs.Related.{OneLive};
 ghost use Rattle.m51_print.specs.Lines.{HasText, titles_of};
 ghost use Rattle.m51_script.specs.declared.script.Script.{Script as ScriptState};
-ghost use Rattle.m51_sim.specs.Boards.{IsDraftOf, IsInOrder, IsStarted, StandsForState, held_memory, separate_of};
+ghost use Rattle.m51_sim.specs.Boards.{IsDraftOf, IsInOrder, IsPassed, IsStarted, StandsForState, held_memory};
+ghost use Rattle.m51_sim.specs.Boards.{separate_of};
 ghost use Rattle.m51_sim.specs.Boards.{state_with, told_in};
 ghost use Rattle.m51_sim.specs.Cycles.{AreFew, inputs_of, with_extra};
 ghost use Rattle.m51_sim.specs.Effects.{attempt_of};
@@ -17,6 +18,7 @@ ghost use Rattle.m51_sim.specs.Report.{IsReport};
 ghost use Rattle.m51_sim.specs.Run.{Ended, IsAdvance, IsStep, IsToldStep, step_told, stopped_by, tally_of, told_by};
 ghost use Rattle.m51_sim.specs.Runs.{record_of};
 ghost use Rattle.m51_sim.specs.SeparateMachine.{separate_machine};
+ghost use Rattle.m51_sim.specs.declared.runs.Entries.{Entries as EntriesTold};
 
 use crate::attempt::Attempt;
 use crate::chip::{Chip, Draft, blank_draft};
@@ -271,8 +273,13 @@ fn advance(monitor: &mut Monitor, chip: &mut Chip, draft: &mut Draft, extra: &[T
     match judge(monitor, chip, draft) {
         Ok(step) => {
             commit(monitor, &draft.effect, step);
-            let told = chip.pass(draft, extra);
-            keep_entries(draft, told)
+            match chip.pace_on(draft, extra) {
+                Some(pace) => {
+                    chip.go_on(draft, pace);
+                    false
+                }
+                None => pass_slowly(chip, draft, extra),
+            }
         }
         Err(event) => {
             draft.same = false;
@@ -280,6 +287,21 @@ fn advance(monitor: &mut Monitor, chip: &mut Chip, draft: &mut Draft, extra: &[T
             true
         }
     }
+}
+
+// Performs the step of an effect, but for its puts, whatever its cycles are. It answers whether there is anything to
+// report. As a part of `advance` it would cost each step nine machine instructions.
+#[inline(never)]
+fn pass_slowly(chip: &mut Chip, draft: &mut Draft, extra: &[Timed]) -> bool
+    requires { AreFew extra.now }
+    ensures image { chip.new.image ≡ chip.old.image }
+    ensures script { chip.new.script ≡ chip.old.script }
+    ensures draft { IsDraftOf draft.new chip.new.cpu }
+    ensures passed { (told : EntriesTold) × (told_in result draft.new ≡ Ok told)
+        × IsPassed (with_extra extra.now (inputs_of chip.old.script)) chip.old chip.new draft.old.effect told }
+{
+    let told = chip.pass(draft, extra);
+    keep_entries(draft, told)
 }
 
 // Leaves the entries of a step in the draft, and answers whether there are any.

@@ -1,17 +1,19 @@
 //! An image, a script, the processor, the devices, and the number of the machine cycle.
-ghost use Rattle.std.specs.Prelude.{◌≡◌, ◌≤◌, ◌+◌, ◌-◌, ◌^◌, None, length, min, IfOk, IsTrue};
+ghost use Rattle.std.specs.Prelude.{◌≡◌, ◌≤◌, ◌+◌, ◌-◌, ◌^◌, List, length, min, IfOk, IfSome, IsTrue};
 ghost use Rattle.m51_flat.specs.Reset.{reset_cpu};
 ghost use Rattle.m51_flat.specs.declared.state.Cpu.{Cpu};
 ghost use Rattle.m51_timers_uart.specs.LineLaws.{written_to};
-ghost use Rattle.m51_timers_uart.specs.Resting.{looked_at};
 ghost use Rattle.m51_timers_uart.specs.Tick.{reset_periph};
 ghost use Rattle.m51_sim.specs.Boards.{IsDraftOf};
 ghost use Rattle.m51_sim.specs.Cycles.{AreFew, cycles_passed, inputs_of, with_extra};
 ghost use Rattle.m51_sim.specs.Effects.{attempt_by, attempt_of, changed_by, executing, idle_effect};
 ghost use Rattle.m51_sim.specs.Effects.{instr_at, latch_address, port_entry};
+ghost use Rattle.m51_sim.specs.Plain.{DevicesAre, DevicesGo, GoesOn, KeepsOthers, gone_on, is_plain};
+ghost use Rattle.m51_sim.specs.declared.cycles.Timed.{Timed as TimedFrame};
+ghost use Rattle.m51_timers_uart.specs.declared.periph.Periph.{Periph as PeriphState};
 
 use crate::attempt::Attempt;
-use crate::cycles::{Passing, Timed, pass_cycles};
+use crate::cycles::{ALL_HIGH, Pace, Passing, Timed, cite_registers, pass_cycles};
 use crate::program::Program;
 use crate::runs::{Entries, NO_ENTRIES};
 use m51_cells::{Entry, Event, NoMemory};
@@ -21,16 +23,18 @@ use m51_module::Image;
 use m51_script::Script;
 use m51_sfr::addresses::{P0, P1, P2, P3, PCON};
 use m51_sfr::bits::IDL;
-use m51_timers_uart::{Periph, look_alike};
+use m51_timers_uart::{Periph, count_on};
 use std::alloc::Global;
 use std::marker::Model;
 
 // Room for the effect of a step, which is made before it is read; `same` says that its processor is known to be that of
-// the chip. `told` is what a step reports, where it reports anything.
+// the chip, and `plain` that it is known to change nothing a device looks at. `told` is what a step reports, where it
+// reports anything.
 #[derive(Drop)]
 pub(crate) struct Draft {
     pub(crate) effect: Effect,
     pub(crate) same: bool,
+    pub(crate) plain: bool,
     pub(crate) told: Result<Entries, Event>,
 }
 
@@ -40,14 +44,14 @@ pub(crate) struct Chip {
     program: Program,
     script: Script,
     passing: Passing,
-    // The script has no lines, and the devices rest.
-    resting: bool,
+    // How the devices go, where that is known.
+    pace: Option<Pace>,
 }
 
 impl Model for Chip {
-    ghost use Rattle.std.specs.Prelude.{IsTrue};
     ghost use Rattle.m51_sim.specs.Boards.{ChipState};
-    ghost use Rattle.m51_sim.specs.Cycles.{Rests};
+    ghost use Rattle.std.specs.Prelude.{IfSome};
+    ghost use Rattle.m51_sim.specs.Cycles.{IsPaced};
 
     ghost Value = { ChipState };
 
@@ -59,7 +63,7 @@ impl Model for Chip {
       cycle = c.passing.cycle;
     } };
 
-    ghost invariant = { λ c. IsTrue c.resting → Rests c.script c.passing };
+    ghost invariant = { λ c. IfSome c.pace (λ pace. IsPaced pace c.script c.passing) };
 }
 
 impl Chip {
@@ -84,7 +88,7 @@ impl Chip {
                 cycle: 0,
                 sent: None,
             },
-            resting: false,
+            pace: None,
         })
     }
 
@@ -150,6 +154,14 @@ impl Chip {
         }
     }
 
+    // Whether the instruction at the program counter is plain.
+    #[inline(always)]
+    pub(crate) fn is_plain(&self) -> bool
+        ensures { result ≡ is_plain (instr_at self.now.image self.now.cpu.pc) }
+    {
+        self.program.is_plain(self.passing.cpu.pc)
+    }
+
     // The instruction at the program counter, or the reserved opcode.
     #[inline(always)]
     fn fetch(&self) -> Attempt
@@ -159,6 +171,46 @@ impl Chip {
             None => Attempt::Refusing,
             Some(instr) => Attempt::Executing(instr),
         }
+    }
+
+    // How the devices go in the cycles of a plain step, where that is known and no further frame comes.
+    #[inline(always)]
+    pub(crate) fn pace_on(&self, draft: &Draft, extra: &[Timed]) -> Option<Pace>
+        requires { IsTrue draft.now.plain → KeepsOthers self.now.cpu draft.now.effect }
+        ensures { IfSome result (λ pace. GoesOn pace self.now extra.now draft.now.effect) }
+    {
+        if !draft.plain || !extra.is_empty() {
+            return None;
+        }
+        match self.pace {
+            None => None,
+            Some(pace) => {
+                cite_registers(&draft.effect.cpu);
+                if goes_on(pace, &self.passing.periph, &draft.effect) {
+                    Some(pace)
+                } else {
+                    None
+                }
+            }
+        }
+    }
+
+    // Performs the step of an effect, but for its puts, where the devices keep this pace: its cycles pass at once.
+    #[inline(always)]
+    pub(crate) fn go_on(&mut self, draft: &mut Draft, pace: Pace)
+        requires { (extra : List TimedFrame) × GoesOn pace self.old extra draft.old.effect }
+        ensures draft { IsDraftOf draft.new self.new.cpu }
+        ensures before { self.old.cycle ≤ 2 ^ 64 - 1 }
+        ensures chip { self.new ≡ record self.old {
+          cpu = gone_on pace draft.old.effect;
+          cycle = min (self.old.cycle + draft.old.effect.cycles) (2 ^ 64 - 1);
+        } }
+    {
+        pass_on(pace, &mut draft.effect);
+        self.passing.cycle = later(self.passing.cycle, draft.effect.cycles);
+        copy_cpu(&mut self.passing.cpu, &draft.effect.cpu);
+        draft.same = true;
+        self.pace = Some(pace);
     }
 
     // Performs the step of an effect, but for its puts: its changes, and then its cycles.
@@ -178,19 +230,11 @@ impl Chip {
             (changed_by self.old.cycle self.old.periph draft.old.effect) }
     {
         let start = self.passing.cycle;
-        let rests = rests_on(self.resting, &self.passing.cpu, &draft.effect, extra);
         copy_cpu(&mut self.passing.cpu, &draft.effect.cpu);
-        draft.same = rests;
-        if rests {
-            self.passing.cycle = later(start, draft.effect.cycles);
-            return Entries {
-                port: port_entry(start, &draft.effect),
-                sent: None,
-            };
-        }
+        draft.same = false;
         begin_sending(&mut self.passing.periph, &draft.effect);
         self.passing.sent = None;
-        self.resting = pass_cycles(&self.script, extra, draft.effect.cycles, &mut self.passing);
+        self.pace = pass_cycles(&self.script, extra, draft.effect.cycles, &mut self.passing);
         Entries {
             port: port_entry(start, &draft.effect),
             sent: self.passing.sent,
@@ -198,19 +242,28 @@ impl Chip {
     }
 }
 
-// Whether the devices rest after an effect as they did before it: no byte is to be sent, the registers stay that show
-// it, and no further frame comes.
+// Whether the devices keep their pace in the cycles of an effect.
 #[inline(always)]
-fn rests_on(rests: bool, cpu: &Cpu, effect: &Effect, extra: &[Timed]) -> bool
-    ensures rests { IsTrue result → IsTrue rests }
-    ensures line { IsTrue result → effect.now.sbuf ≡ None }
-    ensures registers { IsTrue result → looked_at cpu.now ≡ looked_at effect.now.cpu }
-    ensures alone { IsTrue result → length extra.now ≡ 0 }
+fn goes_on(pace: Pace, periph: &Periph, effect: &Effect) -> bool
+    requires { DevicesAre pace effect.now.cpu periph.now }
+    ensures { IsTrue result → DevicesGo pace periph.now effect.now }
 {
-    if !extra.is_empty() {
-        return false;
+    match pace {
+        Pace::Resting => true,
+        Pace::Counting => periph.only_counts(&effect.cpu, &ALL_HIGH, effect.cycles, true),
     }
-    rests && effect.sbuf.is_none() && look_alike(cpu, &effect.cpu)
+}
+
+// Passes the cycles of an effect at once.
+#[inline(always)]
+fn pass_on(pace: Pace, effect: &mut Effect)
+    requires { (p : PeriphState) × DevicesGo pace p effect.old }
+    ensures { effect.new ≡ record effect.old { cpu = gone_on pace effect.old } }
+{
+    match pace {
+        Pace::Resting => {}
+        Pace::Counting => count_on(effect.cycles, &mut effect.cpu),
+    }
 }
 
 // The number of the cycle after this number of cycles.
@@ -244,6 +297,7 @@ pub(crate) fn blank_draft() -> Draft
             cycles: 1,
         },
         same: false,
+        plain: false,
         told: Ok(NO_ENTRIES),
     }
 }

@@ -1,14 +1,15 @@
 //! The machine cycles of a step.
-ghost use Rattle.std.specs.Prelude.{◌≡◌, ◌≤◌, ◌+◌, ◌-◌, ◌^◌, [], ◌∷◌, ◌++◌, length, take, min, IsTrue};
+ghost use Rattle.std.specs.Prelude.{◌≡◌, ◌≤◌, ◌+◌, ◌-◌, ◌^◌, [], ◌∷◌, ◌++◌, length, take, min, IfSome, IsTrue};
 ghost use Rattle.std.specs.Prelude.{if◌then◌else◌};
-ghost use Rattle.m51_sim.specs.Cycles.{AreFew, Rests, cycle_passed, cycles_passed, first_sent, frames_in, inputs_of};
+ghost use Rattle.m51_sim.specs.Cycles.{AreFew, Counts, IsPaced, Rests, cycle_passed, cycles_passed, first_sent};
+ghost use Rattle.m51_sim.specs.Cycles.{frames_in, inputs_of};
 ghost use Rattle.m51_sim.specs.Cycles.{next_cycle, sent_in, with_extra};
 ghost use Rattle.m51_timers_uart.specs.Tick.{ticked};
 
 use m51_cells::Entry;
 use m51_flat::{Cpu, Pins};
 use m51_script::Script;
-use m51_timers_uart::{Frame, Periph, Sent};
+use m51_timers_uart::{Frame, Periph, Sent, count_on};
 
 /// A frame that arrives in a cycle.
 ///
@@ -24,8 +25,15 @@ pub struct Timed {
 // The most frames of one cycle that do not come from the script.
 const MOST_EXTRA: usize = 7;
 
+// How the devices go where the script has no lines: they rest, or they count.
+#[derive(Clone, Copy)]
+pub(crate) enum Pace {
+    Resting,
+    Counting,
+}
+
 // The levels that the outside gives the pins before the first PIN line.
-const ALL_HIGH: Pins = Pins { p: [0xFF; 4] };
+pub(crate) const ALL_HIGH: Pins = Pins { p: [0xFF; 4] };
 
 // The processor and the devices between two cycles of a step, the number of the cycle, and the byte that was sent in
 // the step.
@@ -183,7 +191,7 @@ fn skip_cycles(count: u8, passing: &mut Passing)
 
 // A processor has 128 registers, which proofs need.
 #[inline(always)]
-fn cite_registers(cpu: &Cpu)
+pub(crate) fn cite_registers(cpu: &Cpu)
     ensures { length cpu.now.regs ≡ 128 }
 {
     let _first = cpu.regs[0];
@@ -193,16 +201,21 @@ fn cite_registers(cpu: &Cpu)
 // frame comes. It answers whether it did; if not, nothing changes.
 #[inline(always)]
 fn count_cycles(script: &Script, extra: &[Timed], count: u8, passing: &mut Passing) -> bool
-    ensures { passing.new ≡ (if result
+    ensures passed { passing.new ≡ (if result
         then cycles_passed (with_extra extra.now (inputs_of script.now)) count passing.old else passing.old) }
+    ensures counts { IsTrue result → Counts script.now passing.new }
 {
     if !extra.is_empty() || !script.is_silent() {
         return false;
     }
     cite_registers(&passing.cpu);
-    if !passing.periph.count_on(&mut passing.cpu, &ALL_HIGH, count) {
+    if !passing
+        .periph
+        .only_counts(&passing.cpu, &ALL_HIGH, count, false)
+    {
         return false;
     }
+    count_on(count, &mut passing.cpu);
     skip_cycles(count, passing);
     true
 }
@@ -219,7 +232,15 @@ fn pass_each(script: &Script, extra: &[Timed], count: u8, passing: &mut Passing)
     }
 }
 
-// This number of machine cycles. It answers whether the devices are known to rest after them.
+// Whether the script has no lines, and the devices count.
+#[inline(always)]
+fn comes_to_count(script: &Script, passing: &Passing) -> bool
+    ensures { IsTrue result → Counts script.now passing.now }
+{
+    script.is_silent() && passing.periph.counts(&passing.cpu, &ALL_HIGH)
+}
+
+// This number of machine cycles. It answers how the devices go after them, where that is known.
 #[tactic(auto, using(crate::proofs::Quiet::rest_passes, crate::proofs::Quiet::rest_lasts))]
 #[inline(always)]
 pub(crate) fn pass_cycles(
@@ -227,18 +248,21 @@ pub(crate) fn pass_cycles(
     extra: &[Timed],
     count: u8,
     passing: &mut Passing,
-) -> bool
+) -> Option<Pace>
     requires { AreFew extra.now }
     ensures passed { passing.new ≡ cycles_passed (with_extra extra.now (inputs_of script.now)) count passing.old }
-    ensures rests { IsTrue result → Rests script.now passing.new }
+    ensures pace { IfSome result (λ pace. IsPaced pace script.now passing.new) }
 {
     if are_idle(script, extra, passing) {
         skip_cycles(count, passing);
-        return true;
+        return Some(Pace::Resting);
     }
     if count_cycles(script, extra, count, passing) {
-        return false;
+        return Some(Pace::Counting);
     }
     pass_each(script, extra, count, passing);
-    false
+    if comes_to_count(script, passing) {
+        return Some(Pace::Counting);
+    }
+    None
 }

@@ -1,5 +1,5 @@
 //! A board with one memory for all.
-ghost use Rattle.std.specs.Prelude.{◌≡◌, ◌≤◌, ℕ, [], List, IfErr, IfOk};
+ghost use Rattle.std.specs.Prelude.{◌≡◌, ◌≤◌, ℕ, [], List, IfErr, IfOk, IsTrue, true};
 ghost use Rattle.m51_cells.specs.declared.limits.TheConstants.{MOST_STEPS};
 ghost use Rattle.m51_cells.specs.Outside.{Rose};
 ghost use Rattle.m51_print.specs.Lines.{HasText};
@@ -8,13 +8,14 @@ ghost use Rattle.m51_sim.specs.Boards.{IsDraftOf, IsFlatStarted, flat_of, map_of
 ghost use Rattle.m51_sim.specs.Cycles.{inputs_of};
 ghost use Rattle.m51_sim.specs.Effects.{attempt_of};
 ghost use Rattle.m51_sim.specs.FlatMachine.{flat_effect, flat_machine, instr_effect, left_in, map_after};
+ghost use Rattle.m51_sim.specs.Plain.{is_plain_step};
 ghost use Rattle.m51_sim.specs.Report.{IsFlatReport};
 ghost use Rattle.m51_sim.specs.Run.{Ended, IsAdvance};
 ghost use Rattle.m51_irq.specs.Vectoring.{vectoring};
 
 use crate::attempt::Attempt;
 use crate::chip::{Chip, Draft, blank_draft, idle};
-use crate::runs::{Entries, RunEnd, Runnable, run};
+use crate::runs::{Entries, NO_ENTRIES, RunEnd, Runnable, run};
 use m51_cells::{Event, NoMemory};
 use m51_flat::{CellStore, Cpu, Effect, FlatRam, NoEffect, Put, Source, exec_into};
 use m51_irq::vector_into;
@@ -127,19 +128,30 @@ fn judge(chip: &Chip, memory: &FlatRam, draft: &mut Draft) -> Result<(), Event>
     requires { IsDraftOf draft.old chip.now.cpu }
     ensures value { left_in result draft.new.effect ≡ flat_effect chip.now.image chip.now.cpu (map_of memory.now)
         ((inputs_of chip.now.script).pins chip.now.cycle) (attempt_of chip.now.image chip.now.cpu) }
+    ensures plain { IsTrue draft.new.plain → is_plain_step (attempt_of chip.now.image chip.now.cpu) ≡ true }
     ensures text { IfErr result (HasText 0) }
 {
     match chip.attempt() {
         Attempt::Vectoring(source) => {
+            draft.plain = false;
             take(&mut draft.effect, chip.cpu(), memory, source);
             Ok(())
         }
         Attempt::Idling => {
+            draft.plain = false;
             idle(&mut draft.effect, chip.cpu());
             Ok(())
         }
-        Attempt::Executing(instr) => execute(chip, memory, &instr, draft),
-        Attempt::Refusing => Err(Event::Reserved { at: chip.pc() }),
+        Attempt::Executing(instr) => {
+            let plain = chip.is_plain();
+            let answer = execute(chip, memory, &instr, draft);
+            draft.plain = plain;
+            answer
+        }
+        Attempt::Refusing => {
+            draft.plain = false;
+            Err(Event::Reserved { at: chip.pc() })
+        }
     }
 }
 
@@ -194,7 +206,13 @@ fn advance(chip: &mut Chip, memory: &mut FlatRam, draft: &mut Draft) -> Result<E
     match judge(chip, memory, draft) {
         Ok(()) => {
             put_both(memory, &draft.effect);
-            Ok(chip.pass(draft, &[]))
+            match chip.pace_on(draft, &[]) {
+                Some(pace) => {
+                    chip.go_on(draft, pace);
+                    Ok(NO_ENTRIES)
+                }
+                None => Ok(chip.pass(draft, &[])),
+            }
         }
         Err(event) => {
             draft.same = false;

@@ -1,5 +1,5 @@
 //! The result of a step over the memories of a monitor, and the change of these.
-ghost use Rattle.std.specs.Prelude.{◌≡◌, ◌+◌, ◌%◌, ℕ, Some, Err, IfErr, IfOk, length, true};
+ghost use Rattle.std.specs.Prelude.{◌≡◌, ◌+◌, ◌%◌, ℕ, Some, Err, IfErr, IfOk, IsTrue, length, true};
 ghost use Rattle.m51_isa.specs.Table.{length_of};
 ghost use Rattle.m51_cells.specs.declared.event.Event.TheVariants.{Reserved, Transfer as EventTransfer};
 ghost use Rattle.m51_cells.specs.declared.event.Why.TheVariants.{PastEnd};
@@ -21,6 +21,7 @@ ghost use Rattle.m51_print.specs.Lines.{HasText};
 ghost use Rattle.m51_sim.specs.Boards.{IsDraftOf, IsInOrder, held_memory, stores_read};
 ghost use Rattle.m51_sim.specs.Cycles.{inputs_of};
 ghost use Rattle.m51_sim.specs.Effects.{attempt_of, idle_effect};
+ghost use Rattle.m51_sim.specs.Plain.{is_plain_step};
 ghost use Rattle.m51_sim.specs.Ready.{AreOpen, IsOutcomePrepared, MayCommit};
 ghost use Rattle.m51_sim.specs.SeparateMachine.{cells_of, concludes, instr_outcome, lie_inside, memory_after};
 ghost use Rattle.m51_sim.specs.SeparateMachine.{separate_effect, unless_past_end, unwritten_in, with_move};
@@ -47,40 +48,14 @@ pub(crate) fn cite_stores(monitor: &Monitor)
     cite(monitor.layout().placed());
 }
 
-// Whether the unit covers the address.
-fn is_inside(layout: &Layout, unit: u16, address: u16) -> bool
-    ensures { result ≡ is_at (unit_found layout.now address) unit }
-{
-    match layout.unit_at(address) {
-        None => false,
-        Some(other) => other == unit,
-    }
-}
-
-// Cites that the first byte of an instruction lies in the current unit, which covers the program counter.
-#[inline(always)]
-fn cite_first(monitor: &Monitor, pc: u16)
-    requires { IsUnitAt monitor.now.layout pc (current monitor.now.records) }
-    ensures { lie_inside monitor.now.layout (current monitor.now.records) pc 1 ≡ true }
-{
-    cite(monitor.layout().unit_at(pc));
-}
-
-// Whether `count` bytes from the program counter on lie in the current unit. The first is known to.
-#[tactic(auto, using(crate::proofs::Inside::one_outside, crate::proofs::Inside::fewer_inside))]
+// Whether `count` bytes from the program counter on lie in the current unit.
 #[inline(always)]
 fn lie_inside(monitor: &Monitor, pc: u16, count: u8) -> bool
     requires { IsUnitAt monitor.now.layout pc (current monitor.now.records) }
     ensures { result ≡ lie_inside monitor.now.layout (current monitor.now.records) pc count }
 {
-    cite_first(monitor, pc);
-    let unit = monitor.current();
-    for index in 1..count {
-        if !is_inside(monitor.layout(), unit, pc.wrapping_add(u16::from(index))) {
-            return false;
-        }
-    }
-    true
+    cite_stores(monitor);
+    monitor.holds(pc, count)
 }
 
 // The event of an instruction whose bytes do not all lie in the current unit.
@@ -270,13 +245,28 @@ pub(crate) fn judge(monitor: &Monitor, chip: &Chip, draft: &mut Draft) -> Result
         (held_memory monitor.now) ((inputs_of chip.now.script).pins chip.now.cycle)
         (attempt_of chip.now.image chip.now.cpu) }
     ensures may { IfOk (with_move draft.new.effect result) (MayCommit monitor.now chip.now.cpu) }
+    ensures plain { IsTrue draft.new.plain → is_plain_step (attempt_of chip.now.image chip.now.cpu) ≡ true }
     ensures text { IfErr result (HasText (length monitor.now.layout.placed)) }
 {
     match chip.attempt() {
-        Attempt::Vectoring(source) => vectoring(monitor, chip.cpu(), source, &mut draft.effect),
-        Attempt::Idling => Ok(idle_step(monitor, chip.cpu(), &mut draft.effect)),
-        Attempt::Executing(instr) => execute(monitor, chip, &instr, draft),
-        Attempt::Refusing => Err(refuse(monitor, chip.pc())),
+        Attempt::Vectoring(source) => {
+            draft.plain = false;
+            vectoring(monitor, chip.cpu(), source, &mut draft.effect)
+        }
+        Attempt::Idling => {
+            draft.plain = false;
+            Ok(idle_step(monitor, chip.cpu(), &mut draft.effect))
+        }
+        Attempt::Executing(instr) => {
+            let plain = chip.is_plain();
+            let answer = execute(monitor, chip, &instr, draft);
+            draft.plain = plain;
+            answer
+        }
+        Attempt::Refusing => {
+            draft.plain = false;
+            Err(refuse(monitor, chip.pc()))
+        }
     }
 }
 

@@ -267,7 +267,7 @@ module _ (one other : Cpu) (h : looked_at one ≡ looked_at other) where
       rw (timer2, power) refl
 
 -- with the same registers they count as before
-still_counting : (one other : Cpu) → looked_at one ≡ looked_at other → (ext : Pins) (p : Periph)
+pub still_counting : (one other : Cpu) → looked_at one ≡ looked_at other → (ext : Pins) (p : Periph)
     → AreCounting one ext p → AreCounting other ext p
 still_counting one other h ext p c = record {
   timer0 = sym (plain0_same one other h) ∙ c.timer0;
@@ -458,6 +458,12 @@ unfolding with_latch has_register
 overwritten cpu a b c d e f =
     ap (λ (rs : List ℕ). record cpu { regs = rs })
     (replaced cpu.regs 10 11 76 a b c d e f (λ h. cc h) (λ h. cc h) (λ h. cc h))
+
+-- they count on
+pub counting_lasts : (n : ℕ) (cpu : Cpu) (ext : Pins) (p : Periph) → AreCounting cpu ext p
+    → AreCounting (counted_on n cpu) ext p
+counting_lasts n cpu ext p h =
+    still_counting cpu (counted_on n cpu) (sym (looked_kept cpu (counted_on n cpu) (counted_keeps n cpu))) ext p h
 
 -- after some of these cycles
 module _ (k : ℕ) (cpu : Cpu) (size : length cpu.regs ≡ 128) where

@@ -5,7 +5,6 @@ mod counting;
 mod external;
 mod laws;
 mod levels;
-mod looking;
 mod only_counting;
 mod periph;
 mod receiving;
@@ -18,6 +17,6 @@ pub use laws::{
     ninth_bits_are_apart, one_bit_passes, one_byte_is_sent, the_rest_is_kept, timer_0_is_told,
     timer_1_counts_cycles, timers_count_up,
 };
-pub use looking::look_alike;
+pub use only_counting::count_on;
 pub use periph::{Periph, Sent};
 pub use receiving::Frame;

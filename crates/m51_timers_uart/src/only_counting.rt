@@ -127,10 +127,13 @@ pub(crate) fn all_fit(count: u8, cpu: &Cpu) -> bool
     timer0 && timer1 && timer2
 }
 
-/// Adds this number of cycles to the low byte of each timer that runs.
+/// Passes this number of machine cycles at once in which the devices only count: it is added to the low byte of each
+/// timer that runs.
+///
+/// Source: own choice ("Cycles in which nothing happens").
 #[tactic(auto, unfolding(crate::specs::OnlyCounting::counted_on))]
 #[inline(always)]
-pub(crate) fn count_on(count: u8, cpu: &mut Cpu)
+pub fn count_on(count: u8, cpu: &mut Cpu)
     requires low0 { nat_le (low0_after count cpu.old) 255 ≡ true }
     requires low1 { nat_le (low1_after count cpu.old) 255 ≡ true }
     requires low2 { nat_le (low2_after count cpu.old) 255 ≡ true }

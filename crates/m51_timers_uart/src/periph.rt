@@ -1,6 +1,6 @@
 //! The devices, and one machine cycle of them.
-ghost use Rattle.std.specs.Prelude.{◌≡◌, ◌++◌, ◌↔◌, ◌&&◌, IsTrue, nat_le, if◌then◌else◌};
-ghost use Rattle.m51_timers_uart.specs.OnlyCounting.{AreCounting, OnlyCount, counted_on, line_waits, low0_after};
+ghost use Rattle.std.specs.Prelude.{◌≡◌, ◌++◌, ◌↔◌, ◌&&◌, IsTrue, nat_le};
+ghost use Rattle.m51_timers_uart.specs.OnlyCounting.{AreCounting, OnlyCount, line_waits, low0_after};
 ghost use Rattle.m51_timers_uart.specs.OnlyCounting.{low1_after, low2_after};
 ghost use Rattle.m51_timers_uart.specs.Resting.{AreResting};
 ghost use Rattle.m51_timers_uart.specs.Sending.{begun};
@@ -8,9 +8,7 @@ ghost use Rattle.m51_timers_uart.specs.Tick.{clocks_rest, clocks_ticked, reset_p
 
 use crate::external::{externals_rest, none_asks, tick_externals};
 use crate::levels::{Levels, read_levels};
-use crate::only_counting::{
-    all_fit, count_on, is_timer0_plain, is_timer1_plain, is_timer2_plain, waits,
-};
+use crate::only_counting::{all_fit, is_timer0_plain, is_timer1_plain, is_timer2_plain, waits};
 use crate::receiving::{Frame, receive_both};
 use crate::sending::{start, tick_sending};
 use crate::timer2::{tick_timer2, timer2_rests};
@@ -149,23 +147,29 @@ impl Periph {
         clocks_rest(self, cpu) && levels_stay(&levels) && externals_rest(cpu, &levels)
     }
 
-    /// Passes this number of machine cycles in which no frame arrives at once, if these are the levels outside and the
-    /// devices only count: each timer that runs counts each cycle, and none reaches the end of its low byte; no byte
-    /// moves on its way, no level is another than at the last tick, the pins of the external interrupts are 1, and no
-    /// request of them is kept. It answers whether it did; if not, nothing changes.
+    /// The devices count if these are the levels outside: each timer that runs counts each cycle, no level is another
+    /// than at the last tick, the pins of the external interrupts are 1, and no request of them is kept.
     ///
     /// Source: own choice ("Cycles in which nothing happens").
     #[inline(always)]
-    pub fn count_on(&self, cpu: &mut Cpu, ext: &Pins, count: u8) -> bool
-        ensures answer { IsTrue result ↔ OnlyCount count cpu.old ext.now self.now }
-        ensures counted { cpu.new ≡ (if result then counted_on count cpu.old else cpu.old) }
+    pub fn counts(&self, cpu: &Cpu, ext: &Pins) -> bool
+        ensures { IsTrue result ↔ AreCounting cpu.now ext.now self.now }
+    {
+        counts(self, cpu, ext)
+    }
+
+    /// In this number of machine cycles in which no frame arrives the devices only count, if these are the levels
+    /// outside: they count, no timer reaches the end of its low byte, and no byte moves on its way. `known` says that
+    /// they are known to count.
+    ///
+    /// Source: own choice ("Cycles in which nothing happens").
+    #[inline(always)]
+    pub fn only_counts(&self, cpu: &Cpu, ext: &Pins, count: u8, known: bool) -> bool
+        requires { IsTrue known → AreCounting cpu.now ext.now self.now }
+        ensures { IsTrue result ↔ OnlyCount count cpu.now ext.now self.now }
     {
         // What fails most often is asked first.
-        if !last_for(self, cpu, count) || !counts(self, cpu, ext) {
-            return false;
-        }
-        count_on(count, cpu);
-        true
+        last_for(self, cpu, count) && (known || counts(self, cpu, ext))
     }
 
     /// One machine cycle: timers 0 and 1, timer 2, sending, receiving, the external interrupts. `ext` are the levels

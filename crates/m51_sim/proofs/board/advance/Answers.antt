@@ -1,6 +1,9 @@
-use Rattle.m51_sim.proofs.Common.{ap, Allowed, Separate, held_memory, inputs_of, with_extra}
+use Rattle.m51_sim.proofs.Common.{None, ap, Allowed, Separate, held_memory, inputs_of, with_extra}
 use Rattle.m51_sim.proofs.Fitting.{order_after}
-use Rattle.m51_sim.proofs.Passes.{IsPassed, passed_keeps, step_done, step_stopped}
+use Rattle.m51_sim.specs.Effects.{attempt_of}
+use Rattle.m51_sim.proofs.Passes.{passed_keeps, step_done, step_stopped}
+use Rattle.m51_sim.proofs.Plain.{separate_keeps}
+use Rattle.m51_sim.proofs.Resting.{gone}
 use Rattle.m51_sim.proofs.board.advance.Goals as goal
 
 pub commit-requires-clause-judged : goal.commit-requires-clause-judged
@@ -15,27 +18,58 @@ commit-requires-clause-address c = c.in-Ok.ensures.may.address
 pub commit-requires-clause-level : goal.commit-requires-clause-level
 commit-requires-clause-level c = c.in-Ok.ensures.may.level
 
-pub returns-in-Ok-clause-order : goal.returns-in-Ok-clause-order
-returns-in-Ok-clause-order c =
+pub pace_on-requires : goal.pace_on-requires
+pace_on-requires c = λ plain.
+    let chip = c.args.chip.now in
+    let allowed : Allowed = record { effect = c.judge.new.draft.effect; step = c.in-Ok.step } in
+    separate_keeps c.args.monitor.now.layout chip.image chip.cpu (held_memory c.args.monitor.now)
+    ((inputs_of chip.script).pins chip.cycle) (attempt_of chip.image chip.cpu) allowed (c.in-Ok.ensures.plain plain)
+    c.in-Ok.ensures.value
+
+pub go_on-requires : goal.go_on-requires
+go_on-requires c = (c.args.extra.now, c.in-Some.ensures)
+
+pub returns-in-Some-clause-order : goal.returns-in-Some-clause-order
+returns-in-Some-clause-order c =
     let inputs = with_extra c.args.extra.now (inputs_of c.args.chip.now.script) in
     let allowed : Allowed = record { effect = c.judge.new.draft.effect; step = c.in-Ok.step } in
-    let passed : IsPassed inputs c.args.chip.now c.pass-told.new.self allowed.effect c.pass-told.result =
-    record { port = c.pass-told.ensures.port; passed = c.pass-told.ensures.passed } in
-    order_after c.args.monitor.now c.commit.new.monitor c.args.chip.now.cpu c.pass-told.new.self.cpu allowed
+    order_after c.args.monitor.now c.commit.new.monitor c.args.chip.now.cpu c.go_on.new.self.cpu allowed
     c.cite_stores.ensures.sound c.cite_stores.ensures.records c.requires.order c.in-Ok.ensures.may
     c.commit.ensures.layout (ap (λ (m : Separate). m.records) c.commit.ensures.memory)
-    (passed_keeps inputs c.args.chip.now c.pass-told.new.self allowed.effect c.pass-told.result passed)
+    (passed_keeps inputs c.args.chip.now c.go_on.new.self allowed.effect (record { port = None; sent = None })
+    (gone c.in-Some.pace c.args.chip.now c.go_on.new.self c.args.extra.now allowed.effect c.go_on.ensures.before
+    c.in-Some.ensures c.go_on.ensures.chip))
 
-pub returns-in-Ok-clause-step : goal.returns-in-Ok-clause-step
-returns-in-Ok-clause-step c =
+pub returns-in-Some-clause-step : goal.returns-in-Some-clause-step
+returns-in-Some-clause-step c =
     let inputs = with_extra c.args.extra.now (inputs_of c.args.chip.now.script) in
-    rw c.keep_entries.ensures.told
+    let allowed : Allowed = record { effect = c.judge.new.draft.effect; step = c.in-Ok.step } in
+    step_done c.args.monitor.now.layout c.args.chip.now.image inputs c.args.chip.now (held_memory c.args.monitor.now)
+    c.go_on.new.self (held_memory c.commit.new.monitor) allowed (record { port = None; sent = None })
+    c.in-Ok.ensures.value c.commit.ensures.memory
+    (gone c.in-Some.pace c.args.chip.now c.go_on.new.self c.args.extra.now allowed.effect c.go_on.ensures.before
+    c.in-Some.ensures c.go_on.ensures.chip)
+
+pub returns-in-None-clause-order : goal.returns-in-None-clause-order
+returns-in-None-clause-order c =
+    let inputs = with_extra c.args.extra.now (inputs_of c.args.chip.now.script) in
+    let allowed : Allowed = record { effect = c.judge.new.draft.effect; step = c.in-Ok.step } in
+    let passed = c.pass_slowly.ensures.passed in
+    order_after c.args.monitor.now c.commit.new.monitor c.args.chip.now.cpu c.pass_slowly.new.chip.cpu allowed
+    c.cite_stores.ensures.sound c.cite_stores.ensures.records c.requires.order c.in-Ok.ensures.may
+    c.commit.ensures.layout (ap (λ (m : Separate). m.records) c.commit.ensures.memory)
+    (passed_keeps inputs c.args.chip.now c.pass_slowly.new.chip allowed.effect passed.0 passed.2)
+
+pub returns-in-None-clause-step : goal.returns-in-None-clause-step
+returns-in-None-clause-step c =
+    let inputs = with_extra c.args.extra.now (inputs_of c.args.chip.now.script) in
+    let passed = c.pass_slowly.ensures.passed in
+    rw passed.1
     (step_done c.args.monitor.now.layout c.args.chip.now.image inputs c.args.chip.now
     (held_memory c.args.monitor.now)
-    c.pass-told.new.self (held_memory c.commit.new.monitor)
-    (record { effect = c.judge.new.draft.effect; step = c.in-Ok.step }) c.pass-told.result
-    c.in-Ok.ensures.value c.commit.ensures.memory
-    (record { port = c.pass-told.ensures.port; passed = c.pass-told.ensures.passed }))
+    c.pass_slowly.new.chip (held_memory c.commit.new.monitor)
+    (record { effect = c.judge.new.draft.effect; step = c.in-Ok.step }) passed.0
+    c.in-Ok.ensures.value c.commit.ensures.memory passed.2)
 
 pub returns-in-Err-clause-step : goal.returns-in-Err-clause-step
 returns-in-Err-clause-step c =

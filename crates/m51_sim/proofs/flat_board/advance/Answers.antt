@@ -1,20 +1,50 @@
-use Rattle.m51_sim.proofs.Common.{subst, map_of, Inputs, inputs_of}
-use Rattle.m51_sim.proofs.Passes.{IsPassed, flat_done, flat_stopped, no_extra, none_are_few}
+use Rattle.m51_sim.proofs.Common.{[], None, subst, map_of, ChipState, Effect, Entries, Inputs, inputs_of, with_extra}
+use Rattle.m51_sim.specs.Boards.{IsPassed}
+use Rattle.m51_sim.specs.Effects.{attempt_of}
+use Rattle.m51_sim.proofs.Passes.{flat_done, flat_stopped, no_extra, none_are_few}
+use Rattle.m51_sim.proofs.Plain.{flat_keeps}
+use Rattle.m51_sim.proofs.Resting.{gone}
 use Rattle.m51_sim.proofs.flat_board.advance.Goals as goal
+
+-- the cycles of a step without further frames
+alone : (chip new : ChipState) (e : Effect) (told : Entries)
+    → IsPassed (with_extra [] (inputs_of chip.script)) chip new e told
+    → IsPassed (inputs_of chip.script) chip new e told
+alone chip new e told h =
+    subst (λ (inputs : Inputs). IsPassed inputs chip new e told) (no_extra (inputs_of chip.script)) h
+
+pub pace_on-requires : goal.pace_on-requires
+pace_on-requires c = λ plain.
+    let chip = c.args.chip.now in
+    flat_keeps chip.image chip.cpu (map_of c.args.memory.now) ((inputs_of chip.script).pins chip.cycle)
+    (attempt_of chip.image chip.cpu) c.judge.new.draft.effect (c.in-Ok.ensures.plain plain) c.in-Ok.ensures.value
+
+pub go_on-requires : goal.go_on-requires
+go_on-requires c = ([], c.in-Some.ensures)
 
 pub pass-requires : goal.pass-requires
 pass-requires c = none_are_few
 
-pub returns-in-Ok-clause-step : goal.returns-in-Ok-clause-step
-returns-in-Ok-clause-step c =
+pub returns-in-Some-clause-step : goal.returns-in-Some-clause-step
+returns-in-Some-clause-step c =
+    let chip = c.args.chip.now in
+    let new = c.go_on.new.self in
+    let e = c.judge.new.draft.effect in
+    let told : Entries = record { port = None; sent = None } in
+    flat_done chip.image (inputs_of chip.script) chip (map_of c.args.memory.now) new (map_of c.put_both.new.memory) e
+    told c.in-Ok.ensures.value c.put_both.ensures
+    (alone chip new e told
+    (gone c.in-Some.pace chip new [] e c.go_on.ensures.before c.in-Some.ensures c.go_on.ensures.chip))
+
+pub returns-in-None-clause-step : goal.returns-in-None-clause-step
+returns-in-None-clause-step c =
     let chip = c.args.chip.now in
     let new = c.pass.new.self in
     let e = c.judge.new.draft.effect in
     let told = c.pass.result in
-    let passed = subst (λ (inputs : Inputs). IsPassed inputs chip new e told) (no_extra (inputs_of chip.script))
-    (record { port = c.pass.ensures.port; passed = c.pass.ensures.passed }) in
     flat_done chip.image (inputs_of chip.script) chip (map_of c.args.memory.now) new (map_of c.put_both.new.memory) e
-    told c.in-Ok.ensures.value c.put_both.ensures passed
+    told c.in-Ok.ensures.value c.put_both.ensures
+    (alone chip new e told (record { port = c.pass.ensures.port; passed = c.pass.ensures.passed }))
 
 pub returns-in-Err-clause-step : goal.returns-in-Err-clause-step
 returns-in-Err-clause-step c =

@@ -29,9 +29,14 @@ def exported(text, stated):
     return found
 
 
-def of_files(name, old, new, stated):
-    """What differs between two texts of a lemma file, and the names that the second has no more."""
+def of_files(name, old, new, stated, above=None):
+    """What differs between two texts of a lemma file, and the names that the second has no more. With the names that
+    crates `above` import, only these are compared."""
     faults, gone = [], []
+    if above is not None:
+        before, after = exported(old, set()), exported(new, set())
+        differ = [lemma for lemma in sorted(above) if before.get(lemma) != after.get(lemma)]
+        return [f'{name}: {lemma} is not the same' for lemma in differ], gone
     before, after = exported(old, stated), exported(new, stated)
     for lemma, said in before.items():
         if lemma not in after:
@@ -56,11 +61,26 @@ def words_of(crates):
                          for path in crates.glob(f'*/{part}/**/*') if path.suffix in ('.antt', '.rt')))
 
 
-def of_crate(old, new):
+def imported_above(crate):
+    """The names that the crates beside a crate import from its lemma files, by file."""
+    found = {}
+    for other in crate.parent.iterdir():
+        for path in other.glob('**/*.antt') if other != crate else []:
+            for whole in imported(path.read_text(encoding='utf-8')).values():
+                module, _, name = whole.rpartition('.')
+                if module.startswith(f'Rattle.{crate.name}.proofs.'):
+                    found.setdefault('/'.join(module.split('.')[2:]) + '.antt', set()).add(name)
+    return found
+
+
+def of_crate(old, new, is_above=False):
     """What differs between two states of a crate, each in a folder of crates; and the lemmas that are gone, each with
-    its file. A lemma may be gone if no file of the crates beside the second names it."""
+    its file. A lemma may be gone if no file of the crates beside the second names it. If only what crates above import
+    counts, lists of lemma files are not compared, nor are lemmas that none of them names."""
     faults = []
     files = {*kept_files(old), *kept_files(new)}
+    files -= {file for file in files if is_above and file.parts[0] == 'proofs'}
+    above = imported_above(new) if is_above else None
     for file in sorted(files):
         texts = [(crate / file).read_bytes() if (crate / file).is_file() else None for crate in (old, new)]
         if texts[0] != texts[1]:
@@ -71,7 +91,8 @@ def of_crate(old, new):
         texts = [(crate / file).read_text(encoding='utf-8') if (crate / file).is_file() else '' for crate in (old, new)]
         if texts[0] != texts[1]:
             stated = stated or definitions(old)
-            found, lost = of_files(f'{new.name}/{file}', *texts, stated)
+            named = above.get(file.as_posix(), set()) if is_above else None
+            found, lost = of_files(f'{new.name}/{file}', *texts, stated, named)
             faults += found
             gone += [(file, lemma) for lemma in lost]
     left = words_of(new.parent) if gone else set()

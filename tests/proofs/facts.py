@@ -5,7 +5,7 @@ from lemmas import arguments, flat, named, words
 
 # Words that a tactic has already, or that are no lemma.
 NO_FACTS = {'arith', 'common_steps', 'refl', 'rules', 'nat_tests', 'tt', 'absurd', 'zero', 'suc', 'inl', 'inr', 'true',
-            'false', '_', '?', '[]', 'None', 'Some'}
+            'false', '_', '?', '[]', 'None', 'Some', 'as'}
 TACTICS = {'omega', 'cc', 'grind', 'search', 'simp', 'rw', 'assumption'}
 # Words whose arguments are read each by itself, from the one of that number on.
 THROUGH = {**dict.fromkeys([*TACTICS, 'sym', 'absurd', 'inl', 'inr', '←'], 1), 'ap': 2, 'subst': 2, 'elim': 1}

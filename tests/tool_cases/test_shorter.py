@@ -205,6 +205,18 @@ class Shorter(Folder):
             self.assertEqual(status, 0 if is_same else 1, said)
             (self.crate / file).write_text(text, encoding='utf-8')
 
+    def test_same_above(self):
+        """With --above a lemma may change that no other crate imports."""
+        (self.crate.parent / 'upper' / 'proofs').mkdir(parents=True)
+        uses = self.crate.parent / 'upper' / 'proofs' / 'Uses.antt'
+        (self.crate / 'proofs' / 'Sums.antt').write_text(SUMS.replace('sum m one ≡', 'sum one m ≡'), encoding='utf-8')
+        for name, is_same in (('other', True), ('right', False)):
+            uses.write_text(f'use Rattle.sum.proofs.Sums.{{{name}}}\n', encoding='utf-8')
+            shutil.copytree(self.path('top', 'crates'), self.path(name))
+            (pathlib.Path(self.path(name)) / 'sum' / 'proofs' / 'Sums.antt').write_text(SUMS, encoding='utf-8')
+            status, said = self.call('same', '--above', self.path(name), self.path('top'))
+            self.assertEqual(status, 0 if is_same else 1, said)
+
     def test_a_record_in_a_body(self):
         """A record that a body makes is no type, though it begins a line."""
         text = 'pub pair : (n : ℕ) → Pair n\npair n =\n    record { one = n; other = two }\n'

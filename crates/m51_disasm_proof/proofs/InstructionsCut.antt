@@ -13,11 +13,6 @@ use Rattle.std.specs.Fmt.{digit_glyph}
 use Rattle.m51_lex.specs.Characters.{is_name_byte, is_sign}
 use Rattle.m51_lex.specs.Number.{number_of}
 use Rattle.m51_lex.specs.declared.token.What.TheVariants as what
-use Rattle.m51_isa.specs.Arithmetic.{arithmetic}
-use Rattle.m51_isa.specs.Branches.{branches}
-use Rattle.m51_isa.specs.Jumps.{jumps}
-use Rattle.m51_isa.specs.Logic.{logic}
-use Rattle.m51_isa.specs.Moves.{moves}
 use Rattle.m51_isa.specs.Search.{has_row, search}
 use Rattle.m51_isa.specs.Spelling as isa
 use Rattle.m51_isa.specs.Spelling.{look_of}
@@ -242,7 +237,7 @@ found_row i = let x = text_of i in search x.mnemonic (look_of x.first) (look_of 
 
 -- it has the length of the row
 found_length : (i : Instr) → option_map row_length (found_row i) ≡ Some (row_length i)
-unfolding arithmetic logic moves branches jumps
+unfolding search
 found_length Nop = refl
 found_length i = refl
 

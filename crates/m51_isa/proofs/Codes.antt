@@ -1,11 +1,11 @@
 -- An instruction's code is its row's bytes with zeros after them, and is decoded as that instruction.
-use Rattle.std.proofs.Common.{◌≡◌, ℕ, ◌≤◌, List, [], ◌∷◌, length, take, refl, ◌∙◌, sym, subst, arith, lit≤}
-use Rattle.std.specs.Prelude.{slice_index, Option, Some, None, IfSome, IsNone}
+use Rattle.std.proofs.Common.{◌≡◌, ℕ, ◌≤◌, List, [], ◌∷◌, length, take, refl, ◌∙◌, sym, ap, subst, arith, lit≤}
+use Rattle.std.specs.Prelude.{Option, Some}
 use Rattle.m51_isa.specs.declared.instr.Instr.{Instr}
 use Rattle.m51_isa.specs.declared.instr.Instr.TheVariants.{Nop}
-use Rattle.m51_isa.specs.Table.{BeginsWith, IsRowAt, decoded, decoded_at, encoded, length_of, padded}
+use Rattle.m51_isa.specs.Table.{BeginsWith, IsRowAt, OperandsFit, decoded, encoded, length_of, padded}
 use Rattle.m51_isa.specs.Laws.{HasShortRow, RowsAreShort, CodesDecode, FrontsAgree}
-use Rattle.m51_isa.proofs.Distinct.{rows_decode}
+use Rattle.m51_isa.proofs.Distinct.{rows_decode, some_injective}
 
 short_row : (i : Instr) → 1 ≤ length_of i → length_of i ≤ 3 → HasShortRow i
 short_row i h k = record { one = h; three = k }
@@ -39,6 +39,16 @@ codes_decode i h =
     decoded_row (padded (encoded i)) i (length-padded (encoded i))
     (record { fits = h; begins = begins_padded (encoded i) (rows_are_short i).three })
 
+-- three bytes that are an instruction's, with zeros after them, begin with its row
+pub padded_row : (bytes : List ℕ) (i : Instr) → bytes ≡ padded (encoded i) → OperandsFit i → IsRowAt bytes i
+padded_row bytes i e h =
+    subst (λ bs. IsRowAt bs i) (sym e)
+    (record { fits = h; begins = begins_padded (encoded i) (rows_are_short i).three })
+
+-- two instructions with the same bytes are one
+pub one_code : (i j : Instr) → OperandsFit i → OperandsFit j → padded (encoded i) ≡ padded (encoded j) → i ≡ j
+one_code i j h k e = some_injective (sym (codes_decode i h) ∙ ap decoded e ∙ codes_decode j k)
+
 take_begun : (bytes front : List ℕ) → BeginsWith bytes front → take (length front) bytes ≡ front
 take_begun bytes [] h = refl
 take_begun [] (a ∷ front) h = absurd h
@@ -49,16 +59,6 @@ fronts_agree i bytes h = record {
   front = take_begun bytes (encoded i) h.begins;
   code = take_begun (padded (encoded i)) (encoded i) (begins_padded (encoded i) (rows_are_short i).three);
 }
-
-reserved_is_none : (first second third : ℕ) → first ≡ 0xA5 → None ≡ decoded_at first second third
-reserved_is_none first second third e = subst (λ first. None ≡ decoded_at first second third) (sym e) refl
-
--- an answer that is the row if one exists, and none only at the reserved opcode, is what is decoded
-pub decoded_is : (bytes : List ℕ) (answer : Option Instr) → length bytes ≡ 3 → IfSome answer (IsRowAt bytes)
-    → (IsNone answer → slice_index bytes 0 ≡ 0xA5) → answer ≡ decoded bytes
-decoded_is bytes (Some i) n h none = sym (decoded_row bytes i n h)
-decoded_is bytes None n h none =
-    reserved_is_none (slice_index bytes 0) (slice_index bytes 1) (slice_index bytes 2) (none refl)
 
 pub only_row : (bytes : List ℕ) (answer : Option Instr) → length bytes ≡ 3 → answer ≡ decoded bytes → (i : Instr)
     → IsRowAt bytes i → answer ≡ Some i

@@ -1,5 +1,5 @@
 -- No bytes begin with two rows: what is decoded is the instruction of the row.
-use Rattle.std.proofs.Common.{◌≡◌, ℕ, ◌+◌, ◌*◌, ◌/◌, ◌%◌, ◌<◌, zero, suc, List, [], ◌∷◌, Option, None, refl, sym, ap}
+use Rattle.std.proofs.Common.{◌≡◌, ℕ, ◌+◌, ◌*◌, ◌/◌, ◌%◌, ◌<◌, zero, suc, List, [], ◌∷◌, Option, refl, sym, ap}
 use Rattle.std.proofs.Common.{subst, ◌∙◌, arith, map, get_or}
 use Rattle.std.specs.Prelude.{Some}
 use Rattle.std.specs.List.{range_with_len}
@@ -21,12 +21,12 @@ of_register P p0 p1 p2 p3 p4 p5 p6 p7 (suc (suc (suc (suc (suc (suc (suc zero)))
 of_register P p0 p1 p2 p3 p4 p5 p6 p7 (suc (suc (suc (suc (suc (suc (suc (suc n)))))))) h = absurd (omega arith)
 
 -- two functions that give the same up to a number agree below it
-agree : (f g : ℕ → Option Instr) (count : ℕ)
+pub agree : {X : Type 0} (f g : ℕ → X) (count : ℕ)
     → map f (range_with_len 0 count) ≡ map g (range_with_len 0 count) → (n : ℕ) → n < count → f n ≡ g n
 agree f g count same n h =
-    let at_f = get_or-map-range_with_len f 0 count n n None h (omega arith) in
-    let at_g = get_or-map-range_with_len g 0 count n n None h (omega arith) in
-    sym at_f ∙ ap (λ xs. get_or xs n None) same ∙ at_g
+    let at_f = get_or-map-range_with_len f 0 count n n (f 0) h (omega arith) in
+    let at_g = get_or-map-range_with_len g 0 count n n (f 0) h (omega arith) in
+    sym at_f ∙ ap (λ xs. get_or xs n (f 0)) same ∙ at_g
 
 -- bytes that begin with these
 abbrev begun : List ℕ → List ℕ → List ℕ
@@ -112,7 +112,7 @@ rows_decode i first second third h =
     subst (λ bytes. decoded bytes ≡ Some i) (begun_is (first ∷ second ∷ third ∷ []) (encoded i) h.begins)
     (decodes first second third i h.fits)
 
-some_injective : {i j : Instr} → Some i ≡ Some j → i ≡ j
+pub some_injective : {i j : Instr} → Some i ≡ Some j → i ≡ j
 some_injective e = cc e
 
 pub one_row : OneRow

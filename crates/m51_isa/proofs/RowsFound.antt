@@ -2,12 +2,8 @@
 use Rattle.std.proofs.Common.{◌≡◌, Some, refl, ap, ◌∙◌}
 use Rattle.m51_isa.specs.declared.instr.Instr.{Instr}
 use Rattle.m51_isa.specs.declared.instr.Instr.TheVariants.{Nop}
-use Rattle.m51_isa.specs.Arithmetic.{arithmetic}
-use Rattle.m51_isa.specs.Logic.{logic}
-use Rattle.m51_isa.specs.Moves.{moves}
-use Rattle.m51_isa.specs.Branches.{branches}
-use Rattle.m51_isa.specs.Jumps.{jumps}
 use Rattle.m51_isa.specs.Filling.{with_numbers}
+use Rattle.m51_isa.specs.Search.{search}
 use Rattle.m51_isa.specs.Spelling.{text_of}
 use Rattle.m51_isa.specs.TextLaws.{HasNumbers, number_of_slot, read_text}
 
@@ -17,7 +13,7 @@ renumbered i =
     let t = text_of i in with_numbers i (number_of_slot t.first) (number_of_slot t.second) (number_of_slot t.third)
 
 found : (i : Instr) → read_text (text_of i) ≡ Some (renumbered i)
-unfolding arithmetic logic moves branches jumps
+unfolding search
 found Nop = refl
 found i = refl
 

@@ -1,22 +1,18 @@
 -- What is found by a mnemonic and by what the operands look like is a row that is written so.
-use Rattle.std.proofs.Common.{◌≡◌, ℕ, Bool, true, false, cond, List, [], ◌∷◌, Option, Some}
-use Rattle.std.proofs.Common.{None, map, refl, sym, subst, ap}
-use Rattle.std.specs.Prelude.{IfSome, option_map}
+use Rattle.std.proofs.Common.{◌≡◌, ℕ, Bool, true, false, cond, nat_eq, List, [], ◌∷◌, Some, refl, sym, ap, ◌∙◌}
+use Rattle.std.proofs.Common.{map, arith}
+use Rattle.std.specs.Prelude.{IfSome, ◌&&◌, slice_index_or}
+use Rattle.std.specs.List.{find}
 use Rattle.std.specs.Str.{bytes_eq}
-use Rattle.std.specs.Option.{option_or}
+use Rattle.std.proofs.lemmas.Grind.{common_steps}
 use Rattle.std.proofs.lemmas.Slice.Eq.{bytes_eq-Decides}
 use Rattle.m51_isa.specs.declared.instr.Instr.{Instr}
 use Rattle.m51_isa.specs.declared.look.Look.{Look}
 use Rattle.m51_isa.specs.declared.look.Look.TheVariants.{Nothing, A, Ab, C, Dptr, APc, ADptr, AtDptr, R, AtR, Imm}
 use Rattle.m51_isa.specs.declared.look.Look.TheVariants.{Plain, NotBit, Other}
-use Rattle.m51_isa.specs.Looks.{Mnemonic, found_in}
-use Rattle.m51_isa.specs.Arithmetic.{arithmetic_rows, arithmetic}
-use Rattle.m51_isa.specs.Logic.{logic_rows, logic}
-use Rattle.m51_isa.specs.Moves.{moves_rows, moves}
-use Rattle.m51_isa.specs.Branches.{branches_rows, branches}
-use Rattle.m51_isa.specs.Jumps.{jumps_rows, jumps}
+use Rattle.m51_isa.specs.Looks.{look_kind, number_in}
 use Rattle.m51_isa.specs.Spelling.{look_of, text_of}
-use Rattle.m51_isa.specs.Search.{search}
+use Rattle.m51_isa.specs.Search.{forms, is_written, search}
 use Rattle.m51_isa.specs.TextLaws.{HasRowText}
 
 -- a row is written as it is
@@ -25,85 +21,85 @@ pub as_is : (i : Instr)
     (look_of (text_of i).third) i
 as_is i = record { mnemonic = refl; first = refl; second = refl; third = refl }
 
--- all that an operand can look like, with this number
-abbrev looks : ℕ → List Look
-looks n =
-    Nothing ∷ A ∷ Ab ∷ C ∷ Dptr ∷ APc ∷ ADptr ∷ AtDptr ∷ R n ∷ AtR n ∷ Imm ∷ Plain ∷ NotBit ∷ Other ∷ []
+-- a look with this number of a register
+abbrev relook : ℕ → Look → Look
+relook n (R m) = R n
+relook n (AtR m) = AtR n
+relook n l = l
 
-of_looks : {X : Type 0} (f g : Look → X) → ((n : ℕ) → map f (looks n) ≡ map g (looks n)) → (a : Look) → f a ≡ g a
-of_looks f g same (R n) = cc (same n)
-of_looks f g same (AtR n) = cc (same n)
-of_looks f g same a = cc (same 0)
+abbrev of_kind : ℕ → ℕ → Look
+of_kind kind n = slice_index_or
+    (Nothing ∷ A ∷ Ab ∷ C ∷ Dptr ∷ APc ∷ ADptr ∷ AtDptr ∷ R n ∷ AtR n ∷ Imm ∷ Plain ∷ NotBit ∷ []) kind Other
 
--- what a function gives for all operands
-abbrev over : {X : Type 0} → (Look → Look → Look → X) → ℕ → ℕ → ℕ → List (List (List X))
-over f x y z = map (λ a. map (λ b. map (f a b) (looks z)) (looks y)) (looks x)
+by_kind : (n : ℕ) (l : Look) → of_kind (look_kind l) n ≡ relook n l
+by_kind n Nothing = refl
+by_kind n l = refl
 
-of_three : {X : Type 0} (f g : Look → Look → Look → X) → ((x y z : ℕ) → over f x y z ≡ over g x y z)
-    → (a b c : Look) → f a b c ≡ g a b c
-of_three f g same a b c =
-    of_looks (f a b) (g a b) (λ z.
-    of_looks (λ b. map (f a b) (looks z)) (λ b. map (g a b) (looks z)) (λ y.
-    of_looks (λ a. map (λ b. map (f a b) (looks z)) (looks y)) (λ a. map (λ b. map (g a b) (looks z)) (looks y)) (λ x.
-    same x y z) a) b) c
+own : (l : Look) → relook (number_in l) l ≡ l
+own Nothing = refl
+own l = refl
 
--- how a row is written
-abbrev RowText : Type 0
-RowText = List ℕ × Look × Look × Look
+-- a look of the kind of another, with its register, is that
+pub same_look : (l a : Look) → relook (number_in a) l ≡ l → look_kind l ≡ look_kind a → l ≡ a
+same_look l a h k =
+    let n : ℕ = number_in a in
+    sym h ∙ sym (by_kind n l) ∙ ap (λ kind. of_kind kind n) k ∙ by_kind n a ∙ own a
 
-abbrev written_as : Instr → RowText
-written_as i = ((text_of i).mnemonic, look_of (text_of i).first, look_of (text_of i).second, look_of (text_of i).third)
+pub four_true : (p q s t : Bool) → (p && q && s && t) ≡ true
+    → (p ≡ true) × (q ≡ true) × (s ≡ true) × (t ≡ true)
+four_true true true true t h = (refl, refl, refl, h)
+four_true true true false t h = absurd (cc h)
+four_true true false s t h = absurd (cc h)
+four_true false q s t h = absurd (cc h)
 
--- how the rows of a mnemonic are written, and how they are meant to be
-abbrev shown : Mnemonic → Look → Look → Look → Option RowText
-shown m a b c = option_map written_as (m.1 a b c)
+pub same_number : (m n : ℕ) → nat_eq m n ≡ true → m ≡ n
+same_number m n h = grind (arith, common_steps, h)
 
-abbrev meant : Mnemonic → Look → Look → Look → Option RowText
-meant m a b c = option_map (λ i. (m.0, a, b, c)) (m.1 a b c)
+-- the looks of a row, and the looks with these registers
+abbrev Looks : Type 0
+Looks = Look × Look × Look
 
--- of each of these mnemonics both are the same
-abbrev AreWritten : List Mnemonic → Type 0
-AreWritten ms = (x y z : ℕ) → map (λ m. over (shown m) x y z) ms ≡ map (λ m. over (meant m) x y z) ms
+abbrev looks_of : Instr → Looks
+looks_of i = (look_of (text_of i).first, look_of (text_of i).second, look_of (text_of i).third)
 
-row_written : (word : List ℕ) (a b c : Look) (o : Option Instr)
-    → option_map written_as o ≡ option_map (λ i. (word, a, b, c)) o → IfSome o (HasRowText word a b c)
-row_written word a b c None e = tt
-row_written word a b c (Some i) e =
-    let same : written_as i ≡ (word, a, b, c) = cc e in
-    record {
-      mnemonic = ap (λ (w : RowText). w.0) same;
-      first = ap (λ (w : RowText). w.1) same;
-      second = ap (λ (w : RowText). w.2) same;
-      third = ap (λ (w : RowText). w.3) same;
-    }
+abbrev relooks : ℕ → ℕ → ℕ → Instr → Looks
+relooks x y z i = (relook x (looks_of i).0, relook y (looks_of i).1, relook z (looks_of i).2)
 
-by_word : (m : Mnemonic) (word : List ℕ) (a b c : Look) (rest : Option Instr) (hit : Bool) → bytes_eq word m.0 ≡ hit
-    → IfSome (m.1 a b c) (HasRowText m.0 a b c) → IfSome rest (HasRowText word a b c)
-    → IfSome (cond hit (m.1 a b c) rest) (HasRowText word a b c)
-by_word m word a b c rest true e here more =
-    subst (λ v. IfSome (m.1 a b c) (HasRowText v a b c)) (sym ((bytes_eq-Decides word m.0).0 e)) here
-by_word m word a b c rest false e here more = more
+are_formed : (x y z : ℕ) → map (relooks x y z) (forms x y) ≡ map looks_of (forms x y)
+are_formed x y z = refl
 
-are_written : (ms : List Mnemonic) → AreWritten ms → (word : List ℕ) (a b c : Look)
-    → IfSome (found_in ms word a b c) (HasRowText word a b c)
-are_written [] same word a b c = tt
-are_written (m ∷ ms) same word a b c =
-    by_word m word a b c (found_in ms word a b c) (bytes_eq word m.0) refl
-    (row_written m.0 a b c (m.1 a b c) (of_three (shown m) (meant m) (λ x y z. cc (same x y z)) a b c))
-    (are_written ms (λ x y z. cc (same x y z)) word a b c)
+module _ (word : List ℕ) (a b c : Look) where
+  abbrev test : Instr → Bool
+  test = is_written word (look_kind a) (look_kind b) (look_kind c)
 
-either : (P : Instr → Type 0) (x y : Option Instr) → IfSome x P → IfSome y P → IfSome (option_or x y) P
-either P None y h k = k
-either P (Some i) y h k = h
+  abbrev formed : Instr → Looks
+  formed = relooks (number_in a) (number_in b) (number_in c)
+
+  written : (i : Instr) → formed i ≡ looks_of i → test i ≡ true → HasRowText word a b c i
+  written i h k =
+      let each = four_true (nat_eq (look_kind (looks_of i).0) (look_kind a))
+      (nat_eq (look_kind (looks_of i).1) (look_kind b)) (nat_eq (look_kind (looks_of i).2) (look_kind c))
+      (bytes_eq (text_of i).mnemonic word) k in
+      record {
+        mnemonic = (bytes_eq-Decides (text_of i).mnemonic word).0 each.3;
+        first = same_look (looks_of i).0 a (ap (λ (l : Looks). l.0) h) (same_number _ _ each.0);
+        second = same_look (looks_of i).1 b (ap (λ (l : Looks). l.1) h) (same_number _ _ each.1);
+        third = same_look (looks_of i).2 c (ap (λ (l : Looks). l.2) h) (same_number _ _ each.2);
+      }
+
+  by_test : (i : Instr) (among : List Instr) (hit : Bool) → test i ≡ hit → formed i ≡ looks_of i
+      → IfSome (find test among) (HasRowText word a b c)
+      → IfSome (cond hit (Some i) (find test among)) (HasRowText word a b c)
+  by_test i among true e h more = written i h e
+  by_test i among false e h more = more
+
+  found_among : (among : List Instr) → map formed among ≡ map looks_of among
+      → IfSome (find test among) (HasRowText word a b c)
+  found_among [] h = tt
+  found_among (i ∷ among) h = by_test i among (test i) refl (cc h) (found_among among (cc h))
 
 pub found_rows_are_written : (word : List ℕ) (a b c : Look) → IfSome (search word a b c) (HasRowText word a b c)
-unfolding arithmetic logic moves branches jumps
+unfolding search
 found_rows_are_written word a b c =
-    let P : Instr → Type 0 = HasRowText word a b c in
-    let by : (ms : List Mnemonic) → AreWritten ms → IfSome (found_in ms word a b c) P = λ ms same.
-    are_written ms same word a b c in
-    either P (arithmetic word a b c) _ (by arithmetic_rows (λ x y z. refl))
-    (either P (logic word a b c) _ (by logic_rows (λ x y z. refl))
-    (either P (moves word a b c) _ (by moves_rows (λ x y z. refl))
-    (either P (branches word a b c) (jumps word a b c) (by branches_rows (λ x y z. refl))
-    (by jumps_rows (λ x y z. refl)))))
+    found_among word a b c (forms (number_in a) (number_in b))
+    (are_formed (number_in a) (number_in b) (number_in c))

@@ -1,40 +1,28 @@
--- Mnemonics with their rows, and rows with the same operands.
-use Rattle.std.specs.Prelude.{ℕ, if◌then◌else◌, List, [], ◌∷◌, Option, Some, None}
-use Rattle.std.specs.Str.{bytes_eq}
-use Rattle.m51_isa.specs.declared.instr.Instr.{Instr}
+-- What an operand looks like, as its kind and the number of its register.
+use Rattle.std.specs.Prelude.{ℕ}
 use Rattle.m51_isa.specs.declared.look.Look.{Look}
-use Rattle.m51_isa.specs.declared.look.Look.TheVariants.{Nothing, A, Ab, Plain}
+use Rattle.m51_isa.specs.declared.look.Look.TheVariants.{Nothing, A, Ab, C, Dptr, APc, ADptr, AtDptr, R, AtR, Imm}
+use Rattle.m51_isa.specs.declared.look.Look.TheVariants.{Plain, NotBit, Other}
 
--- a mnemonic, and its row for operands that look so
-abbrev pub Mnemonic : Type 0
-Mnemonic = List ℕ × (Look → Look → Look → Option Instr)
+-- a number for each way to look, whatever the register
+abbrev pub look_kind : Look → ℕ
+look_kind Nothing = 0
+look_kind A = 1
+look_kind Ab = 2
+look_kind C = 3
+look_kind Dptr = 4
+look_kind APc = 5
+look_kind ADptr = 6
+look_kind AtDptr = 7
+look_kind (R n) = 8
+look_kind (AtR n) = 9
+look_kind Imm = 10
+look_kind Plain = 11
+look_kind NotBit = 12
+look_kind Other = 13
 
--- the row of the one of these mnemonics that is the word
-abbrev pub found_in : List Mnemonic → List ℕ → Look → Look → Look → Option Instr
-found_in [] word a b c = None
-found_in (m ∷ ms) word a b c = if bytes_eq word m.0 then m.1 a b c else found_in ms word a b c
-
--- this row where there are no operands
-abbrev pub without_operands : Instr → Look → Look → Look → Option Instr
-without_operands row Nothing Nothing Nothing = Some row
-without_operands row _ _ _ = None
-
--- where A is the only operand
-abbrev pub accumulator : Instr → Look → Look → Look → Option Instr
-accumulator row A Nothing Nothing = Some row
-accumulator row _ _ _ = None
-
--- where AB is
-abbrev pub both : Instr → Look → Look → Look → Option Instr
-both row Ab Nothing Nothing = Some row
-both row _ _ _ = None
-
--- where an address is
-abbrev pub address : Instr → Look → Look → Look → Option Instr
-address row Plain Nothing Nothing = Some row
-address row _ _ _ = None
-
--- where a bit and a target are the operands
-abbrev pub bit_and_target : Instr → Look → Look → Look → Option Instr
-bit_and_target row Plain Plain Nothing = Some row
-bit_and_target row _ _ _ = None
+-- the number of the register, else 0
+abbrev pub number_in : Look → ℕ
+number_in (R n) = n
+number_in (AtR n) = n
+number_in l = 0

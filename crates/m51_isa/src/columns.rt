@@ -1,8 +1,10 @@
-//! Length, cycles and flow of an instruction.
-ghost use Rattle.std.specs.Prelude.{◌≡◌, ◌≤◌};
+//! Length, cycles and flow of an instruction. A step of a board asks for length and cycles, so no row is read for them.
+ghost use Rattle.std.specs.Prelude.{◌≡◌};
 ghost use Rattle.m51_isa.specs.Table.{length_of, cycles_of, flow_of};
 
 use crate::instr::{Flow, Instr};
+use crate::numbers::numbers_of;
+use crate::table::row_at;
 
 /// How many bytes an instruction has, 1 to 3.
 ///
@@ -142,27 +144,6 @@ pub fn cycles(instr: &Instr) -> u8
 pub fn kind_of(instr: &Instr) -> Flow
     ensures { result ≡ flow_of instr.now }
 {
-    match instr {
-        Instr::SjmpRel(..)
-        | Instr::JbcBitRel(..)
-        | Instr::JbBitRel(..)
-        | Instr::JnbBitRel(..)
-        | Instr::JcRel(..)
-        | Instr::JncRel(..)
-        | Instr::JzRel(..)
-        | Instr::JnzRel(..)
-        | Instr::AjmpAddr11(..)
-        | Instr::LjmpAddr16(..)
-        | Instr::JmpAtADptr
-        | Instr::CjneADataRel(..)
-        | Instr::CjneADirectRel(..)
-        | Instr::DjnzDirectRel(..)
-        | Instr::CjneAtRiDataRel(..)
-        | Instr::CjneRnDataRel(..)
-        | Instr::DjnzRnRel(..) => Flow::Branch,
-        Instr::AcallAddr11(..) | Instr::LcallAddr16(..) => Flow::Call,
-        Instr::Ret => Flow::Ret,
-        Instr::Reti => Flow::Reti,
-        _ => Flow::Next,
-    }
+    let (_, columns) = row_at(numbers_of(instr).row);
+    columns.flow
 }

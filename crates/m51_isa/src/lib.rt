@@ -1,8 +1,6 @@
 //! The instruction table of the MCS-51: bytes, length, cycles, flow and text of its 111 forms, and the ways into it.
 #![tactic(auto)]
 
-mod arithmetic;
-mod branches;
 mod changes;
 mod columns;
 mod decoding;
@@ -10,16 +8,15 @@ mod encoding;
 mod filling;
 mod generics;
 mod instr;
-mod jumps;
 mod laws;
-mod logic;
 mod look;
 mod mnemonics;
-mod moves;
+mod numbers;
 mod operand;
 mod searching;
 mod slot;
 mod spelling;
+mod table;
 mod targets;
 
 pub use changes::{is_jump, stack_of, written_of};

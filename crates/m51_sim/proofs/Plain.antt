@@ -1,13 +1,13 @@
 -- A plain instruction keeps every register but A, B, PSW, SP and DPTR.
 use Rattle.m51_sim.proofs.Common.{◌≡◌, ℕ, ◌+◌, ◌-◌, ◌%◌, ◌<◌, ◌≤◌, Bool, true, false, cond, List, [], ◌∷◌, Option, Some}
-use Rattle.m51_sim.proofs.Common.{None, Result, Ok, Err, refl, sym, ap, subst, ◌∙◌, arith, ⊎_elim, ◌&&◌, Event, Instr}
+use Rattle.m51_sim.proofs.Common.{None, Ok, Err, refl, sym, ap, subst, ◌∙◌, arith, ⊎_elim, ◌&&◌, Event, Instr}
 use Rattle.m51_sim.proofs.Common.{LayoutParts, Cpu, Effect, Pins, plan_of, CellMap, sp, Allowed, Separate, lie_inside}
 use Rattle.m51_sim.proofs.Common.{current, if◌then◌else◌, flag, pcon, Source, Idling}
 use Rattle.std.proofs.Common.{◌≢◌, ◌*◌}
-use Rattle.std.proofs.lemmas.Bool.{and_parts, cases_lt, cond_both, eqb-true, leb-true, ltb-true, ne_eqb, not-true}
+use Rattle.std.proofs.lemmas.Bool.{and_parts, cases_lt, cond_both, eqb-true, leb-true, ne_eqb, not-true}
 use Rattle.std.proofs.lemmas.List.{get_or-set_other}
 use Rattle.std.specs.Option.{option_or}
-use Rattle.std.specs.Prelude.{◌==◌, ◌||◌, map, nat_le, not, slice_index, slice_set}
+use Rattle.std.specs.Prelude.{◌==◌, ◌||◌, map, nat_le, not, slice_set}
 use Rattle.m51_isa.specs.declared.instr.Instr.TheVariants as row
 use Rattle.m51_isa.specs.declared.instr.Written.{Written}
 use Rattle.m51_isa.specs.declared.instr.Written.TheVariants.{Nothing, Direct, Bit, BitIfSet}

@@ -1,17 +1,15 @@
 -- Cycles in which nothing happens.
 use Rattle.m51_sim.proofs.Common.{◌≡◌, ℕ, zero, suc, List, [], Option, refl, sym, subst, ap, ◌∙◌, arith, length}
-use Rattle.m51_sim.proofs.Common.{frames_in, inputs_of, with_extra, Cpu, Effect, Inputs, Pins}
+use Rattle.m51_sim.proofs.Common.{frames_in, inputs_of, with_extra, Cpu, Inputs, Pins}
 use Rattle.std.specs.Prelude.{◌+◌, ◌-◌, ◌^◌, ◌<◌, ◌≤◌, ◌++◌, ◌==◌, None, Some, min, nat_le}
 use Rattle.m51_cells.specs.declared.event.Entry.{Entry}
 use Rattle.m51_timers_uart.specs.declared.receiving.Frame.{Frame}
 use Rattle.m51_timers_uart.specs.declared.periph.Periph.{Periph}
-use Rattle.m51_timers_uart.specs.LineLaws.{written_to}
 use Rattle.m51_timers_uart.specs.OnlyCounting.{OnlyCount, counted_on}
-use Rattle.m51_timers_uart.specs.Resting.{AreResting, looked_at}
 use Rattle.m51_timers_uart.specs.Sending.{Ticked}
 use Rattle.m51_timers_uart.specs.Tick.{ticked}
 use Rattle.m51_timers_uart.proofs.CountsOn.{devices_count_on}
-use Rattle.m51_timers_uart.proofs.Resting.{still_rest, tick_stays}
+use Rattle.m51_timers_uart.proofs.Resting.{tick_stays}
 use Rattle.m51_script.specs.declared.script.Script.{Script}
 use Rattle.m51_script.specs.Levels.{all_high, levels_after}
 use Rattle.m51_script.specs.Timing.{those}
@@ -29,11 +27,11 @@ LeadOn inputs at count p =
 -- a script without lines gives the same in each cycle
 module _ (script : Script) (extra : List Timed) (pins : script.pins.cycles ≡ []) (frames : script.frames.cycles ≡ [])
     (alone : length extra ≡ 0) where
-  same_pins : (cycle : ℕ) → (inputs_of script).pins cycle ≡ all_high
+  pub same_pins : (cycle : ℕ) → (inputs_of script).pins cycle ≡ all_high
   same_pins cycle =
       ap (λ (cs : List ℕ). levels_after all_high (those (λ d. nat_le d cycle) cs script.pins.items)) pins
 
-  no_frames : (cycle : ℕ) → (with_extra extra (inputs_of script)).frames cycle ≡ []
+  pub no_frames : (cycle : ℕ) → (with_extra extra (inputs_of script)).frames cycle ≡ []
   no_frames cycle =
       ap (λ (cs : List ℕ). those (λ d. d == cycle) cs script.frames.items ++ frames_in cycle extra) frames
       ∙ none_arrive extra alone cycle

@@ -1,5 +1,5 @@
 -- The cycles of a plain step before which the devices rest, or count.
-use Rattle.m51_sim.proofs.Common.{◌≡◌, List, [], Option, refl, sym, ap, subst, ◌∙◌, length, ChipState, inputs_of}
+use Rattle.m51_sim.proofs.Common.{◌≡◌, List, [], Option, refl, sym, ap, subst, ◌∙◌, ChipState, inputs_of}
 use Rattle.m51_sim.proofs.Common.{with_extra, Cpu, Effect, Script}
 use Rattle.std.proofs.Common.{lit≤}
 use Rattle.std.specs.Option.{option_map}
@@ -18,9 +18,9 @@ use Rattle.m51_sim.specs.declared.cycles.Pace.TheVariants.{Resting, Counting}
 use Rattle.m51_sim.specs.declared.cycles.Passing.{Passing}
 use Rattle.m51_sim.specs.declared.cycles.Timed.{Timed}
 use Rattle.m51_sim.specs.Boards.{IsPassed, passing}
-use Rattle.m51_sim.specs.Cycles.{IsPaced, cycles_passed}
+use Rattle.m51_sim.specs.Cycles.{Counts, IsPaced, cycles_passed}
 use Rattle.m51_sim.specs.Effects.{changed_by, latch_address}
-use Rattle.m51_sim.specs.Plain.{DevicesAre, GoesOn, KeepsOthers, gone_on}
+use Rattle.m51_sim.specs.Plain.{DevicesAre, KeepsPace, KeepsOthers, paced_cpu}
 use Rattle.m51_sim.proofs.Quiet.{counts_pass, rest_passes}
 
 -- all registers at which the devices look are others than a plain step writes
@@ -47,7 +47,7 @@ module _ (script : Script) (p : Passing) where
 
 -- their pace stays as before
 pub paced_after : (pace : Pace) (chip : ChipState) (extra : List Timed) (e : Effect) (q : Passing)
-    → GoesOn pace chip extra e → q.cpu ≡ gone_on pace e → q.periph ≡ chip.periph → IsPaced pace chip.script q
+    → KeepsPace pace chip extra e → q.cpu ≡ paced_cpu pace e → q.periph ≡ chip.periph → IsPaced pace chip.script q
 paced_after Resting chip extra e q h cpu periph = record {
   pins = h.pins;
   frames = h.frames;
@@ -66,11 +66,21 @@ none_begins : (cpu : Cpu) (sbuf : Option ℕ) (p : Periph) → sbuf ≡ None →
 none_begins cpu None p h = refl
 none_begins cpu (Some byte) p h = absurd (cc h)
 
+-- devices that count before a plain step count when its cycles begin
+pub counted_after : (script : Script) (p : Passing) (cycle : ℕ) (e : Effect) → IsPaced Counting script p
+    → KeepsOthers p.cpu e → Counts script (changed_by cycle p.periph e)
+counted_after script p cycle e h k = record {
+  pins = h.pins;
+  frames = h.frames;
+  devices = subst (λ (d : Periph). AreCounting e.cpu all_high d) (none_begins e.cpu e.sbuf p.periph k.line)
+      (devices_kept script p Counting e h k);
+}
+
 -- and the cycles pass at once
 passes_on : (pace : Pace) (chip : ChipState) (extra : List Timed) (e : Effect) → chip.cycle ≤ 2 ^ 64 - 1
-    → GoesOn pace chip extra e
+    → KeepsPace pace chip extra e
     → record {
-      cpu = gone_on pace e;
+      cpu = paced_cpu pace e;
       periph = chip.periph;
       cycle = min (chip.cycle + e.cycles) (2 ^ 64 - 1);
       sent = None;
@@ -96,11 +106,11 @@ passes_on Counting chip extra e most h =
     ended cpu d = record { cpu = cpu; periph = d; cycle = min (chip.cycle + e.cycles) (2 ^ 64 - 1); sent = None }
 
 -- so a step is performed that reports nothing
-pub gone : (pace : Pace) (old new : ChipState) (extra : List Timed) (e : Effect) → old.cycle ≤ 2 ^ 64 - 1
-    → GoesOn pace old extra e
-    → new ≡ record old { cpu = gone_on pace e; cycle = min (old.cycle + e.cycles) (2 ^ 64 - 1) }
+pub pace_kept : (pace : Pace) (old new : ChipState) (extra : List Timed) (e : Effect) → old.cycle ≤ 2 ^ 64 - 1
+    → KeepsPace pace old extra e
+    → new ≡ record old { cpu = paced_cpu pace e; cycle = min (old.cycle + e.cycles) (2 ^ 64 - 1) }
     → IsPassed (with_extra extra (inputs_of old.script)) old new e (record { port = None; sent = None })
-gone pace old new extra e most h is = record {
+pace_kept pace old new extra e most h is = record {
   port = sym (ap (option_map (λ port. Port old.cycle port (latch e.cpu (latch_address port)))) h.port);
   passed = ap (λ (c : ChipState). passing c (record { port = None; sent = None })) is
       ∙ passes_on pace old extra e most h;

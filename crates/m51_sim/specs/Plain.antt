@@ -63,7 +63,7 @@ DevicesGo Resting p e = AreResting e.cpu all_high p
 DevicesGo Counting p e = OnlyCount e.cycles e.cpu all_high p
 
 -- a chip keeps this pace: it has no script, no further frame comes, and no port and no byte is written
-pub record GoesOn (pace : Pace) (chip : ChipState) (extra : List Timed) (e : Effect) : Type 0 where
+pub record KeepsPace (pace : Pace) (chip : ChipState) (extra : List Timed) (e : Effect) : Type 0 where
   pub pins : chip.script.pins.cycles ≡ []
   pub frames : chip.script.frames.cycles ≡ []
   pub alone : length extra ≡ 0
@@ -73,6 +73,6 @@ pub record GoesOn (pace : Pace) (chip : ChipState) (extra : List Timed) (e : Eff
   pub devices : DevicesGo pace chip.periph e
 
 -- the processor after these cycles
-abbrev pub gone_on : Pace → Effect → Cpu
-gone_on Resting e = e.cpu
-gone_on Counting e = counted_on e.cycles e.cpu
+abbrev pub paced_cpu : Pace → Effect → Cpu
+paced_cpu Resting e = e.cpu
+paced_cpu Counting e = counted_on e.cycles e.cpu

@@ -1,6 +1,6 @@
 //! A board whose program keeps to its units, and whose segments have stores of their own.
 ghost use Rattle.std.specs.Option.{ForSome};
-ghost use Rattle.std.specs.Prelude.{◌≡◌, ◌≤◌, ℕ, IfErr, IfOk, List, Ok, length};
+ghost use Rattle.std.specs.Prelude.{◌≡◌, ◌≤◌, ℕ, IfErr, IfOk, IsTrue, List, Ok, length};
 ghost use Rattle.m51_cells.specs.declared.limits.TheConstants.{MOST_STEPS};
 ghost use Rattle.m51_cells.specs.Outside.{Rose};
 ghost use Rattle.m51_module.specs.Plan.{IsRootAt};
@@ -14,6 +14,7 @@ ghost use Rattle.m51_sim.specs.Boards.{separate_of};
 ghost use Rattle.m51_sim.specs.Boards.{state_with, told_in};
 ghost use Rattle.m51_sim.specs.Cycles.{AreFew, inputs_of, with_extra};
 ghost use Rattle.m51_sim.specs.Effects.{attempt_of};
+ghost use Rattle.m51_sim.specs.Plain.{KeepsOthers};
 ghost use Rattle.m51_sim.specs.Report.{IsReport};
 ghost use Rattle.m51_sim.specs.Run.{Ended, IsAdvance, IsStep, IsToldStep, step_told, stopped_by, tally_of, told_by};
 ghost use Rattle.m51_sim.specs.Runs.{record_of};
@@ -275,7 +276,7 @@ fn advance(monitor: &mut Monitor, chip: &mut Chip, draft: &mut Draft, extra: &[T
             commit(monitor, &draft.effect, step);
             match chip.pace_on(draft, extra) {
                 Some(pace) => {
-                    chip.go_on(draft, pace);
+                    chip.keep_pace(draft, pace);
                     false
                 }
                 None => pass_slowly(chip, draft, extra),
@@ -293,7 +294,8 @@ fn advance(monitor: &mut Monitor, chip: &mut Chip, draft: &mut Draft, extra: &[T
 // report. As a part of `advance` it would cost each step nine machine instructions.
 #[inline(never)]
 fn pass_slowly(chip: &mut Chip, draft: &mut Draft, extra: &[Timed]) -> bool
-    requires { AreFew extra.now }
+    requires few { AreFew extra.now }
+    requires plain { IsTrue draft.old.plain → KeepsOthers chip.old.cpu draft.old.effect }
     ensures image { chip.new.image ≡ chip.old.image }
     ensures script { chip.new.script ≡ chip.old.script }
     ensures draft { IsDraftOf draft.new chip.new.cpu }

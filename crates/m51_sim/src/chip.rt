@@ -5,15 +5,15 @@ ghost use Rattle.m51_flat.specs.declared.state.Cpu.{Cpu};
 ghost use Rattle.m51_timers_uart.specs.LineLaws.{written_to};
 ghost use Rattle.m51_timers_uart.specs.Tick.{reset_periph};
 ghost use Rattle.m51_sim.specs.Boards.{IsDraftOf};
-ghost use Rattle.m51_sim.specs.Cycles.{AreFew, cycles_passed, inputs_of, with_extra};
+ghost use Rattle.m51_sim.specs.Cycles.{AreFew, Counts, cycles_passed, inputs_of, with_extra};
 ghost use Rattle.m51_sim.specs.Effects.{attempt_by, attempt_of, changed_by, executing, idle_effect};
 ghost use Rattle.m51_sim.specs.Effects.{instr_at, latch_address, port_entry};
-ghost use Rattle.m51_sim.specs.Plain.{DevicesAre, DevicesGo, GoesOn, KeepsOthers, gone_on, is_plain};
+ghost use Rattle.m51_sim.specs.Plain.{DevicesAre, DevicesGo, KeepsOthers, KeepsPace, is_plain, paced_cpu};
 ghost use Rattle.m51_sim.specs.declared.cycles.Timed.{Timed as TimedFrame};
 ghost use Rattle.m51_timers_uart.specs.declared.periph.Periph.{Periph as PeriphState};
 
 use crate::attempt::Attempt;
-use crate::cycles::{ALL_HIGH, Pace, Passing, Timed, cite_registers, pass_cycles};
+use crate::cycles::{Pace, Passing, Timed, cite_registers, pass_cycles};
 use crate::program::Program;
 use crate::runs::{Entries, NO_ENTRIES};
 use m51_cells::{Entry, Event, NoMemory};
@@ -177,7 +177,7 @@ impl Chip {
     #[inline(always)]
     pub(crate) fn pace_on(&self, draft: &Draft, extra: &[Timed]) -> Option<Pace>
         requires { IsTrue draft.now.plain → KeepsOthers self.now.cpu draft.now.effect }
-        ensures { IfSome result (λ pace. GoesOn pace self.now extra.now draft.now.effect) }
+        ensures { IfSome result (λ pace. KeepsPace pace self.now extra.now draft.now.effect) }
     {
         if !draft.plain || !extra.is_empty() {
             return None;
@@ -186,7 +186,7 @@ impl Chip {
             None => None,
             Some(pace) => {
                 cite_registers(&draft.effect.cpu);
-                if goes_on(pace, &self.passing.periph, &draft.effect) {
+                if keeps_pace(pace, &self.passing.periph, &draft.effect) {
                     Some(pace)
                 } else {
                     None
@@ -195,14 +195,31 @@ impl Chip {
         }
     }
 
+    // Whether it is known that the devices count in the cycles of a plain step, and no further frame comes.
+    #[inline(always)]
+    fn is_counted(&self, draft: &Draft, extra: &[Timed]) -> bool
+        requires { IsTrue draft.now.plain → KeepsOthers self.now.cpu draft.now.effect }
+        ensures alone { IsTrue result → length extra.now ≡ 0 }
+        ensures counts { IsTrue result → Counts self.now.script
+            (changed_by self.now.cycle self.now.periph draft.now.effect) }
+    {
+        if !extra.is_empty() || !draft.plain {
+            return false;
+        }
+        match self.pace {
+            None => false,
+            Some(pace) => is_counting(pace),
+        }
+    }
+
     // Performs the step of an effect, but for its puts, where the devices keep this pace: its cycles pass at once.
     #[inline(always)]
-    pub(crate) fn go_on(&mut self, draft: &mut Draft, pace: Pace)
-        requires { (extra : List TimedFrame) × GoesOn pace self.old extra draft.old.effect }
+    pub(crate) fn keep_pace(&mut self, draft: &mut Draft, pace: Pace)
+        requires { (extra : List TimedFrame) × KeepsPace pace self.old extra draft.old.effect }
         ensures draft { IsDraftOf draft.new self.new.cpu }
         ensures before { self.old.cycle ≤ 2 ^ 64 - 1 }
         ensures chip { self.new ≡ record self.old {
-          cpu = gone_on pace draft.old.effect;
+          cpu = paced_cpu pace draft.old.effect;
           cycle = min (self.old.cycle + draft.old.effect.cycles) (2 ^ 64 - 1);
         } }
     {
@@ -216,7 +233,8 @@ impl Chip {
     // Performs the step of an effect, but for its puts: its changes, and then its cycles.
     #[inline(always)]
     pub(crate) fn pass(&mut self, draft: &mut Draft, extra: &[Timed]) -> Entries
-        requires { AreFew extra.now }
+        requires few { AreFew extra.now }
+        requires plain { IsTrue draft.old.plain → KeepsOthers self.old.cpu draft.old.effect }
         ensures image { self.new.image ≡ self.old.image }
         ensures script { self.new.script ≡ self.old.script }
         ensures draft { IsDraftOf draft.new self.new.cpu }
@@ -230,11 +248,18 @@ impl Chip {
             (changed_by self.old.cycle self.old.periph draft.old.effect) }
     {
         let start = self.passing.cycle;
+        let counted = self.is_counted(draft, extra);
         copy_cpu(&mut self.passing.cpu, &draft.effect.cpu);
         draft.same = false;
         begin_sending(&mut self.passing.periph, &draft.effect);
         self.passing.sent = None;
-        self.pace = pass_cycles(&self.script, extra, draft.effect.cycles, &mut self.passing);
+        self.pace = pass_cycles(
+            &self.script,
+            extra,
+            draft.effect.cycles,
+            &mut self.passing,
+            counted,
+        );
         Entries {
             port: port_entry(start, &draft.effect),
             sent: self.passing.sent,
@@ -242,15 +267,26 @@ impl Chip {
     }
 }
 
+// Whether a pace is that of devices that count.
+#[inline(always)]
+fn is_counting(pace: Pace) -> bool
+    ensures { IsTrue result → pace ≡ Pace.Counting }
+{
+    match pace {
+        Pace::Resting => false,
+        Pace::Counting => true,
+    }
+}
+
 // Whether the devices keep their pace in the cycles of an effect.
 #[inline(always)]
-fn goes_on(pace: Pace, periph: &Periph, effect: &Effect) -> bool
+fn keeps_pace(pace: Pace, periph: &Periph, effect: &Effect) -> bool
     requires { DevicesAre pace effect.now.cpu periph.now }
     ensures { IsTrue result → DevicesGo pace periph.now effect.now }
 {
     match pace {
         Pace::Resting => true,
-        Pace::Counting => periph.only_counts(&effect.cpu, &ALL_HIGH, effect.cycles, true),
+        Pace::Counting => periph.only_counts(&effect.cpu, effect.cycles),
     }
 }
 
@@ -258,7 +294,7 @@ fn goes_on(pace: Pace, periph: &Periph, effect: &Effect) -> bool
 #[inline(always)]
 fn pass_on(pace: Pace, effect: &mut Effect)
     requires { (p : PeriphState) × DevicesGo pace p effect.old }
-    ensures { effect.new ≡ record effect.old { cpu = gone_on pace effect.old } }
+    ensures { effect.new ≡ record effect.old { cpu = paced_cpu pace effect.old } }
 {
     match pace {
         Pace::Resting => {}

@@ -9,7 +9,7 @@ ghost use Rattle.m51_timers_uart.specs.Tick.{ticked};
 use m51_cells::Entry;
 use m51_flat::{Cpu, Pins};
 use m51_script::Script;
-use m51_timers_uart::{Frame, Periph, Sent, count_on};
+use m51_timers_uart::{Frame, Periph, Sent};
 
 /// A frame that arrives in a cycle.
 ///
@@ -197,27 +197,53 @@ pub(crate) fn cite_registers(cpu: &Cpu)
     let _first = cpu.regs[0];
 }
 
-// This number of machine cycles at once, if the devices only count in them, the script has no lines and no further
-// frame comes. It answers whether it did; if not, nothing changes.
+// Whether the script has no lines, and the devices count.
 #[inline(always)]
-fn count_cycles(script: &Script, extra: &[Timed], count: u8, passing: &mut Passing) -> bool
-    ensures passed { passing.new ≡ (if result
-        then cycles_passed (with_extra extra.now (inputs_of script.now)) count passing.old else passing.old) }
-    ensures counts { IsTrue result → Counts script.now passing.new }
+fn comes_to_count(script: &Script, passing: &Passing) -> bool
+    ensures { IsTrue result → Counts script.now passing.now }
 {
-    if !extra.is_empty() || !script.is_silent() {
-        return false;
-    }
+    script.is_silent() && passing.periph.counts(&passing.cpu, &ALL_HIGH)
+}
+
+// One machine cycle in which the devices count, the script has no lines and no further frame comes.
+#[inline(always)]
+fn count_cycle(script: &Script, extra: &[Timed], passing: &mut Passing)
+    requires alone { length extra.now ≡ 0 }
+    requires counts { Counts script.now passing.old }
+    ensures passed { passing.new ≡ cycle_passed (with_extra extra.now (inputs_of script.now)) passing.old }
+    ensures counts { Counts script.now passing.new }
+{
     cite_registers(&passing.cpu);
-    if !passing
-        .periph
-        .only_counts(&passing.cpu, &ALL_HIGH, count, false)
-    {
+    let cycle = next_cycle(passing.cycle);
+    let sent = passing.periph.count_cycle(&mut passing.cpu, &ALL_HIGH);
+    passing.cycle = cycle;
+    keep_sent(&mut passing.sent, cycle, sent);
+}
+
+// This number of machine cycles in which the devices count, the script has no lines and no further frame comes.
+#[tactic(auto, unfolding(crate::specs::Cycles::cycles_passed))]
+#[inline(always)]
+fn count_cycles(script: &Script, extra: &[Timed], cycles: u8, passing: &mut Passing)
+    requires alone { length extra.now ≡ 0 }
+    requires counts { Counts script.now passing.old }
+    ensures passed { passing.new ≡ cycles_passed (with_extra extra.now (inputs_of script.now)) cycles passing.old }
+    ensures counts { Counts script.now passing.new }
+{
+    for _ in 0..cycles {
+        count_cycle(script, extra, passing);
+    }
+}
+
+// Whether the devices count, the script has no lines and no further frame comes.
+#[inline(always)]
+fn are_counted(script: &Script, extra: &[Timed], passing: &Passing) -> bool
+    ensures alone { IsTrue result → length extra.now ≡ 0 }
+    ensures counts { IsTrue result → Counts script.now passing.now }
+{
+    if !extra.is_empty() {
         return false;
     }
-    count_on(count, &mut passing.cpu);
-    skip_cycles(count, passing);
-    true
+    comes_to_count(script, passing)
 }
 
 // This number of machine cycles, one by one.
@@ -232,15 +258,8 @@ fn pass_each(script: &Script, extra: &[Timed], count: u8, passing: &mut Passing)
     }
 }
 
-// Whether the script has no lines, and the devices count.
-#[inline(always)]
-fn comes_to_count(script: &Script, passing: &Passing) -> bool
-    ensures { IsTrue result → Counts script.now passing.now }
-{
-    script.is_silent() && passing.periph.counts(&passing.cpu, &ALL_HIGH)
-}
-
-// This number of machine cycles. It answers how the devices go after them, where that is known.
+// This number of machine cycles. It answers how the devices go after them, where that is known; `counted` says that
+// they are known to count before.
 #[tactic(auto, using(crate::proofs::Quiet::rest_passes, crate::proofs::Quiet::rest_lasts))]
 #[inline(always)]
 pub(crate) fn pass_cycles(
@@ -248,16 +267,20 @@ pub(crate) fn pass_cycles(
     extra: &[Timed],
     count: u8,
     passing: &mut Passing,
+    counted: bool,
 ) -> Option<Pace>
-    requires { AreFew extra.now }
+    requires few { AreFew extra.now }
+    requires alone { IsTrue counted → length extra.now ≡ 0 }
+    requires counts { IsTrue counted → Counts script.now passing.old }
     ensures passed { passing.new ≡ cycles_passed (with_extra extra.now (inputs_of script.now)) count passing.old }
     ensures pace { IfSome result (λ pace. IsPaced pace script.now passing.new) }
 {
-    if are_idle(script, extra, passing) {
+    if !counted && are_idle(script, extra, passing) {
         skip_cycles(count, passing);
         return Some(Pace::Resting);
     }
-    if count_cycles(script, extra, count, passing) {
+    if counted || are_counted(script, extra, passing) {
+        count_cycles(script, extra, count, passing);
         return Some(Pace::Counting);
     }
     pass_each(script, extra, count, passing);

@@ -208,7 +208,7 @@ fn advance(chip: &mut Chip, memory: &mut FlatRam, draft: &mut Draft) -> Result<E
             put_both(memory, &draft.effect);
             match chip.pace_on(draft, &[]) {
                 Some(pace) => {
-                    chip.go_on(draft, pace);
+                    chip.keep_pace(draft, pace);
                     Ok(NO_ENTRIES)
                 }
                 None => Ok(chip.pass(draft, &[])),

@@ -93,10 +93,26 @@ timer0_by true levels cpu t h l =
     ∙ low_written th0 tl0 (latch cpu tl0 + 1) cpu
 timer0_by false levels cpu t h l = timer0_stays levels cpu (counts0_not levels cpu t) ∙ sym (latch_stays cpu tl0)
 
-timer0_counts : (levels : Levels) (cpu : Cpu) → timer0_is_plain cpu ≡ true → nat_le (low0_after 1 cpu) 255 ≡ true
+pub timer0_counts : (levels : Levels) (cpu : Cpu) → timer0_is_plain cpu ≡ true → nat_le (low0_after 1 cpu) 255 ≡ true
     → timer0_ticked levels cpu ≡ with_latch cpu tl0 (low0_after 1 cpu)
 unfolding timer0_is_plain
 timer0_counts levels cpu h l = timer0_by (flag cpu tcon tr0) levels cpu refl h l
+
+-- one that runs counts
+runs0_by : (tr : Bool) (levels : Levels) (cpu : Cpu) → flag cpu tcon tr0 ≡ tr
+    → (if tr then counts_each (flag cpu tmod 3) (flag cpu tmod 2) (mode0 cpu) else not (is_split (mode0 cpu))) ≡ true
+    → tr ≡ true → timer0_ticked levels cpu ≡ counted0 (counted_in (mode0 cpu) (bytes_at th0 tl0 cpu)) cpu
+unfolding timer0_ticked
+runs0_by true levels cpu t h r =
+    let p = each_parts (flag cpu tmod 3) (flag cpu tmod 2) (counts_whole (mode0 cpu)) h in
+    ap (λ b. if b then counted0 (counted_in (mode0 cpu) (bytes_at th0 tl0 cpu)) cpu else cpu)
+    (counts0_yes levels cpu t p.0 p.1)
+runs0_by false levels cpu t h r = cc r
+
+pub timer0_runs : (levels : Levels) (cpu : Cpu) → timer0_is_plain cpu ≡ true → flag cpu tcon tr0 ≡ true
+    → timer0_ticked levels cpu ≡ counted0 (counted_in (mode0 cpu) (bytes_at th0 tl0 cpu)) cpu
+unfolding timer0_is_plain
+timer0_runs levels cpu h r = runs0_by (flag cpu tcon tr0) levels cpu refl h r
 
 split_by : (tr : Bool) (cpu : Cpu)
     → (if tr then counts_each (flag cpu tmod 3) (flag cpu tmod 2) (mode0 cpu) else not (is_split (mode0 cpu))) ≡ true
@@ -106,7 +122,7 @@ split_by true cpu h =
     whole_not_split (mode0 cpu) p.2
 split_by false cpu h = not-true (is_split (mode0 cpu)) h
 
-not_split : (cpu : Cpu) → timer0_is_plain cpu ≡ true → is_split (mode0 cpu) ≡ false
+pub not_split : (cpu : Cpu) → timer0_is_plain cpu ≡ true → is_split (mode0 cpu) ≡ false
 unfolding timer0_is_plain
 not_split cpu h = split_by (flag cpu tcon tr0) cpu h
 
@@ -128,11 +144,25 @@ timer1_by true levels cpu t s h l =
 timer1_by false levels cpu t s h l =
     timer1_stays levels cpu (counts1_not levels cpu t s) ∙ ap one_timed (sym (latch_stays cpu tl1))
 
-timer1_counts : (levels : Levels) (cpu : Cpu) → timer0_is_plain cpu ≡ true → timer1_is_plain cpu ≡ true
+pub timer1_counts : (levels : Levels) (cpu : Cpu) → timer0_is_plain cpu ≡ true → timer1_is_plain cpu ≡ true
     → nat_le (low1_after 1 cpu) 255 ≡ true
     → timer1_ticked levels cpu ≡ one_timed (with_latch cpu tl1 (low1_after 1 cpu))
 unfolding timer1_is_plain
 timer1_counts levels cpu s h l = timer1_by (flag cpu tcon tr1) levels cpu refl (not_split cpu s) h l
+
+runs1_by : (tr : Bool) (levels : Levels) (cpu : Cpu) → flag cpu tcon tr1 ≡ tr
+    → (if tr then counts_each (flag cpu tmod 7) (flag cpu tmod 6) (mode1 cpu) else true) ≡ true → tr ≡ true
+    → timer1_ticked levels cpu ≡ counted1 (counted_in (mode1 cpu) (bytes_at th1 tl1 cpu)) cpu
+runs1_by true levels cpu t h r =
+    let p = each_parts (flag cpu tmod 7) (flag cpu tmod 6) (counts_whole (mode1 cpu)) h in
+    timer1_free (mode1 cpu) levels cpu (whole_not_split (mode1 cpu) p.2)
+    (record { mode_is = refl; runs = t; gate = p.0; counter = p.1 })
+runs1_by false levels cpu t h r = cc r
+
+pub timer1_runs : (levels : Levels) (cpu : Cpu) → timer1_is_plain cpu ≡ true → flag cpu tcon tr1 ≡ true
+    → timer1_ticked levels cpu ≡ counted1 (counted_in (mode1 cpu) (bytes_at th1 tl1 cpu)) cpu
+unfolding timer1_is_plain
+timer1_runs levels cpu h r = runs1_by (flag cpu tcon tr1) levels cpu refl h r
 
 sixteen_low : (reload : ℕ) (t : TimerBytes) → t.low + 1 ≤ 255 → sixteen_counted reload t ≡ next_low t
 unfolding sixteen_counted
@@ -184,7 +214,7 @@ timer2_by false levels cpu t x h l =
     (times_none levels cpu t)
     ∙ ap none_over (t2ex_stays levels cpu x ∙ sym (latch_stays cpu tl2))
 
-timer2_counts : (levels : Levels) (cpu : Cpu) → timer2_is_plain cpu ≡ true → nat_le (low2_after 1 cpu) 255 ≡ true
+pub timer2_counts : (levels : Levels) (cpu : Cpu) → timer2_is_plain cpu ≡ true → nat_le (low2_after 1 cpu) 255 ≡ true
     → timer2_ticked levels cpu ≡ none_over (with_latch cpu tl2 (low2_after 1 cpu))
 unfolding timer2_is_plain
 timer2_counts levels cpu h l =
@@ -284,7 +314,7 @@ low_same : (n : ℕ) (one other : Cpu) (control bit low : ℕ) → latch one con
 unfolding flag
 low_same n one other control bit low c l = rw (c, l) refl
 
-flag_same : (a k : ℕ) (one other : Cpu) → latch one a ≡ latch other a → flag one a k ≡ flag other a k
+pub flag_same : (a k : ℕ) (one other : Cpu) → latch one a ≡ latch other a → flag one a k ≡ flag other a k
 unfolding flag
 flag_same a k one other e = ap (λ byte. bit_at byte k == 1) e
 
@@ -365,7 +395,7 @@ asked_none true false true ask byte h k = refl
 asked_none false was true ask byte h k = k
 asked_none edge was false ask byte h k = cc h
 
-high_rests : (levels : Levels) (pin : Input) (it ask byte : ℕ) → is_high levels pin ≡ true
+pub high_rests : (levels : Levels) (pin : Input) (it ask byte : ℕ) → is_high levels pin ≡ true
     → (with_bit byte ask false == byte) ≡ true → request_rests levels pin it ask byte ≡ true
 unfolding request_rests
 high_rests levels pin it ask byte h k =

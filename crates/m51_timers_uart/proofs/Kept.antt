@@ -55,7 +55,7 @@ module _ (ws : List ℕ) where
   unfolding with_flag
   keeps_flag a k b cpu h d = keeps_latch a (with_bit (latch cpu a) k b) cpu h d
 
-  keeps_bytes : (high low : ℕ) (t : TimerBytes) (cpu : Cpu)
+  pub keeps_bytes : (high low : ℕ) (t : TimerBytes) (cpu : Cpu)
       → 128 ≤ high → is_one_of ws high ≡ true → 128 ≤ low → is_one_of ws low ≡ true
       → KeepsBut ws cpu (with_bytes high low t cpu)
   keeps_bytes high low t cpu hh dh hl dl =

@@ -12,3 +12,4 @@ pub mod InTime
 pub mod Cycles
 pub mod Resting
 pub mod CountsOn
+pub mod Counted

@@ -1,15 +1,19 @@
 //! Machine cycles in which the devices only count.
-ghost use Rattle.std.specs.Prelude.{◌≡◌, ◌≤◌, ◌&&◌, true, nat_le};
+ghost use Rattle.std.specs.Prelude.{◌≡◌, ◌≤◌, ◌&&◌, true, length, nat_le};
 ghost use Rattle.m51_flat.specs.Sfr.{latch};
 ghost use Rattle.m51_timers_uart.specs.Counting.{mode_of};
 ghost use Rattle.m51_timers_uart.specs.OnlyCounting.{counted_on, counts_each, line_waits, low0_after, low1_after};
 ghost use Rattle.m51_timers_uart.specs.OnlyCounting.{low2_after, low_after, timer0_is_plain, timer1_is_plain};
 ghost use Rattle.m51_timers_uart.specs.OnlyCounting.{timer2_is_plain};
+ghost use Rattle.m51_timers_uart.specs.Tick.{clocks_ticked};
+ghost use Rattle.m51_timers_uart.specs.Timer2.{timer2_ticked};
+ghost use Rattle.m51_timers_uart.specs.Timers.{timer0_ticked, timer1_ticked, timers_ticked};
 
-use crate::periph::Periph;
-use crate::sending::last;
-use crate::timer2::rates;
-use crate::timers::{splits, timer0_mode};
+use crate::levels::Levels;
+use crate::periph::{Periph, Sent};
+use crate::sending::{last, tick_sending};
+use crate::timer2::{rates, tick_timer2};
+use crate::timers::{count_timer0, count_timer1, splits, timer0_mode};
 use m51_flat::Cpu;
 use m51_sfr::addresses::{T2CON, TCON, TL0, TL1, TL2, TMOD};
 use m51_sfr::bits::{CT2, EXEN2, TR0, TR1, TR2};
@@ -145,4 +149,82 @@ pub fn count_on(count: u8, cpu: &mut Cpu)
     cpu.set_latch(TL0, timer0);
     cpu.set_latch(TL1, timer1);
     cpu.set_latch(TL2, timer2);
+}
+
+/// Timer 0 in a cycle, where it counts each cycle or does not run: most counts only add one to its low byte.
+#[tactic(auto, using(crate::proofs::CountsOn::timer0_counts, crate::proofs::CountsOn::timer0_runs))]
+#[inline(always)]
+fn pass_timer0(cpu: &mut Cpu, levels: &Levels)
+    requires { timer0_is_plain cpu.old ≡ true }
+    ensures { cpu.new ≡ timer0_ticked levels.now cpu.old }
+{
+    let runs = cpu.flag(TCON, TR0);
+    let low = cpu.latch(TL0);
+    if fits(1, runs, low) {
+        cpu.set_latch(TL0, add_where(1, runs, low));
+    } else {
+        count_timer0(cpu);
+    }
+}
+
+/// Timer 1 in a cycle: whether it overflowed.
+#[tactic(auto, using(crate::proofs::CountsOn::timer1_counts, crate::proofs::CountsOn::timer1_runs))]
+#[inline(always)]
+fn pass_timer1(cpu: &mut Cpu, levels: &Levels) -> bool
+    requires timer0 { timer0_is_plain cpu.old ≡ true }
+    requires timer1 { timer1_is_plain cpu.old ≡ true }
+    ensures { record { cpu = cpu.new; overflow = result } ≡ timer1_ticked levels.now cpu.old }
+{
+    let runs = cpu.flag(TCON, TR1);
+    let low = cpu.latch(TL1);
+    if fits(1, runs, low) {
+        cpu.set_latch(TL1, add_where(1, runs, low));
+        return false;
+    }
+    count_timer1(cpu)
+}
+
+/// Timer 2 in a cycle: how many of its counts were overflows.
+#[tactic(auto, using(crate::proofs::CountsOn::timer2_counts))]
+#[inline(always)]
+fn pass_timer2(cpu: &mut Cpu, levels: &Levels) -> u8
+    requires { timer2_is_plain cpu.old ≡ true }
+    ensures value { record { cpu = cpu.new; overflows = result } ≡ timer2_ticked levels.now cpu.old }
+    ensures most { result ≤ 6 }
+{
+    let runs = cpu.flag(T2CON, TR2);
+    let low = cpu.latch(TL2);
+    if fits(1, runs, low) {
+        cpu.set_latch(TL2, add_where(1, runs, low));
+        return 0;
+    }
+    tick_timer2(cpu, levels)
+}
+
+/// Timers 0 and 1 in a cycle, where each counts each cycle or does not run: whether timer 1 overflowed.
+#[tactic(auto, using(crate::proofs::Counted::still0, crate::proofs::Counted::still1, crate::proofs::Counted::th0_none))]
+#[inline(always)]
+fn pass_timers(cpu: &mut Cpu, levels: &Levels) -> bool
+    requires registers { length cpu.old.regs ≡ 128 }
+    requires timer0 { timer0_is_plain cpu.old ≡ true }
+    requires timer1 { timer1_is_plain cpu.old ≡ true }
+    ensures { record { cpu = cpu.new; overflow = result } ≡ timers_ticked levels.now cpu.old }
+{
+    pass_timer0(cpu, levels);
+    pass_timer1(cpu, levels)
+}
+
+/// The timers and sending in a cycle in which each timer that runs counts.
+#[inline(always)]
+pub(crate) fn count_clocks(periph: &mut Periph, cpu: &mut Cpu, levels: &Levels) -> Option<Sent>
+    requires registers { length cpu.old.regs ≡ 128 }
+    requires timer0 { timer0_is_plain cpu.old ≡ true }
+    requires timer1 { timer1_is_plain cpu.old ≡ true }
+    requires timer2 { timer2_is_plain cpu.old ≡ true }
+    ensures { record { cpu = cpu.new; periph = periph.new; sent = result }
+        ≡ clocks_ticked levels.now cpu.old periph.old }
+{
+    let timer1 = pass_timers(cpu, levels);
+    let timer2 = pass_timer2(cpu, levels);
+    tick_sending(periph, cpu, timer1, timer2)
 }

@@ -1,5 +1,6 @@
 //! The devices, and one machine cycle of them.
-ghost use Rattle.std.specs.Prelude.{◌≡◌, ◌++◌, ◌↔◌, ◌&&◌, IsTrue, nat_le};
+ghost use Rattle.std.specs.Prelude.{◌≡◌, ◌++◌, ◌↔◌, ◌&&◌, [], IsTrue, length, nat_le};
+ghost use Rattle.m51_flat.specs.declared.state.Pins.{Pins as PinLevels};
 ghost use Rattle.m51_timers_uart.specs.OnlyCounting.{AreCounting, OnlyCount, line_waits, low0_after};
 ghost use Rattle.m51_timers_uart.specs.OnlyCounting.{low1_after, low2_after};
 ghost use Rattle.m51_timers_uart.specs.Resting.{AreResting};
@@ -8,7 +9,9 @@ ghost use Rattle.m51_timers_uart.specs.Tick.{clocks_rest, clocks_ticked, reset_p
 
 use crate::external::{externals_rest, none_asks, tick_externals};
 use crate::levels::{Levels, read_levels};
-use crate::only_counting::{all_fit, is_timer0_plain, is_timer1_plain, is_timer2_plain, waits};
+use crate::only_counting::{
+    all_fit, count_clocks, is_timer0_plain, is_timer1_plain, is_timer2_plain, waits,
+};
 use crate::receiving::{Frame, receive_both};
 use crate::sending::{start, tick_sending};
 use crate::timer2::{tick_timer2, timer2_rests};
@@ -158,18 +161,38 @@ impl Periph {
         counts(self, cpu, ext)
     }
 
-    /// In this number of machine cycles in which no frame arrives the devices only count, if these are the levels
-    /// outside: they count, no timer reaches the end of its low byte, and no byte moves on its way. `known` says that
-    /// they are known to count.
+    /// Where the devices count, they only count in this number of machine cycles in which no frame arrives: no timer
+    /// reaches the end of its low byte, and no byte moves on its way.
     ///
     /// Source: own choice ("Cycles in which nothing happens").
     #[inline(always)]
-    pub fn only_counts(&self, cpu: &Cpu, ext: &Pins, count: u8, known: bool) -> bool
-        requires { IsTrue known → AreCounting cpu.now ext.now self.now }
-        ensures { IsTrue result ↔ OnlyCount count cpu.now ext.now self.now }
+    pub fn only_counts(&self, cpu: &Cpu, count: u8) -> bool
+        ensures { (ext : PinLevels) → AreCounting cpu.now ext self.now
+            → (IsTrue result ↔ OnlyCount count cpu.now ext self.now) }
     {
-        // What fails most often is asked first.
-        last_for(self, cpu, count) && (known || counts(self, cpu, ext))
+        last_for(self, cpu, count)
+    }
+
+    /// One machine cycle in which no frame arrives, where the devices count with these levels outside, as `tick` passes
+    /// it; they count after it too. It answers the byte that was sent.
+    ///
+    /// Source: own choice ("Cycles in which nothing happens").
+    #[tactic(auto, using(crate::proofs::Counted::counting_tick))]
+    #[inline(always)]
+    pub fn count_cycle(&mut self, cpu: &mut Cpu, ext: &Pins) -> Option<Sent>
+        requires registers { length cpu.old.regs ≡ 128 }
+        requires counting { AreCounting cpu.old ext.now self.old }
+        ensures tick { record { cpu = cpu.new; periph = self.new; sent = result } ≡ ticked cpu.old ext.now [] self.old }
+        ensures counting { AreCounting cpu.new ext.now self.new }
+    {
+        let same = self.levels;
+        let levels = Levels {
+            before: same,
+            present: same,
+        };
+        let sent = count_clocks(self, cpu, &levels);
+        self.levels = same;
+        sent
     }
 
     /// One machine cycle: timers 0 and 1, timer 2, sending, receiving, the external interrupts. `ext` are the levels

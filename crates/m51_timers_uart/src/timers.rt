@@ -1,7 +1,9 @@
 //! Timers 0 and 1.
 ghost use Rattle.std.specs.Prelude.{◌≡◌, ◌<◌};
-ghost use Rattle.m51_timers_uart.specs.Counting.{mode_of};
-ghost use Rattle.m51_timers_uart.specs.Timers.{bytes_at, counts0, counts1, flagged, is_split, counts_in_cycle, is_open};
+ghost use Rattle.m51_flat.specs.Sfr.{th0, th1, tl0, tl1};
+ghost use Rattle.m51_timers_uart.specs.Counting.{counted_in, mode_of};
+ghost use Rattle.m51_timers_uart.specs.Timers.{bytes_at, counted0, counted1, counts0, counts1, flagged, is_split};
+ghost use Rattle.m51_timers_uart.specs.Timers.{counts_in_cycle, is_open};
 ghost use Rattle.m51_timers_uart.specs.Timers.{mode0};
 ghost use Rattle.m51_timers_uart.specs.Timers.{mode1, th0_ticked, timer0_ticked, timer1_ticked, timers_rest};
 ghost use Rattle.m51_timers_uart.specs.Timers.{timers_ticked};
@@ -119,15 +121,23 @@ fn set_where(cpu: &mut Cpu, test: bool, bit: u8)
     }
 }
 
-/// Timer 0: an overflow sets TF0.
+/// One count of timer 0: an overflow sets TF0.
+#[inline(always)]
+pub(crate) fn count_timer0(cpu: &mut Cpu)
+    ensures { cpu.new ≡ counted0 (counted_in (mode0 cpu.old) (bytes_at th0 tl0 cpu.old)) cpu.old }
+{
+    let counted = count_in(timer0_mode(cpu), read_bytes(cpu, TH0, TL0));
+    write_bytes(cpu, TH0, TL0, counted.bytes);
+    set_where(cpu, counted.overflow, TF0);
+}
+
+/// Timer 0 in a cycle.
 #[tactic(auto, unfolding(crate::specs::Timers::timer0_ticked))]
 fn tick_timer0(cpu: &mut Cpu, levels: &Levels)
     ensures { cpu.new ≡ timer0_ticked levels.now cpu.old }
 {
     if counts_timer0(levels, cpu) {
-        let counted = count_in(timer0_mode(cpu), read_bytes(cpu, TH0, TL0));
-        write_bytes(cpu, TH0, TL0, counted.bytes);
-        set_where(cpu, counted.overflow, TF0);
+        count_timer0(cpu);
     }
 }
 
@@ -143,7 +153,20 @@ fn tick_th0(cpu: &mut Cpu)
     }
 }
 
-/// Timer 1: whether it overflowed, which sets TF1 but where timer 0 is in mode 3.
+/// One count of timer 1: whether it overflowed, which sets TF1 but where timer 0 is in mode 3.
+#[inline(always)]
+pub(crate) fn count_timer1(cpu: &mut Cpu) -> bool
+    ensures { record { cpu = cpu.new; overflow = result }
+        ≡ counted1 (counted_in (mode1 cpu.old) (bytes_at th1 tl1 cpu.old)) cpu.old }
+{
+    let shown = !splits(timer0_mode(cpu));
+    let counted = count_in(timer1_mode(cpu), read_bytes(cpu, TH1, TL1));
+    write_bytes(cpu, TH1, TL1, counted.bytes);
+    set_where(cpu, counted.overflow && shown, TF1);
+    counted.overflow
+}
+
+/// Timer 1 in a cycle: whether it overflowed.
 #[tactic(auto, unfolding(crate::specs::Timers::timer1_ticked))]
 fn tick_timer1(cpu: &mut Cpu, levels: &Levels) -> bool
     ensures { record { cpu = cpu.new; overflow = result } ≡ timer1_ticked levels.now cpu.old }
@@ -151,11 +174,7 @@ fn tick_timer1(cpu: &mut Cpu, levels: &Levels) -> bool
     if !counts_timer1(levels, cpu) {
         return false;
     }
-    let shown = !splits(timer0_mode(cpu));
-    let counted = count_in(timer1_mode(cpu), read_bytes(cpu, TH1, TL1));
-    write_bytes(cpu, TH1, TL1, counted.bytes);
-    set_where(cpu, counted.overflow && shown, TF1);
-    counted.overflow
+    count_timer1(cpu)
 }
 
 /// TR0 and TR1 are 0 and timer 0 is not in mode 3, so neither timer counts, whatever the pins do.

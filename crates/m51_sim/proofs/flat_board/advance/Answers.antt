@@ -3,7 +3,7 @@ use Rattle.m51_sim.specs.Boards.{IsPassed}
 use Rattle.m51_sim.specs.Effects.{attempt_of}
 use Rattle.m51_sim.proofs.Passes.{flat_done, flat_stopped, no_extra, none_are_few}
 use Rattle.m51_sim.proofs.Plain.{flat_keeps}
-use Rattle.m51_sim.proofs.Resting.{gone}
+use Rattle.m51_sim.proofs.Resting.{pace_kept}
 use Rattle.m51_sim.proofs.flat_board.advance.Goals as goal
 
 -- the cycles of a step without further frames
@@ -19,22 +19,28 @@ pace_on-requires c = λ plain.
     flat_keeps chip.image chip.cpu (map_of c.args.memory.now) ((inputs_of chip.script).pins chip.cycle)
     (attempt_of chip.image chip.cpu) c.judge.new.draft.effect (c.in-Ok.ensures.plain plain) c.in-Ok.ensures.value
 
-pub go_on-requires : goal.go_on-requires
-go_on-requires c = ([], c.in-Some.ensures)
+pub keep_pace-requires : goal.keep_pace-requires
+keep_pace-requires c = ([], c.in-Some.ensures)
 
-pub pass-requires : goal.pass-requires
-pass-requires c = none_are_few
+pub pass-requires-clause-few : goal.pass-requires-clause-few
+pass-requires-clause-few c = none_are_few
+
+pub pass-requires-clause-plain : goal.pass-requires-clause-plain
+pass-requires-clause-plain c = λ plain.
+    let chip = c.args.chip.now in
+    flat_keeps chip.image chip.cpu (map_of c.args.memory.now) ((inputs_of chip.script).pins chip.cycle)
+    (attempt_of chip.image chip.cpu) c.judge.new.draft.effect (c.in-Ok.ensures.plain plain) c.in-Ok.ensures.value
 
 pub returns-in-Some-clause-step : goal.returns-in-Some-clause-step
 returns-in-Some-clause-step c =
     let chip = c.args.chip.now in
-    let new = c.go_on.new.self in
+    let new = c.keep_pace.new.self in
     let e = c.judge.new.draft.effect in
     let told : Entries = record { port = None; sent = None } in
     flat_done chip.image (inputs_of chip.script) chip (map_of c.args.memory.now) new (map_of c.put_both.new.memory) e
     told c.in-Ok.ensures.value c.put_both.ensures
     (alone chip new e told
-    (gone c.in-Some.pace chip new [] e c.go_on.ensures.before c.in-Some.ensures c.go_on.ensures.chip))
+    (pace_kept c.in-Some.pace chip new [] e c.keep_pace.ensures.before c.in-Some.ensures c.keep_pace.ensures.chip))
 
 pub returns-in-None-clause-step : goal.returns-in-None-clause-step
 returns-in-None-clause-step c =

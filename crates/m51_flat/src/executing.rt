@@ -66,8 +66,10 @@ pub fn copy_cpu(cpu: &mut Cpu, other: &Cpu)
 
 /// Makes an effect that of a step of `cycles` machine cycles that leaves its processor as it is, and after which
 /// interrupts are not held off.
+///
+/// Source: own choice ("Effects").
 #[inline(always)]
-fn clear(effect: &mut Effect, cycles: u8)
+pub fn clear(effect: &mut Effect, cycles: u8)
     ensures { effect.new ≡ still effect.old.cpu cycles }
 {
     effect.cpu.held = false;

@@ -20,7 +20,7 @@ mod store;
 mod writing;
 
 pub use calls::{call, stack_pc};
-pub use executing::{begin, conclude, copy_cpu, exec, exec_into, reset, shut_cell};
+pub use executing::{begin, clear, conclude, copy_cpu, exec, exec_into, reset, shut_cell};
 pub use laws::{
     accesses_agree, bits_are_turned, calls_are_made, effects_are_done, flags_are_written,
     flags_keep_the_rest, flow_is_kept, levels_are_kept, one_bit_is_replaced, pc_is_stacked,

@@ -1,15 +1,16 @@
--- Where no source asks, as where EA is 0, none is chosen.
+-- Where no source asks, as where EA is 0, none is chosen; nor over the low level where no source has the high one.
 use Rattle.std.proofs.Common.{◌≡◌, Bool, true, false, ◌&&◌, if◌then◌else◌, List, [], ◌∷◌, Option, Some, None}
-use Rattle.std.proofs.Common.{refl, ap, ◌∙◌}
+use Rattle.std.proofs.Common.{refl, ap, ◌∙◌, ℕ, ◌==◌}
 use Rattle.std.proofs.lemmas.Bool.{and_parts, not-true}
 use Rattle.std.specs.Prelude.{not}
 use Rattle.std.specs.List.{find}
+use Rattle.std.specs.Int.{bit_at}
 use Rattle.m51_flat.specs.declared.state.Cpu.{Cpu}
 use Rattle.m51_flat.specs.declared.state.Source.{Source}
 use Rattle.m51_flat.specs.declared.state.Source.TheVariants.{Ie0, Tf0, Ie1, Tf1, Serial, Timer2}
 use Rattle.m51_flat.specs.declared.state.Level.{Level}
 use Rattle.m51_flat.specs.declared.state.Level.TheVariants.{Low, High}
-use Rattle.m51_flat.specs.Sfr.{flag}
+use Rattle.m51_flat.specs.Sfr.{flag, latch}
 use Rattle.m51_irq.specs.Sources.{asks, has_flag, level_of, enable_bit, sources}
 use Rattle.m51_irq.specs.Choice.{asks_at, chosen, first_asking, is_same_level, none_asks, or_else}
 
@@ -65,3 +66,39 @@ none_of cpu h =
 
 pub none_asked : (cpu : Cpu) → none_asks cpu ≡ true → chosen cpu ≡ None
 none_asked cpu h = none_chosen cpu (none_of cpu h)
+
+falls : (a : Bool) → a && false ≡ false
+falls true = refl
+falls false = refl
+
+-- a source of the high level asks, where this is IP
+abbrev asks_high : Cpu → ℕ → Source → Bool
+asks_high cpu ip s = asks cpu s && is_same_level (if bit_at ip (enable_bit s) == 1 then High else Low) High
+
+none_by_zero : (cpu : Cpu) (s : Source) → asks_high cpu 0 s ≡ false
+none_by_zero cpu Ie0 = falls (asks cpu Ie0)
+none_by_zero cpu Tf0 = falls (asks cpu Tf0)
+none_by_zero cpu Ie1 = falls (asks cpu Ie1)
+none_by_zero cpu Tf1 = falls (asks cpu Tf1)
+none_by_zero cpu Serial = falls (asks cpu Serial)
+none_by_zero cpu Timer2 = falls (asks cpu Timer2)
+
+low : (cpu : Cpu) → latch cpu 184 ≡ 0 → (s : Source) → asks_at cpu High s ≡ false
+unfolding level_of flag
+low cpu h s = ap (λ ip. asks_high cpu ip s) h ∙ none_by_zero cpu s
+
+pub none_high : (cpu : Cpu) → latch cpu 184 ≡ 0 → first_asking cpu High ≡ None
+none_high cpu h = none_found (asks_at cpu High) (low cpu h) sources
+
+over : (held high : Bool) (a : Option Source) → a ≡ None
+    → (if held then None else if high then None else or_else a None) ≡ None
+over true high a h = refl
+over false true a h = refl
+over false false a h = ap (λ x. or_else x None) h
+
+pub none_over_low : (cpu : Cpu) → cpu.low ≡ true → first_asking cpu High ≡ None → chosen cpu ≡ None
+unfolding chosen
+none_over_low cpu progress none =
+    ap (λ l. if cpu.held then None else if cpu.high then None
+    else or_else (first_asking cpu High) (if l then None else first_asking cpu Low)) progress
+    ∙ over cpu.held cpu.high (first_asking cpu High) none

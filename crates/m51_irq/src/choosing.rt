@@ -1,12 +1,12 @@
 //! Which interrupt is taken.
-ghost use Rattle.std.specs.Prelude.{◌≡◌, None, option_copied, if◌then◌else◌};
+ghost use Rattle.std.specs.Prelude.{◌≡◌, IsTrue, None, option_copied, if◌then◌else◌};
 ghost use Rattle.std.specs.List.{find};
-ghost use Rattle.m51_flat.specs.declared.state.Level.TheVariants.{Low};
+ghost use Rattle.m51_flat.specs.declared.state.Level.TheVariants.{High, Low};
 ghost use Rattle.m51_irq.specs.Choice.{asks_at, chosen, first_asking, none_asks};
 
 use crate::sources::{asks, level_of};
 use m51_flat::{Cpu, Level, Source};
-use m51_sfr::addresses::IE;
+use m51_sfr::addresses::{IE, IP};
 use m51_sfr::bits::EA;
 
 // The sources, in their order.
@@ -52,6 +52,38 @@ fn first_low(cpu: &Cpu) -> Option<Source>
     }
 }
 
+// No bit of IP is 1, so no source has the high level.
+#[tactic(auto, using(crate::proofs::Disabled::none_high))]
+#[inline(always)]
+fn are_all_low(cpu: &Cpu) -> bool
+    ensures { IsTrue result → first_asking cpu.now High ≡ None }
+{
+    match cpu.latch(IP) {
+        0 => true,
+        _ => false,
+    }
+}
+
+// A source of the low level is in progress, and all have that level, so none may interrupt it.
+#[tactic(auto, using(crate::proofs::Disabled::none_over_low))]
+#[inline(always)]
+fn none_may_interrupt(cpu: &Cpu) -> bool
+    ensures { IsTrue result → chosen cpu.now ≡ None }
+{
+    cpu.low && are_all_low(cpu)
+}
+
+// The first source of the high level that asks.
+fn first_high(cpu: &Cpu) -> Option<Source>
+    ensures { result ≡ first_asking cpu.now High }
+{
+    if are_all_low(cpu) {
+        None
+    } else {
+        first_asking(cpu, Level::High)
+    }
+}
+
 // No source asks, which is so in most steps.
 #[inline(always)]
 fn none_asks(cpu: &Cpu) -> bool
@@ -80,6 +112,7 @@ fn choose_enabled(cpu: &Cpu) -> Option<Source>
 
 // The same, where a source may ask.
 #[tactic(auto, unfolding(crate::specs::Choice::chosen))]
+#[inline(never)]
 fn choose_asking(cpu: &Cpu) -> Option<Source>
     ensures { result ≡ chosen cpu.now }
 {
@@ -89,7 +122,7 @@ fn choose_asking(cpu: &Cpu) -> Option<Source>
     if cpu.high {
         return None;
     }
-    match first_asking(cpu, Level::High) {
+    match first_high(cpu) {
         Some(source) => Some(source),
         None => first_low(cpu),
     }
@@ -105,9 +138,9 @@ fn choose_asking(cpu: &Cpu) -> Option<Source>
 pub fn choose(cpu: &Cpu) -> Option<Source>
     ensures { result ≡ chosen cpu.now }
 {
-    if cpu.flag(IE, EA) {
-        choose_enabled(cpu)
-    } else {
+    if !cpu.flag(IE, EA) || none_may_interrupt(cpu) {
         None
+    } else {
+        choose_enabled(cpu)
     }
 }

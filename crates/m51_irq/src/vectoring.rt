@@ -10,7 +10,8 @@ ghost use Rattle.m51_irq.specs.Vectoring.{vectored, vectoring};
 
 use crate::sources::level_of;
 use m51_flat::{
-    CellStore, Cpu, Effect, Level, NoEffect, Outcome, Source, Transfer, begin, conclude, stack_pc,
+    CellStore, Cpu, Effect, Level, NoEffect, Outcome, Source, Transfer, clear as clear_effect,
+    conclude, copy_cpu, stack_pc,
 };
 use m51_sfr::addresses::{PCON, TCON};
 use m51_sfr::bits::{IDL, IE0, IE1, IT0, IT1, TF0, TF1};
@@ -67,9 +68,9 @@ pub fn acknowledge(cpu: &mut Cpu, source: Source)
 fn interrupt(effect: &mut Effect, cpu: &Cpu, source: Source)
     ensures { effect.new ≡ interrupted cpu.now source }
 {
-    let mut taken = *cpu;
-    acknowledge(&mut taken, source);
-    begin(effect, &taken, 2);
+    copy_cpu(&mut effect.cpu, cpu);
+    acknowledge(&mut effect.cpu, source);
+    clear_effect(effect, 2);
 }
 
 // Makes an effect all that taking an interrupt changes.

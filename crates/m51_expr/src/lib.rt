@@ -29,7 +29,7 @@ pub use operand::{Item, Items, Operand, Operands};
 pub use places::{Places, as_number, is_absolute_origin, is_unplaced_origin};
 pub use ranks::{is_close, is_open};
 pub use reading::{read_expr, read_symbols};
-pub use symbol::{Symbol, symbols};
+pub use symbol::{Symbol, symbols, symbols_into};
 pub use tree::{Binary, Expr, Unary};
 pub use value::{Part, Value, is_whole};
 pub use words::{BANK_REGISTERS, is_reserved};

@@ -1,5 +1,5 @@
 //! What a token is in an expression.
-ghost use Rattle.std.specs.Prelude.{◌≡◌, ◌<◌, ◌++◌, All, IfOk, length, map};
+ghost use Rattle.std.specs.Prelude.{◌≡◌, ◌<◌, ◌++◌, All, IfOk, OnOk, length, map};
 ghost use Rattle.m51_cells.specs.Name.{name_of};
 ghost use Rattle.m51_lex.specs.Tokens.{IsWithin};
 ghost use Rattle.m51_expr.specs.declared.symbol.Symbol.TheVariants.{Text};
@@ -205,6 +205,28 @@ fn symbol_of(alloc: Global, line: &[u8], token: &Token) -> Result<Symbol, NoMemo
     }
 }
 
+/// Writes what the tokens of the line are into `out`, in order, in place of what is in it. They lie in the line.
+///
+/// Errors: out of memory.
+///
+/// Source: own choice ("Statements in place").
+pub fn symbols_into(
+    alloc: Global,
+    line: &str,
+    tokens: &[Token],
+    out: &mut Vec<Symbol>,
+) -> Result<(), NoMemory>
+    requires { All (IsWithin (length line.now)) tokens.now }
+    ensures { OnOk result (out.new.items ≡ map (symbol_of line.now) tokens.now) }
+{
+    let bytes = line.as_bytes();
+    out.clear();
+    for token in tokens {
+        out.push(symbol_of(alloc, bytes, token)?)?;
+    }
+    Ok(())
+}
+
 /// What the tokens of the line are, in order. They lie in the line.
 ///
 /// Errors: out of memory.
@@ -214,10 +236,7 @@ pub fn symbols(alloc: Global, line: &str, tokens: &[Token]) -> Result<Vec<Symbol
     requires { All (IsWithin (length line.now)) tokens.now }
     ensures { IfOk result (λ symbols. symbols.items ≡ map (symbol_of line.now) tokens.now) }
 {
-    let bytes = line.as_bytes();
     let mut out = Vec::new(alloc);
-    for token in tokens {
-        out.push(symbol_of(alloc, bytes, token)?)?;
-    }
+    symbols_into(alloc, line, tokens, &mut out)?;
     Ok(out)
 }

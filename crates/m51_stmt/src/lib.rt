@@ -21,6 +21,6 @@ mod words;
 pub use fault::StmtError;
 pub use laws::printed_reads_back;
 pub use m51_expr::{Item, Items, Operand, Operands};
-pub use reading::{read_line, read_line_into};
+pub use reading::{LineRoom, read_line, read_line_into};
 pub use statement::{Body, Externs, Stmt};
 pub use statement_printing::print_stmt;

@@ -1,5 +1,5 @@
 //! Reads a line as a statement.
-ghost use Rattle.std.specs.Prelude.{◌≡◌, ◌≤◌, All, IfOk, OnOk, drop, length, map, option_map, slice_index};
+ghost use Rattle.std.specs.Prelude.{◌≡◌, ◌≤◌, [], All, IfOk, OnOk, drop, length, map, option_map, slice_index};
 ghost use Rattle.std.specs.Prelude.{Some, None, option_and_then, true, if◌then◌else◌};
 ghost use Rattle.m51_expr.specs.Words.{is_reserved};
 ghost use Rattle.m51_stmt.specs.Definitions.{definition_form, definition_word};
@@ -23,10 +23,37 @@ use crate::faults::statement_fault;
 use crate::operands::instruction;
 use crate::statement::{Body, Stmt};
 use m51_cells::{MOST_LINE_BYTES, Name, NoMemory};
-use m51_expr::{Symbol, is_reserved, symbols};
+use m51_expr::{Symbol, is_reserved, symbols_into};
 use m51_isa::is_mnemonic;
 use m51_lex::{LONG_LINE, LexError, Token, tokens_into};
 use std::alloc::Global;
+
+/// Room for the tokens and the symbols of a line. Whoever reads many lines gives the same room for all of them, which
+/// spares two allocations a line.
+///
+/// Source: own choice ("Statements in place").
+#[derive(Drop)]
+pub struct LineRoom {
+    /// The tokens of a line.
+    pub tokens: Vec<Token>,
+    /// Its symbols, one for each token.
+    pub symbols: Vec<Symbol>,
+}
+
+impl LineRoom {
+    /// Room with nothing in it.
+    ///
+    /// Source: own choice ("Statements in place").
+    pub fn new(alloc: Global) -> LineRoom
+        ensures tokens { result.tokens.items ≡ [] }
+        ensures symbols { result.symbols.items ≡ [] }
+    {
+        LineRoom {
+            tokens: Vec::new(alloc),
+            symbols: Vec::new(alloc),
+        }
+    }
+}
 
 // Keeps what is found, and says whether there is any.
 fn keep(found: Option<Body>, body: &mut Body) -> bool
@@ -199,20 +226,19 @@ fn control_line(alloc: Global, rest: &[u8], stmt: &mut Stmt) -> Result<(), StmtE
     }
 }
 
-// Writes what a line of tokens says into `stmt`, and its tokens into `found`.
+// Writes what a line of tokens says into `stmt`.
 fn token_line(
     alloc: Global,
     line: &str,
-    found: &mut Vec<Token>,
+    room: &mut LineRoom,
     stmt: &mut Stmt,
 ) -> Result<(), StmtError>
     requires { length line.now ≤ MOST_LINE_BYTES }
     ensures { Gives (λ _. stmt_tree stmt.new) fault_of result (token_line line.now) }
 {
-    match token_list(line, found) {
-        Ok(()) => read(alloc, &symbols(alloc, line, found)?, stmt),
-        Err(error) => Err(error),
-    }
+    token_list(line, &mut room.tokens)?;
+    symbols_into(alloc, line, &room.tokens, &mut room.symbols)?;
+    read(alloc, &room.symbols, stmt)
 }
 
 // Writes what a line says that is not too long, by its first character.
@@ -220,7 +246,7 @@ fn token_line(
 fn any_line(
     alloc: Global,
     line: &str,
-    found: &mut Vec<Token>,
+    room: &mut LineRoom,
     stmt: &mut Stmt,
 ) -> Result<(), StmtError>
     requires { length line.now ≤ MOST_LINE_BYTES }
@@ -233,12 +259,12 @@ fn any_line(
     } else if first == b'%' {
         Err(OUT_OF_FORM)
     } else {
-        token_line(alloc, line, found, stmt)
+        token_line(alloc, line, room, stmt)
     }
 }
 
 /// Writes the statement of a line into `stmt`: that which `read_line` returns. After an error `stmt` says nothing of
-/// the line. The tokens of the line are put into `found`, in place of what is in it, to spare an allocation.
+/// the line. What the line is cut into is put into `room`, in place of what is in it.
 ///
 /// Errors: those of `read_line`.
 ///
@@ -246,7 +272,7 @@ fn any_line(
 pub fn read_line_into(
     alloc: Global,
     line: &str,
-    found: &mut Vec<Token>,
+    room: &mut LineRoom,
     stmt: &mut Stmt,
 ) -> Result<(), StmtError>
     ensures { Gives (λ _. stmt_tree stmt.new) fault_of result (statement_of line.now) }
@@ -254,7 +280,7 @@ pub fn read_line_into(
     if line.len() > MOST_LINE_BYTES {
         return Err(StmtError::Fault { number: LONG_LINE });
     }
-    any_line(alloc, line, found, stmt)
+    any_line(alloc, line, room, stmt)
 }
 
 // What a line says, or E5 where it is too long.
@@ -262,7 +288,7 @@ fn short_or_long(alloc: Global, line: &str) -> Result<Stmt, StmtError>
     ensures { Gives stmt_tree fault_of result (statement_of line.now) }
 {
     let mut stmt = Stmt::nothing();
-    match read_line_into(alloc, line, &mut Vec::new(alloc), &mut stmt) {
+    match read_line_into(alloc, line, &mut LineRoom::new(alloc), &mut stmt) {
         Ok(()) => Ok(stmt),
         Err(error) => Err(error),
     }

@@ -12,9 +12,8 @@ use crate::placing::{MOST_LINES, fault_by_place, is_end};
 use crate::read_lines::ReadLines;
 use crate::saying::{LineSaid, said};
 use m51_cells::NoMemory;
-use m51_lex::Token;
 use m51_module::SourceFile;
-use m51_stmt::Stmt;
+use m51_stmt::{LineRoom, Stmt};
 use std::alloc::Global;
 
 /// Where a line is.
@@ -32,8 +31,8 @@ pub(crate) struct TextPlace {
 #[derive(Drop)]
 pub(crate) struct TextReading {
     pub read: ReadLines,
-    /// Where the tokens of a line are put while it is read.
-    pub tokens: Vec<Token>,
+    /// Where a line is cut into words while it is read.
+    pub room: LineRoom,
     pub ended: bool,
 }
 
@@ -51,7 +50,7 @@ impl TextReading {
     {
         TextReading {
             read: ReadLines::new(alloc),
-            tokens: Vec::new(alloc),
+            room: LineRoom::new(alloc),
             ended: false,
         }
     }
@@ -107,7 +106,7 @@ impl TextReading {
             statement: Stmt::nothing(),
             fault: None,
         };
-        heard.fault = said(alloc, line, &mut self.tokens, &mut heard.statement)?;
+        heard.fault = said(alloc, line, &mut self.room, &mut heard.statement)?;
         let inclusion = inclusion_of(includes, place.levels, &heard);
         let by_place = self.next_fault(place.file, inclusion, &heard);
         let ends = ends_source(place.file, &heard);

@@ -5,8 +5,7 @@ ghost use Rattle.m51_stmt.specs.Lines.{statement_of};
 ghost use Rattle.m51_text.specs.Said.{is_character, said, said_with};
 
 use m51_cells::{BAD_BYTE, NoMemory};
-use m51_lex::Token;
-use m51_stmt::{Stmt, StmtError, read_line_into};
+use m51_stmt::{LineRoom, Stmt, StmtError, read_line_into};
 use std::alloc::Global;
 
 /// What a line says: its statement, or where it has a fault the number of that, and then any statement.
@@ -28,12 +27,12 @@ fn are_characters(line: &[u8]) -> bool
 fn spoken(
     alloc: Global,
     line: &str,
-    tokens: &mut Vec<Token>,
+    room: &mut LineRoom,
     statement: &mut Stmt,
 ) -> Result<Option<u8>, NoMemory>
     ensures { IfOk result (λ fault. said_with statement.new fault ≡ statement_of line.now) }
 {
-    match read_line_into(alloc, line, tokens, statement) {
+    match read_line_into(alloc, line, room, statement) {
         Ok(()) => Ok(None),
         Err(StmtError::Fault { number }) => Ok(Some(number)),
         Err(StmtError::Memory) => Err(NoMemory),
@@ -48,7 +47,7 @@ fn spoken(
 pub(crate) fn said(
     alloc: Global,
     line: &[u8],
-    tokens: &mut Vec<Token>,
+    room: &mut LineRoom,
     statement: &mut Stmt,
 ) -> Result<Option<u8>, NoMemory>
     ensures { IfOk result (λ fault. said_with statement.new fault ≡ said line.now) }
@@ -59,5 +58,5 @@ pub(crate) fn said(
     let Ok(text) = str::from_utf8(line) else {
         return Ok(Some(BAD_BYTE));
     };
-    spoken(alloc, text, tokens, statement)
+    spoken(alloc, text, room, statement)
 }

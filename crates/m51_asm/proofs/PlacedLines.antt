@@ -9,7 +9,7 @@ use proofs.Common.{size_in, expression_given, given_or, IsAt, AreLineFacts}
 use Rattle.std.proofs.Common.{◌^◌}
 use Rattle.m51_stmt.specs.Statement.{Segment}
 use specs.declared.counts.Counts.{Counts}
-use specs.declared.told.LineFacts.{LineFacts}
+use specs.declared.line_facts.LineFacts.{LineFacts}
 use specs.Definitions.{definition_of}
 use specs.Assignment.{above}
 use specs.Fitting.{size_at, filled, bank_before, externals_before}

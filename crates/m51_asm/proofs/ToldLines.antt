@@ -22,7 +22,7 @@ use specs.OpenSegments.{declared_first, open_behind, named_by, current_in, last_
 use specs.SegmentTable.{HasDeclared, segment_in}
 use proofs.KnownSegments.{declares}
 use Rattle.m51_cells.specs.declared.kind.Base.TheVariants as base
-use specs.declared.told.LineFacts.{LineFacts}
+use specs.declared.line_facts.LineFacts.{LineFacts}
 use specs.Repeats.{is_repeated}
 use specs.NamesAt.{kept_meanings, with_label, names_at}
 use specs.Operands.{operand_number, IsOperand}

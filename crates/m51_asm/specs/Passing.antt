@@ -33,4 +33,4 @@ IsPlaced lines a places end = IsPassedTo lines a (length lines) places end
 -- it is the first fault; or no line has one, and all are placed
 abbrev pub IsPassed : List LineTree → Assignment → Passed → Type 0
 IsPassed lines a (passed.Fault k number) = IsFirstFault lines a k number
-IsPassed lines a (passed.Stands places end) = IsPlaced lines a places end
+IsPassed lines a (passed.Placed places end) = IsPlaced lines a places end

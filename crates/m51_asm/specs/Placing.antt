@@ -25,7 +25,7 @@ use Rattle.m51_asm.specs.declared.segments.SegmentsAbove.{SegmentsAbove}
 use Rattle.m51_asm.specs.declared.stepping.LinePlace.{LinePlace}
 use Rattle.m51_asm.specs.declared.stepping.LineOutcome.{LineOutcome}
 use Rattle.m51_asm.specs.declared.stepping.LineOutcome.TheVariants as outcome
-use Rattle.m51_asm.specs.declared.told.LineFacts.{LineFacts}
+use Rattle.m51_asm.specs.declared.line_facts.LineFacts.{LineFacts}
 use Rattle.m51_asm.specs.Definitions.{definition_of}
 use Rattle.m51_asm.specs.Assignment.{TextSegment, Assignment, body_at, segment_reloc, here_at, above}
 use Rattle.m51_asm.specs.Fitting.{last_absolute, size_at, size_by, filled, bank_by, bank_before, externals_before}
@@ -158,5 +158,5 @@ pub record IsPlaceOf (lines : List LineTree) (a : Assignment) (k : ℕ) (p : Lin
 -- the outcome of a line: its fault; or none, its place, and this is the state after it
 abbrev pub IsLineOutcome : List LineTree → Assignment → ℕ → PassOneState → LineOutcome → Type 0
 IsLineOutcome lines a k placing (outcome.Fault number) = placed_fault lines a k ≡ Some number
-IsLineOutcome lines a k placing (outcome.Stands place) =
+IsLineOutcome lines a k placing (outcome.Placed place) =
     (placed_fault lines a k ≡ None) × IsAt lines a (suc k) placing × IsPlaceOf lines a k place

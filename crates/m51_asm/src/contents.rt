@@ -108,15 +108,19 @@ fn give_line(
     };
     let body = &line.stmt.body;
     let row = row_of_code(place.code);
-    let told = line_content(alloc, &names, row, body, contents.made)?;
+    let emitted = line_content(alloc, &names, row, body, contents.made)?;
     let unpublished = publish(&names, &mut contents.publics, publics_in(body))?;
-    contents.made = told.made;
-    push_fault(&mut contents.faults, line, or_next(told.fault, unpublished))?;
+    contents.made = emitted.made;
+    push_fault(
+        &mut contents.faults,
+        line,
+        or_next(emitted.fault, unpublished),
+    )?;
     contents
         .rows
-        .push(row_at(line, here.number, &told.content))?;
+        .push(row_at(line, here.number, &emitted.content))?;
     take_set(alloc, &mut contents.set, line, place)?;
-    Ok(told.content)
+    Ok(emitted.content)
 }
 
 /// What all lines of a text give. The only error is out of memory.

@@ -13,6 +13,7 @@ mod gathering;
 mod giving;
 mod instruction_rows;
 mod laws;
+mod line_facts;
 mod names;
 mod names_at;
 mod naming;
@@ -31,7 +32,6 @@ mod segments;
 mod setting;
 mod sizes;
 mod stepping;
-mod told;
 mod valid_laws;
 mod valuation;
 

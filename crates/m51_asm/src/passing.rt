@@ -19,7 +19,7 @@ pub(crate) enum Passed {
     /// The first line that has a fault, counted from 0, and the number of the fault.
     Fault(usize, u8),
     /// No line has one: where each is, and what is kept of them all.
-    Stands(ListOf<LinePlace>, PassOneState),
+    Placed(ListOf<LinePlace>, PassOneState),
 }
 
 // Whether the first line that repeats is line k or above it.
@@ -54,8 +54,8 @@ pub(crate) fn place_lines(
         }
         match step(alloc, text, k, &mut placing, line)? {
             LineOutcome::Fault(number) => return Ok(Passed::Fault(k, number)),
-            LineOutcome::Stands(place) => places.push(place)?,
+            LineOutcome::Placed(place) => places.push(place)?,
         }
     }
-    Ok(Passed::Stands(places, placing))
+    Ok(Passed::Placed(places, placing))
 }

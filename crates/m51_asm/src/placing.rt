@@ -14,9 +14,9 @@ use crate::counts::Counts;
 use crate::definitions::definitions_in;
 use crate::forms::form_of;
 use crate::giving::{Giving, take_in};
+use crate::line_facts::{LineFacts, facts_from, named_by};
 use crate::names_at::{NamedText, NamesAt};
 use crate::segments::{OpenSegment, SegmentsAbove};
-use crate::told::{LineFacts, named_by, tell};
 use crate::valuation::Values;
 use m51_cells::NoMemory;
 use m51_expr::{Located, Origin, Part};
@@ -50,7 +50,7 @@ pub(crate) fn here_of(segment: OpenSegment, before: u16) -> Located<u32>
 }
 
 /// What follows for line k from the state after the lines above it.
-pub(crate) fn told_of(
+pub(crate) fn facts_of(
     text: &NamedText<'_>,
     k: usize,
     placing: &PassOneState,
@@ -84,7 +84,7 @@ pub(crate) fn told_of(
     let body = &line.stmt.body;
     let form = form_of(&labelled, body);
     let named = named_by(text.names, k, body);
-    tell(k, &names, form, segments, named, body)
+    facts_from(k, &names, form, segments, named, body)
 }
 
 impl PassOneState {
@@ -109,7 +109,7 @@ impl PassOneState {
         alloc: Global,
         k: usize,
         line: &Line,
-        told: &LineFacts,
+        facts: &LineFacts,
         counts: &Counts,
     ) -> Result<(), NoMemory>
         requires within { k < 65536 }
@@ -117,19 +117,19 @@ impl PassOneState {
         requires declared { self.old.externals + externals_in (body_tree line.now.stmt.body) ≤ 255 }
         ensures { OnOk result ((lines : List LineTree) (a : Assignment) → Fits lines a
             → slice_get lines k ≡ Some (line_tree line.now) → placed_fault lines a k ≡ None
-            → IsAt lines a k self.old → AreLineFacts lines a k told.now → IsCounted lines a k counts.now
+            → IsAt lines a k self.old → AreLineFacts lines a k facts.now → IsCounted lines a k counts.now
             → IsAt lines a (suc k) self.new) }
     {
         let defined = definitions_in(alloc, &line.stmt)?;
         let giving = Giving {
-            here: told.here,
-            expression: told.operand.given(),
+            here: facts.here,
+            expression: facts.operand.given(),
             line: k,
             externals: self.externals,
         };
         take_in(alloc, &mut self.values, &giving, &defined)?;
-        self.segments.leave_open(told.next, counts.next as u16);
-        self.bank = told.operand.bank(self.bank);
+        self.segments.leave_open(facts.next, counts.next as u16);
+        self.bank = facts.operand.bank(self.bank);
         self.numbered = counts.segments as u8;
         self.externals = counts.externals as u8;
         Ok(())

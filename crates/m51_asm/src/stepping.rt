@@ -11,10 +11,10 @@ ghost use Rattle.m51_asm.specs.Operands.{evaluated_fault};
 ghost use Rattle.m51_asm.specs.Placing.{IsTableOf, IsAt, IsLineOutcome, exceeds_end, are_too_many, fault_by};
 
 use crate::counts::{Counts, are_too_many, count, exceeds_end, fault_by, is_misplaced};
+use crate::line_facts::LineFacts;
 use crate::names_at::NamedText;
-use crate::placing::{PassOneState, told_of};
+use crate::placing::{PassOneState, facts_of};
 use crate::segments::OpenSegment;
-use crate::told::LineFacts;
 use m51_cells::NoMemory;
 use m51_expr::Located;
 use m51_stmt::Body;
@@ -44,24 +44,24 @@ pub(crate) enum LineOutcome {
     /// The number of its fault.
     Fault(u8),
     /// It has none: its place.
-    Stands(LinePlace),
+    Placed(LinePlace),
 }
 
 // The fault of a line that repeats nothing.
 fn evaluated_fault(
     segment: OpenSegment,
-    told: &LineFacts,
+    facts: &LineFacts,
     counts: &Counts,
     body: &Body,
 ) -> Option<u8>
-    ensures { result ≡ fault_by (exceeds_end (text_segment told.now.next) counts.now.next)
+    ensures { result ≡ fault_by (exceeds_end (text_segment facts.now.next) counts.now.next)
         (is_misplaced (text_segment segment) (body_tree body.now))
-        (are_too_many counts.now.segments counts.now.externals) (evaluated_fault told.now.operand) }
+        (are_too_many counts.now.segments counts.now.externals) (evaluated_fault facts.now.operand) }
 {
-    let past = exceeds_end(told.next, counts.next);
+    let past = exceeds_end(facts.next, counts.next);
     let misplaced = is_misplaced(segment, body);
     let many = are_too_many(counts.segments, counts.externals);
-    fault_by(past, misplaced, many, told.operand.fault())
+    fault_by(past, misplaced, many, facts.operand.fault())
 }
 
 /// The outcome of line k, which is taken into the state after the lines above if it has no fault. The line defines no
@@ -82,25 +82,25 @@ pub(crate) fn step(
         → IsAt (map line_tree text.now.lines.now) a k placing.old
         → IsLineOutcome (map line_tree text.now.lines.now) a k placing.new step) }
 {
-    let told = told_of(text, k, placing, line);
+    let facts = facts_of(text, k, placing, line);
     let segments = &placing.segments;
     let segment = segments.current();
     let body = &line.stmt.body;
-    let counts = count(placing, segment, told.next, told.size, body);
-    let fault = evaluated_fault(segment, &told, &counts, body);
+    let counts = count(placing, segment, facts.next, facts.size, body);
+    let fault = evaluated_fault(segment, &facts, &counts, body);
     match fault {
         Some(number) => Ok(LineOutcome::Fault(number)),
         None => {
             let place = LinePlace {
                 segment: segment.id,
                 offset: segments.table.size(segment.id),
-                code: told.code,
+                code: facts.code,
                 bank: placing.bank,
-                selected: told.operand.bank(placing.bank),
-                given: told.operand.given(),
+                selected: facts.operand.bank(placing.bank),
+                given: facts.operand.given(),
             };
-            placing.take_in(alloc, k, line, &told, &counts)?;
-            Ok(LineOutcome::Stands(place))
+            placing.take_in(alloc, k, line, &facts, &counts)?;
+            Ok(LineOutcome::Placed(place))
         }
     }
 }

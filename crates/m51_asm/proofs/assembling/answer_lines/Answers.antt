@@ -25,8 +25,8 @@ returns-in-Fault c = grind (arith, length-map, fault_answer, line_at)
 pub answer_placed-requires-clause-counted : goal.answer_placed-requires-clause-counted
 answer_placed-requires-clause-counted c =
     let lines = map line_tree c.args.lines.now in
-    let h : IsPlaced lines (fitting lines) c.in-Stands.places c.in-Stands.end =
-    subst (IsPassed lines (fitting lines)) c.in-Stands.is (c.in_ok-k.ensures (fitting lines) (fits lines)) in
+    let h : IsPlaced lines (fitting lines) c.in-Placed.places c.in-Placed.end =
+    subst (IsPassed lines (fitting lines)) c.in-Placed.is (c.in_ok-k.ensures (fitting lines) (fits lines)) in
     ap length c.as_slice.ensures ∙ h.counted ∙ length-map c.args.lines.now line_tree
 
 pub answer_placed-requires-clause-placed : goal.answer_placed-requires-clause-placed

@@ -26,21 +26,21 @@ returns-clause-given c = λ lines a k ready is stands h.
     names_mean lines a k t ready c.args.contents.now.set h.sets c.args.place.now stands c.here_of-here.result here
     numbers each in
     let of = published_by n in
-    let told = c.in_ok-told.ensures (a.form k)
+    let emitted = c.in_ok-emitted.ensures (a.form k)
     (c.row_of_code-row.ensures ∙ stands.row ∙ ap (λ l. row_by (a.form k) (body_of l)) is) in
-    let content = ap (λ l. l.content) told in (
+    let content = ap (λ l. l.content) emitted in (
       content_is lines a k line is (names_at n) names
-          c.in_ok-told.told.content content,
+          c.in_ok-emitted.emitted.content content,
       next_given lines a k line is c.args.contents.now _ h (names_at n) names of
           (λ i name. published_is lines a t ready numbers each k _ _ _ names name i) c.row_at.result
-          c.in_ok-told.told.content
+          c.in_ok-emitted.emitted.content
           (c.in_ok-take_set.ensures lines a k is stands h.sets)
-          (ap (λ l. l.made) told)
+          (ap (λ l. l.made) emitted)
           (c.in_ok-unpublished.ensures.publics ∙ ap (λ ns. c.args.contents.now.publics ++ publics_among of ns)
           c.publics_in.ensures)
           (c.in_ok-push_fault.ensures
           ∙ ap (λ o. c.args.contents.now.faults ++ if_fault line o [])
-          (c.or_next.ensures ∙ (λ i. or_next ((ap (λ l. l.fault) told) i)
+          (c.or_next.ensures ∙ (λ i. or_next ((ap (λ l. l.fault) emitted) i)
           ((c.in_ok-unpublished.ensures.fault ∙ ap (fault_among of) c.publics_in.ensures) i))))
           c.in_ok-push.ensures.ok
           (c.row_at.ensures a k (ap (λ v. v.number) here))

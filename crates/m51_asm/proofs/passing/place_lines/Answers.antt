@@ -30,9 +30,9 @@ loop-k-preserved c = λ a f.
     let lines = map line_tree c.args.text.now.lines.now in
     let k = c.loop-k.k in
     let h = c.loop-k.invariant a f in
-    let told = subst (IsLineOutcome lines a k c.step.new.placing) c.in-Stands.is (c.in_ok-number.ensures a f h.at) in
-    rw add-one (passed_more lines a k c.loop-k.places _ c.in-Stands.place c.loop-k.placing c.step.new.placing h
-    c.in_ok-push-in-Stands.ensures.ok told.0 told.1 told.2)
+    let facts = subst (IsLineOutcome lines a k c.step.new.placing) c.in-Placed.is (c.in_ok-number.ensures a f h.at) in
+    rw add-one (passed_more lines a k c.loop-k.places _ c.in-Placed.place c.loop-k.placing c.step.new.placing h
+    c.in_ok-push-in-Placed.ensures.ok facts.0 facts.1 facts.2)
 
 pub returns : goal.returns
 returns c = λ a f.

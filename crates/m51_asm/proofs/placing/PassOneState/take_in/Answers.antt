@@ -14,16 +14,16 @@ take_in-requires-clause-numbers c =
     c.requires.declared
 
 pub returns : goal.returns
-returns c = λ lines a f is none at told counts.
+returns c = λ lines a f is none at facts counts.
     let defined : c.deref.result.now ≡ map brief (definitions_in (stmt_tree c.args.line.now.stmt)) = search rules in
     let g : Giving =
     record {
-      here = c.args.told.now.here;
+      here = c.args.facts.now.here;
       expression = c.given.result;
       line = c.args.k;
       externals = c.args.self.now.externals;
     } in
-    at_next f (line_tree c.args.line.now) is (free lines a c.args.k none) at told counts c.requires.small
+    at_next f (line_tree c.args.line.now) is (free lines a c.args.k none) at facts counts c.requires.small
     g refl c.given.ensures refl refl _
     (λ name. c.in_ok-take_in.ensures name
     ∙ ap (λ ds. given_or g ds name (value_in c.args.self.now.values name)) defined)

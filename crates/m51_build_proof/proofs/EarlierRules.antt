@@ -1,26 +1,24 @@
 -- The line of L12 comes only where the build comes as far as placing: no earlier step has it.
-use Rattle.m51_build_proof.proofs.Common.{◌≡◌, ℕ, ◌+◌, Bool, true, false, cond, List, [], ◌∷◌, length, Option, Some}
-use Rattle.m51_build_proof.proofs.Common.{None, Result, Ok, Err, refl, sym, ap, subst, ◌∙◌, option_map, list_any}
-use Rattle.m51_build_proof.proofs.Common.{option_or, same_Some, and_then, Control, Refusal, L1, L2, L3, L4, L5, L6, L7}
-use Rattle.m51_build_proof.proofs.Common.{L12, Limit, ModuleParts, chosen_of, members_of, segments_of, first_refusal}
-use Rattle.m51_build_proof.proofs.Common.{resolved_of, unless_refused, GraphParts, graph_of, unless, leads}
-use Rattle.m51_build_proof.proofs.Common.{refusal_text, joined_of, placed_of, InputError, InputsTree, BuildJob}
-use Rattle.m51_build_proof.proofs.Common.{build_files, input_outcome, Follows, IsInputsOutcome, IsProgramOutcome}
-use Rattle.m51_build_proof.proofs.Common.{Unlinked, program_in, Outcome, AreAnswered, Given, IsGivenOutcome, Refused}
-use Rattle.m51_build_proof.proofs.Common.{IsReport, AreOfBytes}
+use Rattle.m51_build_proof.proofs.Common.{◌≡◌, ℕ, ◌+◌, Bool, cond, List, [], ◌∷◌, length, Option, Some, None, Result}
+use Rattle.m51_build_proof.proofs.Common.{Ok, Err, refl, sym, ap, subst, ◌∙◌, option_map, list_any, option_or}
+use Rattle.m51_build_proof.proofs.Common.{same_Some, and_then, Control, Refusal, L1, L2, L3, L4, L5, L6, L7, L12}
+use Rattle.m51_build_proof.proofs.Common.{ModuleParts, chosen_of, members_of, segments_of, first_refusal, resolved_of}
+use Rattle.m51_build_proof.proofs.Common.{unless_refused, GraphParts, graph_of, unless, leads, refusal_text, joined_of}
+use Rattle.m51_build_proof.proofs.Common.{placed_of, InputError, InputsTree, BuildJob, build_files, input_outcome}
+use Rattle.m51_build_proof.proofs.Common.{Follows, IsInputsOutcome, IsProgramOutcome, Unlinked, program_in, Outcome}
+use Rattle.m51_build_proof.proofs.Common.{AreAnswered, Given, IsGivenOutcome, Refused, IsReport, AreOfBytes, arith}
 use Rattle.std.proofs.Common.{nat_eq}
-use Rattle.std.specs.Prelude.{nat_lt}
 use Rattle.m51_cells.specs.declared.limits.TheConstants.{MOST_MODULES, MOST_SEGMENTS, MOST_UNITS}
 use Rattle.m51_control.specs.declared.error.ControlError.TheVariants as control
 use Rattle.m51_module.specs.declared.library_error.LibError.TheVariants as library
 use Rattle.m51_module.specs.declared.linked.Quantity.{Quantity}
 use Rattle.m51_module.specs.declared.linked.Quantity.TheVariants.{Modules, Segments, Units}
 use Rattle.m51_module.specs.declared.linked.Refusal.TheVariants.{L8}
-use Rattle.m51_resolve.specs.Rules.{contrary_external, large_segment, mixed_segment, more_than}
-use Rattle.m51_resolve.specs.Rules.{shared_public, undefined_external, joined_units}
+use Rattle.m51_resolve.specs.Rules.{contrary_external, large_segment, mixed_segment, more_than, shared_public}
+use Rattle.m51_resolve.specs.Rules.{undefined_external, joined_units}
 use Rattle.m51_graph.specs.Drawing.{edges_of, fixup_edges}
-use Rattle.m51_graph.specs.Graphs.{cyclic_from, first_under_two, has_overlaid, on_cycles, parts_of}
-use Rattle.m51_graph.specs.Graphs.{roots_above, under_two, unit_under_two}
+use Rattle.m51_graph.specs.Graphs.{cyclic_from, first_under_two, has_overlaid, on_cycles, parts_of, roots_above}
+use Rattle.m51_graph.specs.Graphs.{under_two}
 use Rattle.m51_graph.specs.Lines.{bad_line}
 use Rattle.m51_graph.specs.Locals.{lost_segment}
 use Rattle.m51_graph.specs.Units.{unit_titles}
@@ -39,20 +37,13 @@ module _ (name : List ℕ) where
   next None more here later h = later h
   next (Some refusal) more here later h = here h
 
-  no_more : None ≡ Some (L12 name) → ⊥
-  no_more h = absurd (cc h)
-
   other_rule : {A : Type 0} (make : A → Refusal) (found : Option A) → ((value : A) → make value ≡ L12 name → ⊥)
       → option_map make found ≡ Some (L12 name) → ⊥
-  other_rule make None differs h = no_more h
+  other_rule make None differs h = absurd (cc h)
   other_rule make (Some value) differs h = differs value (same_Some (make value) (L12 name) h)
 
-  limit_by : (what : Quantity) (b : Bool) → cond b (Some (Limit what)) None ≡ Some (L12 name) → ⊥
-  limit_by what true h = absurd (cc h)
-  limit_by what false h = no_more h
-
   not_limit : (most : ℕ) (what : Quantity) (count : ℕ) → more_than most what count ≡ Some (L12 name) → ⊥
-  not_limit most what count h = limit_by what (nat_lt most count) h
+  not_limit most what count h = grind arith
 
   -- none of the rules on chosen modules
   not_chosen : (modules : List ModuleParts) → first_refusal modules ≡ Some (L12 name) → ⊥
@@ -64,38 +55,30 @@ module _ (name : List ℕ) where
       (next _ _ (other_rule L4 (mixed_segment modules) (λ text e. absurd (cc e)))
       (next _ _ (not_limit MOST_SEGMENTS Segments (length (segments_of modules)))
       (next _ _ (not_limit MOST_UNITS Units (length (joined_units modules)))
-      (next _ _ (other_rule L5 (large_segment modules) (λ text e. absurd (cc e))) no_more)))))))
+      (next _ _ (other_rule L5 (large_segment modules) (λ text e. absurd (cc e))) (λ e. absurd (cc e)))))))))
 
   -- none of the rules on the graph
   on : {V : Type 0} (rule : Option Refusal) (after : Result V Refusal) → (rule ≡ Some (L12 name) → ⊥)
       → (after ≡ Err (L12 name) → ⊥) → unless rule after ≡ Err (L12 name) → ⊥
   on None after here later h = later h
-  on (Some refusal) after here later h = let same : refusal ≡ L12 name = cc h in
-      here (ap (λ (r : Refusal). Some r) same)
+  on (Some refusal) after here later h = here (cc h)
 
   no_reset : (b : Bool) → cond b None (Some L8) ≡ Some (L12 name) → ⊥
-  no_reset true h = no_more h
-  no_reset false h = absurd (cc h)
+  no_reset b h = grind arith
 
   no_cycle : (titles : List (List ℕ)) → on_cycles titles ≡ Some (L12 name) → ⊥
-  no_cycle [] h = no_more h
-  no_cycle (title ∷ more) h = absurd (cc h)
-
-  no_two : (title roots : List ℕ) → under_two title roots ≡ Some (L12 name) → ⊥
-  no_two title [] h = no_more h
-  no_two title (one ∷ []) h = no_more h
-  no_two title (one ∷ two ∷ more) h = absurd (cc h)
+  no_cycle titles h = grind arith
 
   two_by : (title roots : List ℕ) (b : Bool) → cond b (under_two title roots) None ≡ Some (L12 name) → ⊥
-  two_by title roots true h = no_two title roots h
-  two_by title roots false h = no_more h
+  two_by title [] b h = grind arith
+  two_by title (one ∷ []) b h = grind arith
+  two_by title (one ∷ two ∷ more) b h = grind arith
 
   none_under : (reach : ℕ → ℕ → Bool) (roots : List (ℕ × ℕ)) (own : List (Option ℕ)) (unit : ℕ) (titles : List (List ℕ))
       → first_under_two reach roots own unit titles ≡ Some (L12 name) → ⊥
-  none_under reach roots own unit [] h = no_more h
+  none_under reach roots own unit [] h = absurd (cc h)
   none_under reach roots own unit (title ∷ more) h =
-      next (unit_under_two reach roots own unit title) (first_under_two reach roots own (unit + 1) more)
-      (λ here. two_by title (roots_above reach roots unit) (has_overlaid own unit) here)
+      next _ _ (two_by title (roots_above reach roots unit) (has_overlaid own unit))
       (none_under reach roots own (unit + 1) more) h
 
   not_drawn : (modules : List ModuleParts) (controls : List (ℕ × Control)) → graph_of modules controls ≡ Err (L12 name)
@@ -126,13 +109,13 @@ module _ (name : List ℕ) where
   by_graph inputs modules (Ok g) chosen is h = record { modules = modules; g = g; chosen = chosen; graph = is }
   by_graph inputs modules (Err refusal) chosen is h =
       let same : refusal ≡ L12 name = cc h in
-      absurd (not_drawn modules inputs.controls (is ∙ ap (λ (r : Refusal). Err r) same))
+      absurd (not_drawn modules inputs.controls (rw same at is))
 
   not_answered : (chosen : List ModuleParts) (rule : Option Refusal) → first_refusal chosen ≡ rule
       → unless_refused chosen rule ≡ Err (L12 name) → ⊥
   not_answered chosen None is h = absurd (cc h)
   not_answered chosen (Some refusal) is h = let same : refusal ≡ L12 name = cc h in
-      not_chosen chosen (is ∙ ap (λ (r : Refusal). Some r) same)
+      not_chosen chosen (rw same at is)
 
   by_choice : (inputs : InputsTree) (found : Result (List ModuleParts) Refusal)
       → resolved_of inputs.modules inputs.libraries ≡ found
@@ -141,7 +124,7 @@ module _ (name : List ℕ) where
   by_choice inputs (Err refusal) is h =
       let same : refusal ≡ L12 name = cc h in
       let chosen : List ModuleParts = chosen_of inputs.modules (members_of inputs.libraries) in
-      absurd (not_answered chosen (first_refusal chosen) refl (is ∙ ap (λ (r : Refusal). Err r) same))
+      absurd (not_answered chosen (first_refusal chosen) refl (rw same at is))
 
   is_drawn : (inputs : InputsTree) → program_in inputs ≡ Err (L12 name) → IsDrawn inputs
   is_drawn inputs h = by_choice inputs (resolved_of inputs.modules inputs.libraries) refl h

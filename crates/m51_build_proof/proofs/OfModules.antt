@@ -1,14 +1,12 @@
 -- What holds of the module of each source and of each object holds of all modules that are linked.
 use Rattle.std.proofs.Common.{arith}
-use Rattle.m51_build_proof.proofs.Common.{◌≡◌, ℕ, zero, suc, ◌+◌, ◌<◌, Bool, true, false, cond, List, [], ◌∷◌, ◌++◌}
-use Rattle.m51_build_proof.proofs.Common.{length, Option, Some, None, Result, Ok, Err, refl, sym, ap, subst, option_map}
-use Rattle.m51_build_proof.proofs.Common.{option_map_or, All, All-nil, All-cons, All-head, All-tail, same_Some}
-use Rattle.m51_build_proof.proofs.Common.{and_then, same_Ok, Control, AreKept, ModuleParts, Row}
-use Rattle.m51_build_proof.proofs.Common.{SourceFile, AnswerTree, Gives, IsAnswer, IsBytes, IsRead, InputError}
-use Rattle.m51_build_proof.proofs.Common.{InputsTree, chosen_of, members_of, resolved_of}
-use Rattle.m51_build_proof.proofs.Common.{AreAnswered, ProgramFiles, word_contents, AreOfBytes}
+use Rattle.m51_build_proof.proofs.Common.{◌≡◌, ℕ, zero, suc, ◌+◌, ◌<◌, List, [], ◌∷◌, ◌++◌, length, Option, Some, None}
+use Rattle.m51_build_proof.proofs.Common.{Result, Ok, refl, sym, subst, option_map_or, All, All-nil, All-cons, All-head}
+use Rattle.m51_build_proof.proofs.Common.{All-tail, and_then, Control, AreKept, ModuleParts, Row, SourceFile}
+use Rattle.m51_build_proof.proofs.Common.{AnswerTree, Gives, IsAnswer, IsBytes, IsRead, InputError, InputsTree}
+use Rattle.m51_build_proof.proofs.Common.{members_of, resolved_of, AreAnswered, ProgramFiles, word_contents, AreOfBytes}
+use Rattle.m51_build_proof.proofs.Common.{Bool, cond, false, true, same_Some, option_map}
 use Rattle.std.proofs.lemmas.List.Elements.{All-take, All-append}
-use Rattle.m51_module.specs.declared.library_error.LibError.{LibError}
 use Rattle.m51_module.specs.declared.object_error.ObjError.{ObjError}
 use Rattle.m51_module.specs.Library.{built}
 use Rattle.m51_asm.specs.Answer.{Faults}
@@ -27,10 +25,10 @@ use Rattle.m51_jobs.specs.declared.endings.Ending.{Ending}
 use Rattle.m51_jobs.specs.declared.endings.Ending.TheVariants as ending
 use Rattle.m51_jobs.specs.Endings.{ending_of}
 use Rattle.m51_inputs.specs.Files.{source_words}
-use Rattle.m51_inputs.specs.Inputs.{controls_in, inputs_of, script_in}
+use Rattle.m51_inputs.specs.Inputs.{controls_in, inputs_of}
 use Rattle.m51_inputs.specs.Objects as objects
-use Rattle.m51_inputs.specs.Objects.{linked_by, linked_from, or_library, with_library, with_module, with_source}
-use Rattle.m51_inputs.specs.Sources.{AreAnswers, faults_in, modules_in, unless_faults}
+use Rattle.m51_inputs.specs.Objects.{linked_by, linked_from, with_library, with_module, with_source, or_library}
+use Rattle.m51_inputs.specs.Sources.{AreAnswers, modules_in, faults_in, unless_faults}
 use Rattle.m51_resolve.specs.Choice.{choice, first_needed, is_needed}
 use Rattle.m51_chain.proofs.Accepted.{on_value}
 use Rattle.m51_build_proof.proofs.ControlsKept.{controls_kept}
@@ -132,29 +130,18 @@ module _ (P : ModuleParts → Type 0)
       module_first (after sources) m l (All-head P m sources valid)
       (λ k is. rest sources k (All-tail P m sources valid) is) h
 
-  object_first : (word : ℕ) (file : List ℕ) (found : Result ModuleParts ObjError) (r : Result objects.Linked InputError)
-      (l : objects.Linked) → IsBytes file → module_in file ≡ found
-      → ((k : objects.Linked) → r ≡ Ok k → AreLinked k) → and_then (objects.or_object word found) (with_module r) ≡ Ok l
-      → AreLinked l
-  object_first word file (Ok m) r l bytes is rest h = module_first r m l (object_valid file m bytes is) rest h
-  object_first word file (Err error) r l bytes is rest h = absurd (cc h)
-
-  archive_first : (word : ℕ) (file : List ℕ) (found : Result (List ModuleParts) LibError)
-      (r : Result objects.Linked InputError) (l : objects.Linked) → IsBytes file → library_of file ≡ found
-      → ((k : objects.Linked) → r ≡ Ok k → AreLinked k) → and_then (or_library word found) (with_library r) ≡ Ok l
-      → AreLinked l
-  archive_first word file (Ok ms) r l bytes is rest h = library_first r ms l (library_valid file ms bytes is) rest h
-  archive_first word file (Err error) r l bytes is rest h = absurd (cc h)
-
   word_first : (o : Option Ending) (word : ℕ) (file : List ℕ) (sources : List ModuleParts)
       (after : List ModuleParts → Result objects.Linked InputError) (l : objects.Linked)
       → IsBytes file → All P sources → AreFollowed after → linked_by o word file sources after ≡ Ok l → AreLinked l
   word_first (Some ending.Source) word file sources after l bytes valid rest h = grind (arith, source_first)
   word_first (Some ending.Include) word file sources after l bytes valid rest h = rest sources l valid h
   word_first (Some ending.Object) word file sources after l bytes valid rest h =
-      object_first word file (module_in file) (after sources) l bytes refl (grind arith) h
+      on_value (objects.or_object word (module_in file)) _ l (AreLinked l)
+      (λ m is later. module_first (after sources) m l (object_valid file m bytes (grind arith)) (grind arith) later) h
   word_first (Some ending.Library) word file sources after l bytes valid rest h =
-      archive_first word file (library_of file) (after sources) l bytes refl (grind arith) h
+      on_value (or_library word (library_of file)) _ l (AreLinked l)
+      (λ ms is later.
+      library_first (after sources) ms l (library_valid file ms bytes (grind arith)) (grind arith) later) h
   word_first None word file sources after l bytes valid rest h = rest sources l valid h
 
   abbrev IsOfBytes : List ℕ → Type 0
@@ -185,16 +172,8 @@ module _ (P : ModuleParts → Type 0)
       on_value (unless_faults (faults_in (source_words 0 files) answers) (modules_in answers)) _ inputs
       (AreInputs inputs) (λ sources one h1.
       on_value (linked_from 0 files contents sources) _ inputs (AreInputs inputs) (λ linked two h2.
-      on_value (controls_in control) _ inputs (AreInputs inputs) (λ lines three h3.
-      on_value (script_in script) _ inputs (AreInputs inputs) (λ board four h4.
-      let all : All P sources =
-      grind arith in
-      let known = words_linked 0 files contents sources linked bytes all two in
-      let made : InputsTree =
-      record { modules = linked.modules; libraries = linked.libraries; controls = lines; script = board } in
-      subst AreInputs (same_Ok {E = InputError} made inputs h4)
-      (grind (arith, lines_kept control lines three)))
-      h3) h2) h1) h
+      let known = words_linked 0 files contents sources linked bytes (grind arith) two in
+      grind (arith, lines_kept control, known)) h1) h
 
   pub inputs_known : (files : ProgramFiles) (contents : List (List ℕ)) (inputs : InputsTree) → AreOfBytes contents
       → AreAnswered files contents (Ok inputs) → AreInputs inputs
@@ -261,6 +240,5 @@ module _ (P : ModuleParts → Type 0)
       → All P given → All (All P) libraries
       → resolved_of given libraries ≡ Ok modules → All P modules
   chosen_all given libraries modules valid all h =
-      let chosen = chosen_of given (members_of libraries) in
-      subst (λ (ms : List ModuleParts). All P ms) (grind arith)
+      subst (All P) (grind arith)
       (choice_valid (length (members_of libraries)) (members_of libraries) given (members_valid libraries all) valid)

@@ -1,8 +1,7 @@
 -- The names of a text without faults have values with numbers of 16 bits.
-use Rattle.m51_build_proof.proofs.Common.{◌≡◌, ◌⊎◌, inl, inr, ℕ, zero, suc, ◌+◌, ◌<◌, ◌≤◌, nat_lt, Bool, true, false}
-use Rattle.m51_build_proof.proofs.Common.{cond, List, [], ◌∷◌, ◌++◌, length, Option, Some, None, Ok, Err, refl, sym}
-use Rattle.m51_build_proof.proofs.Common.{subst, arith, slice_get, AllByRecursion, and_parts}
-use Rattle.m51_build_proof.proofs.Common.{Kind, Value, Tree, Valued, BodyTree, IsTree, LineTree}
+use Rattle.m51_build_proof.proofs.Common.{◌≡◌, inl, inr, ℕ, zero, suc, ◌<◌, ◌≤◌, nat_lt, Bool, true, false, cond, List}
+use Rattle.m51_build_proof.proofs.Common.{[], ◌∷◌, ◌++◌, length, Option, Some, None, refl, arith, slice_get}
+use Rattle.m51_build_proof.proofs.Common.{AllByRecursion, Kind, Value, Tree, BodyTree, IsTree, LineTree}
 use Rattle.std.proofs.Common.{option_map}
 use Rattle.std.specs.List.{list_all}
 use Rattle.std.specs.Str.{bytes_eq}
@@ -11,24 +10,21 @@ use Rattle.std.proofs.lemmas.List.Quantifiers.{position-Some}
 use Rattle.std.proofs.lemmas.Option.{slice_get_past}
 use Rattle.m51_expr.specs.Evaluation.{value_of}
 use Rattle.m51_expr.specs.Words.{bank_registers}
-use Rattle.m51_predefined.specs.Predefined.{register_or_bit, absolute_register_of, register_value}
+use Rattle.m51_predefined.specs.Predefined.{absolute_register_of}
 use Rattle.m51_sfr.specs.Registers.{Row, address_in, bits, registers, table}
 use Rattle.m51_stmt.specs.Statement as body
-use Rattle.m51_asm.specs.Definitions.{Definition, Label, SegmentOf, EquOf, SetOf, AddressOf, ExternOf, definitions_in}
-use Rattle.m51_asm.specs.Definitions.{label_defined, defined_by, externals_from, found_in, definition_from}
-use Rattle.m51_asm.specs.Definitions.{definition_of}
-use Rattle.m51_asm.specs.Assignment.{Assignment, body_at, body_of, defined_of, line_definitions, here_at, if_before}
-use Rattle.m51_asm.specs.Assignment.{above, value_or_none}
+use Rattle.m51_asm.specs.Definitions.{Definition, EquOf, SetOf, AddressOf, definitions_in, label_defined, defined_by}
+use Rattle.m51_asm.specs.Definitions.{externals_from, found_in, definition_from, definition_of}
+use Rattle.m51_asm.specs.Assignment.{Assignment, body_at, defined_of, line_definitions, here_at, if_before, above}
+use Rattle.m51_asm.specs.Assignment.{value_or_none}
 use Rattle.m51_asm.specs.Fitting.{set_by, last_set, mod51, bank_by, bank_before, register_or_predefined}
-use Rattle.m51_asm.specs.Fitting.{undefined_value, externals_before, with_class, segment_value, external_value}
-use Rattle.m51_asm.specs.Fitting.{value_by, named_value}
+use Rattle.m51_asm.specs.Fitting.{undefined_value, externals_before, with_class, value_by, named_value}
 use Rattle.m51_asm.specs.ObjectSegments.{final}
 use Rattle.m51_asm.specs.PlacedFaults.{operand_fault}
 use Rattle.m51_asm.proofs.GoodLines.{IsClean, free}
-use Rattle.m51_asm.proofs.KnownSegments.{found_if, later_is}
+use Rattle.m51_asm.proofs.KnownSegments.{later_is}
 use Rattle.m51_build_proof.proofs.ReadBodies.{IsSmallBody, SmallTree}
-use Rattle.m51_build_proof.proofs.SmallValues.{AreSmall, IfSmall, IfSomeSmall, IsSmall, plain_small, some_small}
-use Rattle.m51_build_proof.proofs.SmallValues.{value_small}
+use Rattle.m51_build_proof.proofs.SmallValues.{AreSmall, IfSomeSmall, IsSmall, value_small}
 
 -- the expression of a definition
 abbrev IsSmallDefinition : Definition → Type 0
@@ -40,47 +36,25 @@ IsSmallDefinition d = Unit {0}
 abbrev some_definition : Definition → Option Definition
 some_definition d = Some d
 
-one_found : (t : List ℕ) (d : Definition) (name : List ℕ) (found : Definition)
-    → found_in ((t, d) ∷ []) name ≡ some_definition found → IsSmallDefinition d → IsSmallDefinition found
-one_found t d name found h is = elim (found_if (bytes_eq name t) d found None h) [
-  | inl e ↦ subst IsSmallDefinition e is
-  | inr e ↦ absurd (cc e)
-]
-
 extern_found : (xs : List (List ℕ × Kind)) (n : ℕ) (name : List ℕ) (found : Definition)
     → found_in (externals_from n xs) name ≡ some_definition found → IsSmallDefinition found
 extern_found [] n name found h = absurd (cc h)
-extern_found (x ∷ xs) n name found h =
-    elim (found_if (bytes_eq name x.0) (ExternOf x.1 n) found (found_in (externals_from (suc n) xs) name) h) as
-    (λ _. IsSmallDefinition found) [
-      | inl e ↦ subst IsSmallDefinition e tt
-      | inr e ↦ extern_found xs (suc n) name found e
-    ]
+extern_found (x ∷ xs) n name found h = grind (arith, extern_found xs (suc n) name found)
 
 body_found : (b : BodyTree) (name : List ℕ) (found : Definition) → IsSmallBody b
     → found_in (defined_by b) name ≡ some_definition found → IsSmallDefinition found
-body_found (body.Segment t j type overlayable) name found is h = one_found t (SegmentOf j) name found h tt
-body_found (body.Equ t e) name found is h = one_found t (EquOf e) name found h is
-body_found (body.Set t e) name found is h = one_found t (SetOf e) name found h is
-body_found (body.Address t j e) name found is h = one_found t (AddressOf j e) name found h is
 body_found (body.Extrn xs) name found is h = extern_found xs 0 name found h
-body_found b name found is h = absurd (cc h)
+body_found b name found is h = grind arith
 
 line_found : (label : Option (List ℕ)) (b : BodyTree) (name : List ℕ) (found : Definition) → IsSmallBody b
     → found_in (label_defined label ++ defined_by b) name ≡ some_definition found → IsSmallDefinition found
-line_found None b name found is h = body_found b name found is h
-line_found (Some t) b name found is h =
-    elim (found_if (bytes_eq name t) Label found (found_in (defined_by b) name) h) [
-      | inl e ↦ subst IsSmallDefinition e tt
-      | inr e ↦ body_found b name found is e
-    ]
+line_found label b name found is h = grind (arith, body_found b name found is)
 
 from_found : (ls : List LineTree) (n : ℕ) (name : List ℕ) (line : ℕ) (found : Definition) → AllByRecursion SmallTree ls
     → definition_from n ls name ≡ Some (line, found) → IsSmallDefinition found
 from_found [] n name line found all h = absurd (cc h)
 from_found (l ∷ ls) n name line found all h =
-    elim (later_is n (found_in (definitions_in l.stmt) name) (definition_from (suc n) ls name) line found h) as
-    (λ _. IsSmallDefinition found) [
+    elim (later_is n (found_in (definitions_in l.stmt) name) (definition_from (suc n) ls name) line found h) [
       | inl p ↦ line_found l.stmt.label l.stmt.body name found all.0 p.1
       | inr e ↦ from_found ls (suc n) name line found all.1 e
     ]
@@ -100,17 +74,10 @@ there_found (l ∷ ls) (suc k) name found all h = there_found ls k name found al
 abbrev fits : Row → Bool
 fits r = nat_lt r.address 65536
 
-row_small : (b : Bool) (n m : ℕ) (o : Option ℕ) → cond b (Some n) o ≡ Some m → n < 65536 → (o ≡ Some m → m < 65536)
-    → m < 65536
-row_small b n m o h less more = grind arith
-
 rows_small : (rows : List Row) (name : List ℕ) (n : ℕ) → list_all fits rows ≡ true → address_in rows name ≡ Some n
     → n < 65536
 rows_small [] name n all h = absurd (cc h)
-rows_small (r ∷ rows) name n all h =
-    let p = and_parts (fits r) (list_all fits rows) all in
-    row_small (bytes_eq r.name name) r.address n (address_in rows name) h (ltb-true r.address 65536 p.0)
-    (λ e. rows_small rows name n p.1 e)
+rows_small (r ∷ rows) name n all h = grind (arith, rows_small rows name n)
 
 registers_fit : list_all fits registers ≡ true
 unfolding registers table
@@ -121,23 +88,15 @@ unfolding bits table
 bits_fit = refl
 
 module _ (lines : List LineTree) (a : Assignment) (c : IsClean lines a) (all : AllByRecursion SmallTree lines) where
-  none_small : IfSomeSmall None
-  none_small = record { holds = λ w e. absurd (cc e) }
-
-  result_small : (r : Valued Value) → IfSmall r → IfSomeSmall (value_or_none r)
-  result_small (Ok v) h = some_small v (h.holds v refl)
-  result_small (Err e) h = none_small
-
   here_small : (k : ℕ) → IsSmall (here_at a k)
   here_small k = record { number = let n = a.place k in omega arith }
 
   tree_small : (k : ℕ) (e : Tree) → IsTree e → AreSmall (above lines a k)
       → IfSomeSmall (value_or_none (value_of (above lines a k) e))
-  tree_small k e is are = result_small (value_of (above lines a k) e) (value_small (above lines a k) are e is)
+  tree_small k e is are = grind (arith, value_small (above lines a k) are e is)
 
   classed : (kind : Kind) (o : Option Value) → IfSomeSmall o → IfSomeSmall (option_map (with_class kind) o)
-  classed kind None h = none_small
-  classed kind (Some v) h = some_small (with_class kind v) (record { number = (h.holds v refl).number })
+  classed kind o h = grind arith
 
   bank_line : (k before : ℕ) (b : BodyTree) → before ≤ 3 → operand_fault lines (above lines a k) k b ≡ None
       → bank_by (above lines a k) before b ≤ 3
@@ -149,8 +108,7 @@ module _ (lines : List LineTree) (a : Assignment) (c : IsClean lines a) (all : A
   few_banks (suc k) = elim (cases_lt k (length lines)) [
     | inl below ↦ bank_line k (bank_before lines a k) (body_at lines k) (few_banks k)
         (free lines a k (c.placed k below)).operand
-    | inr past ↦ subst (λ (o : Option LineTree). bank_by (above lines a k) (bank_before lines a k) (body_of o) ≤ 3)
-        (sym (slice_get_past lines k past)) (few_banks k)
+    | inr past ↦ rw (slice_get_past lines k past) (few_banks k)
   ]
 
   -- names above each line have such values
@@ -165,7 +123,7 @@ module _ (lines : List LineTree) (a : Assignment) (c : IsClean lines a) (all : A
 
   last_small : (name : List ℕ) (k : ℕ) → AllAbove k → IfSomeSmall (last_set lines a name k)
   unfolding last_set AllAbove
-  last_small name zero above_it = none_small
+  last_small name zero above_it = grind arith
   last_small name (suc k) above_it =
       set_small k name (found_in (line_definitions lines k) name) (last_set lines a name k) refl
       (above_it k (omega arith)) (last_small name k (λ j less. above_it j (omega (arith, less))))
@@ -174,31 +132,16 @@ module _ (lines : List LineTree) (a : Assignment) (c : IsClean lines a) (all : A
       → AreSmall (above lines a d)
       → IfSomeSmall (value_by (here_at a d) (above lines a d) (last_set lines a name k) (externals_before lines d) d
       definition)
-  defined_small k name d Label is above_it are = some_small (here_at a d) (here_small d)
-  defined_small k name d (SegmentOf kind) is above_it are =
-      some_small (segment_value kind d) (record { number = omega arith })
   defined_small k name d (EquOf e) is above_it are = tree_small d e is are
   defined_small k name d (SetOf e) is above_it are = last_small name k above_it
-  defined_small k name d (AddressOf kind e) is above_it are =
-      classed kind (value_or_none (value_of (above lines a d) e)) (tree_small d e is are)
-  defined_small k name d (ExternOf kind m) is above_it are =
-      some_small (external_value kind (externals_before lines d + m + 1)) (record { number = omega arith })
-
-  predefined_small : (o p : Option ℕ) → ((n : ℕ) → o ≡ Some n → n < 65536) → ((n : ℕ) → p ≡ Some n → n < 65536)
-      → IfSomeSmall (register_or_bit o p)
-  predefined_small (Some n) p h k = some_small _ (plain_small n _ (h n refl))
-  predefined_small None (Some n) h k = some_small _ (plain_small n _ (k n refl))
-  predefined_small None None h k = none_small
+  defined_small k name d (AddressOf kind e) is above_it are = classed kind _ (tree_small d e is are)
+  defined_small k name d definition is above_it are = grind (arith, here_small d)
 
   register_small : (on : Bool) (bank : ℕ) (name : List ℕ) (o : Option ℕ) → bank ≤ 3 → absolute_register_of name ≡ o
       → IfSomeSmall (register_or_predefined on bank name o)
   register_small on bank name (Some n) few is =
-      let less : n < 8 = (position-Some (λ word. bytes_eq word name) bank_registers n name is).0 in
-      some_small (register_value bank n) (record { number = omega (arith, few, less) })
-  register_small true bank name None few is =
-      predefined_small (address_in registers name) (address_in bits name)
-      (λ n e. rows_small registers name n registers_fit e) (λ n e. rows_small bits name n bits_fit e)
-  register_small false bank name None few is = none_small
+      grind (arith, (position-Some (λ word. bytes_eq word name) bank_registers n name is).0)
+  register_small on bank name None few is = grind (arith, rows_small, registers_fit, bits_fit)
 
   undefined_small : (k : ℕ) (name : List ℕ) → IfSomeSmall (undefined_value lines a k name)
   unfolding undefined_value
@@ -217,7 +160,7 @@ module _ (lines : List LineTree) (a : Assignment) (c : IsClean lines a) (all : A
   before_by k name d definition true test is above_it =
       defined_small k name d definition (definition_small name d definition is) above_it
       (above_it d (ltb-true d k test))
-  before_by k name d definition false test is above_it = none_small
+  before_by k name d definition false test is above_it = grind arith
 
   before_small : (k : ℕ) (name : List ℕ) (o : Option (ℕ × Definition)) → definition_of lines name ≡ o → AllAbove k
       → IfSomeSmall (if_before k (named_value lines a k name o) o)
@@ -227,22 +170,17 @@ module _ (lines : List LineTree) (a : Assignment) (c : IsClean lines a) (all : A
   above_by : (k : ℕ) → AllAbove k → AreSmall (above lines a k)
   unfolding above
   above_by k above_it = record {
-    value = λ name.
-        subst (λ v. IfSomeSmall (if_before k v (definition_of lines name))) (sym (c.fits.values k name))
-        (before_small k name (definition_of lines name) refl above_it);
+    value = λ name. rw (c.fits.values k name) (before_small k name (definition_of lines name) refl above_it);
     here = here_small k;
   }
 
   all_above : (k : ℕ) → AllAbove k
   unfolding AllAbove
   all_above zero j less = absurd (omega (arith, less))
-  all_above (suc k) j less = elim (last_or_below j k less) [
-    | inl e ↦ subst (λ n. AreSmall (above lines a n)) (sym e) (above_by k (all_above k))
-    | inr l ↦ all_above k j l
+  all_above (suc k) j less = elim (cases_lt j k) [
+    | inl below ↦ all_above k j below
+    | inr not_below ↦ let e : j ≡ k = omega arith in rw e (above_by k (all_above k))
   ]
-    where
-      last_or_below : (j k : ℕ) → j < suc k → (j ≡ k) ⊎ (j < k)
-      last_or_below j k h = grind (arith, h)
 
   named_small : (k : ℕ) (name : List ℕ) (o : Option (ℕ × Definition)) → definition_of lines name ≡ o
       → IfSomeSmall (named_value lines a k name o)
@@ -254,7 +192,7 @@ module _ (lines : List LineTree) (a : Assignment) (c : IsClean lines a) (all : A
   pub final_small : (k : ℕ) → AreSmall (final lines a k)
   unfolding final
   final_small k = record {
-    value = λ name. subst IfSomeSmall (sym (c.fits.values k name)) (named_small k name (definition_of lines name) refl);
+    value = λ name. rw (c.fits.values k name) (named_small k name (definition_of lines name) refl);
     here = here_small k;
   }
 

@@ -1,7 +1,7 @@
 -- Each graph has a weight: without cycles there is a heaviest walk from each unit.
 use Rattle.m51_build_proof.proofs.Common.{◌≡◌, ◌⊎◌, inl, inr, ℕ, zero, suc, ◌+◌, ◌<◌, ◌≤◌, true, Bool, List, [], ◌∷◌}
-use Rattle.m51_build_proof.proofs.Common.{length, map, refl, sym, ap, subst, ◌∙◌, arith, list_any, false≢true, Chain}
-use Rattle.m51_build_proof.proofs.Common.{vectors, GraphParts, IsGraph, leads}
+use Rattle.m51_build_proof.proofs.Common.{length, map, refl, arith, list_any, false≢true, sym, ap, ◌∙◌, Chain, vectors}
+use Rattle.m51_build_proof.proofs.Common.{GraphParts, IsGraph, leads, false}
 use Rattle.std.proofs.Common.{not}
 use Rattle.std.specs.List.{Contains, sum_by}
 use Rattle.std.proofs.lemmas.Bool.{cases_Bool, cases_lt, not-true}
@@ -19,6 +19,28 @@ use Rattle.m51_graph.proofs.Relations.{above_tells}
 use Rattle.m51_place.specs.Overlay.{bytes_joined, unit_weight}
 use Rattle.m51_build_proof.specs.Overlay.{HasWeight}
 
+-- one number is less than the other, or they are the same and this holds
+abbrev Lesser : ℕ → ℕ → Type 0 → Type 0
+Lesser a b P = (a < b) ⊎ ((a ≡ b) × P)
+
+lesser_or : (a b : ℕ) {P Q : Type 0} → P ⊎ Q → Lesser a b P ⊎ Lesser b a Q
+lesser_or a b same = elim (cases_lt a b) [
+  | inl less ↦ inl (inl less)
+  | inr not_less ↦ elim (cases_lt b a) [
+    | inl less ↦ inr (inl less)
+    | inr also_not ↦ elim same [
+      | inl h ↦ inl (inr (omega (arith, not_less, also_not), h))
+      | inr h ↦ inr (inr (omega (arith, not_less, also_not), h))
+    ]
+  ]
+]
+
+lesser_over : (a b c : ℕ) {P Q R : Type 0} → (P → Q → R) → Lesser a b P → Lesser b c Q → Lesser a c R
+lesser_over a b c on (inl h) (inl k) = inl (omega (arith, h, k))
+lesser_over a b c on (inl h) (inr k) = inl (omega (arith, h, k.0))
+lesser_over a b c on (inr h) (inl k) = inl (omega (arith, h.0, k))
+lesser_over a b c on (inr h) (inr k) = inr (h.0 ∙ k.0, on h.1 k.1)
+
 -- of two lists one comes first
 first_self : (xs : List ℕ) → ComesFirst xs xs
 first_self [] = tt
@@ -27,28 +49,13 @@ first_self (x ∷ xs) = inr (refl, first_self xs)
 first_of_two : (xs ys : List ℕ) → ComesFirst xs ys ⊎ ComesFirst ys xs
 first_of_two [] ys = inl tt
 first_of_two (x ∷ xs) [] = inr tt
-first_of_two (x ∷ xs) (y ∷ ys) =
-    elim (cases_lt x y) [
-      | inl less ↦ inl (inl less)
-      | inr not_less ↦ elim (cases_lt y x) [
-        | inl less ↦ inr (inl less)
-        | inr also_not ↦
-            let same : x ≡ y = omega (arith, not_less, also_not) in
-            elim (first_of_two xs ys) [
-              | inl h ↦ inl (inr (same, h))
-              | inr h ↦ inr (inr (sym same, h))
-            ]
-      ]
-    ]
+first_of_two (x ∷ xs) (y ∷ ys) = lesser_or x y (first_of_two xs ys)
 
 first_over : (xs ys zs : List ℕ) → ComesFirst xs ys → ComesFirst ys zs → ComesFirst xs zs
 first_over [] ys zs h k = tt
 first_over (x ∷ xs) [] zs h k = absurd h
 first_over (x ∷ xs) (y ∷ ys) [] h k = absurd k
-first_over (x ∷ xs) (y ∷ ys) (z ∷ zs) (inl h) (inl k) = inl (omega (arith, h, k))
-first_over (x ∷ xs) (y ∷ ys) (z ∷ zs) (inl h) (inr k) = inl (omega (arith, h, k.0))
-first_over (x ∷ xs) (y ∷ ys) (z ∷ zs) (inr h) (inl k) = inl (omega (arith, h.0, k))
-first_over (x ∷ xs) (y ∷ ys) (z ∷ zs) (inr h) (inr k) = inr (h.0 ∙ k.0, first_over xs ys zs h.1 k.1)
+first_over (x ∷ xs) (y ∷ ys) (z ∷ zs) h k = lesser_over x y z (first_over xs ys zs) h k
 
 module _ (weight : ℕ → ℕ) where
   abbrev total : ℕ → List ℕ → ℕ
@@ -59,41 +66,22 @@ module _ (weight : ℕ → ℕ) where
 
   -- the first walk from the unit weighs more, or as much and comes first
   abbrev Beats : ℕ → List ℕ → List ℕ → Type 0
-  Beats unit more other =
-      (total unit other < total unit more) ⊎ ((total unit other ≡ total unit more) × ComesFirst more other)
+  Beats unit more other = Lesser (total unit other) (total unit more) (ComesFirst more other)
 
   beats_self : (unit : ℕ) (more : List ℕ) → Beats unit more more
   beats_self unit more = inr (refl, first_self more)
 
   beats_or : (unit : ℕ) (one two : List ℕ) → Beats unit one two ⊎ Beats unit two one
-  beats_or unit one two =
-      elim (cases_lt (total unit two) (total unit one)) [
-        | inl less ↦ inl (inl less)
-        | inr not_less ↦ elim (cases_lt (total unit one) (total unit two)) as
-            (λ _. Beats unit one two ⊎ Beats unit two one) [
-              | inl less ↦ inr (inl less)
-              | inr also_not ↦
-                  let same : total unit two ≡ total unit one = omega (arith, not_less, also_not) in
-                  elim (first_of_two one two) [
-                    | inl h ↦ inl (inr (same, h))
-                    | inr h ↦ inr (inr (sym same, h))
-                  ]
-            ]
-      ]
+  beats_or unit one two = lesser_or (total unit two) (total unit one) (first_of_two one two)
 
   beats_over : (unit : ℕ) (one two three : List ℕ) → Beats unit one two → Beats unit two three → Beats unit one three
-  beats_over unit one two three (inl h) (inl k) = inl (omega (arith, h, k))
-  beats_over unit one two three (inl h) (inr k) = inl (omega (arith, h, k.0))
-  beats_over unit one two three (inr h) (inl k) = inl (omega (arith, h.0, k))
-  beats_over unit one two three (inr h) (inr k) = inr (k.0 ∙ h.0, first_over one two three h.1 k.1)
+  beats_over unit one two three h k =
+      lesser_over (total unit three) (total unit two) (total unit one) (λ q p. first_over one two three p q) k h
 
   beats_on : (unit next : ℕ) (more other : List ℕ) → Beats next more other → Beats unit (next ∷ more) (next ∷ other)
   beats_on unit next more other (inl h) = inl (omega (arith, h, total_on unit next more, total_on unit next other))
   beats_on unit next more other (inr h) =
-      inr (
-        total_on unit next other ∙ ap (λ (n : ℕ). weight unit + n) h.0 ∙ sym (total_on unit next more),
-        inr (refl, h.1),
-      )
+      inr (omega (arith, h.0, total_on unit next more, total_on unit next other), inr (refl, h.1))
 
   module _ (edges : Edges) where
     -- a walk from the unit that beats all others
@@ -116,30 +104,25 @@ module _ (weight : ℕ → ℕ) where
     none_yet unit [] walk h = beats_self unit []
     none_yet unit (next ∷ other) walk h = absurd (none_in_empty (unit, next) h)
 
-    -- the edge begins each walk that takes it first
-    by_edge : (unit : ℕ) (e : ℕ × ℕ) (es : Edges) (step : HasBest e.1) (rest : HasBestIn es unit) (more : List ℕ)
-        → Beats unit more (e.1 ∷ step.more) → Beats unit more rest.more
+    -- what beats the walks that take the edge first, and those that begin in the others, beats both
+    by_edge : (unit : ℕ) (e : ℕ × ℕ) (es : Edges) (rest : HasBestIn es unit) (more : List ℕ)
+        → (e.0 ≡ unit → (other : List ℕ) → IsWalk edges e.1 other → Beats unit more (e.1 ∷ other))
+        → Beats unit more rest.more
         → (other : List ℕ) → IsWalk edges unit other → BeginsIn (e ∷ es) unit other → Beats unit more other
-    by_edge unit e es step rest more one two [] walk h = beats_over unit more rest.more [] two (rest.most [] tt tt)
-    by_edge unit e es step rest more one two (next ∷ other) walk h =
+    by_edge unit e es rest more first two [] walk h = beats_over unit more rest.more [] two (rest.most [] tt tt)
+    by_edge unit e es rest more first two (next ∷ other) walk h =
         elim (first_or_after e es (unit, next) h) [
           | inl here ↦
-              let same : e.1 ≡ next = ap (λ (p : ℕ × ℕ). p.1) here in
-              let on : IsWalk edges e.1 other = subst (λ (n : ℕ). IsWalk edges n other) (sym same) walk.1 in
-              subst (λ (n : ℕ). Beats unit more (n ∷ other)) same
-              (beats_over unit more (e.1 ∷ step.more) (e.1 ∷ other) one
-              (beats_on unit e.1 step.more other (step.most other on)))
+              let same = ap (λ (p : ℕ × ℕ). p.1) here in
+              rw (← same) (first (ap (λ (p : ℕ × ℕ). p.0) here) other (rw same walk.1))
           | inr later ↦ beats_over unit more rest.more (next ∷ other) two (rest.most (next ∷ other) walk later)
         ]
 
-    passed : (unit : ℕ) (e : ℕ × ℕ) (es : Edges) (rest : HasBestIn es unit) → (e.0 ≡ unit → ⊥) → (other : List ℕ)
-        → IsWalk edges unit other → BeginsIn (e ∷ es) unit other → Beats unit rest.more other
-    passed unit e es rest differs [] walk h = rest.most [] tt tt
-    passed unit e es rest differs (next ∷ other) walk h =
-        elim (first_or_after e es (unit, next) h) [
-          | inl here ↦ absurd (differs (ap (λ (p : ℕ × ℕ). p.0) here))
-          | inr later ↦ rest.most (next ∷ other) walk later
-        ]
+    by_step : (unit : ℕ) (e : ℕ × ℕ) (step : HasBest e.1) (more : List ℕ) → Beats unit more (e.1 ∷ step.more)
+        → (other : List ℕ) → IsWalk edges e.1 other → Beats unit more (e.1 ∷ other)
+    by_step unit e step more one other walk =
+        beats_over unit more (e.1 ∷ step.more) (e.1 ∷ other) one
+        (beats_on unit e.1 step.more other (step.most other walk))
 
     best_in : (es : Edges) (unit : ℕ) → ((e : ℕ × ℕ) → Contains es e → Contains edges e)
         → ((next : ℕ) → HasEdge edges unit next → HasBest next) → HasBestIn es unit
@@ -148,22 +131,27 @@ module _ (weight : ℕ → ℕ) where
         let rest = best_in es unit (λ x h. among x (contains_after e es x h)) steps in
         elim (same_or_not e.0 unit) [
           | inl same ↦
-              let there : HasEdge edges unit e.1 =
-              subst (λ (n : ℕ). HasEdge edges n e.1) same (among e (contains_first e es)) in
+              let there : HasEdge edges unit e.1 = rw (← same) (among e (contains_first e es)) in
               let step = steps e.1 there in
               elim (beats_or unit (e.1 ∷ step.more) rest.more) [
                 | inl wins ↦ record {
                   more = e.1 ∷ step.more;
                   walk = (there, step.walk);
-                  most = by_edge unit e es step rest (e.1 ∷ step.more) (beats_self unit (e.1 ∷ step.more)) wins;
+                  most = by_edge unit e es rest (e.1 ∷ step.more)
+                      (λ _. by_step unit e step (e.1 ∷ step.more) (beats_self unit (e.1 ∷ step.more))) wins;
                 }
                 | inr loses ↦ record {
                   more = rest.more;
                   walk = rest.walk;
-                  most = by_edge unit e es step rest rest.more loses (beats_self unit rest.more);
+                  most = by_edge unit e es rest rest.more
+                      (λ _. by_step unit e step rest.more loses) (beats_self unit rest.more);
                 }
               ]
-          | inr differs ↦ record { more = rest.more; walk = rest.walk; most = passed unit e es rest differs }
+          | inr differs ↦ record {
+            more = rest.more;
+            walk = rest.walk;
+            most = by_edge unit e es rest rest.more (λ same. absurd (differs same)) (beats_self unit rest.more);
+          }
         ]
 
     begins : (unit : ℕ) (other : List ℕ) → IsWalk edges unit other → BeginsIn edges unit other
@@ -206,18 +194,15 @@ root_at : (roots : List (ℕ × ℕ)) (vector : ℕ)
     → ((unit : ℕ) × Contains roots (vector, unit)) ⊎ ((unit : ℕ) → Contains roots (vector, unit) → ⊥)
 root_at [] vector = inr (λ unit h. none_in_empty (vector, unit) h)
 root_at (r ∷ roots) vector =
-    elim (same_or_not r.0 vector) as
-    (λ _. ((unit : ℕ) × Contains (r ∷ roots) (vector, unit)) ⊎ ((unit : ℕ) → Contains (r ∷ roots) (vector, unit) → ⊥)) [
-      | inl same ↦ inl (r.1, subst (λ (v : ℕ). Contains (r ∷ roots) (v, r.1)) same (contains_first r roots))
-      | inr differs ↦ elim (root_at roots vector) as
-          (λ _. ((unit : ℕ) × Contains (r ∷ roots) (vector, unit)) ⊎
-          ((unit : ℕ) → Contains (r ∷ roots) (vector, unit) → ⊥)) [
-            | inl found ↦ inl (found.0, contains_after r roots (vector, found.0) found.1)
-            | inr none ↦ inr (λ unit h. elim (first_or_after r roots (vector, unit) h) [
-              | inl here ↦ differs (ap (λ (p : ℕ × ℕ). p.0) here)
-              | inr later ↦ none unit later
-            ])
-          ]
+    elim (same_or_not r.0 vector) [
+      | inl same ↦ inl (r.1, rw (← same) (contains_first r roots))
+      | inr differs ↦ elim (root_at roots vector) [
+        | inl found ↦ inl (found.0, contains_after r roots (vector, found.0) found.1)
+        | inr none ↦ inr (λ unit h. elim (first_or_after r roots (vector, unit) h) [
+          | inl here ↦ differs (ap (λ (p : ℕ × ℕ). p.0) here)
+          | inr later ↦ none unit later
+        ])
+      ]
     ]
 
 module _ (g : GraphParts) (is : IsGraph g) (weight : ℕ → ℕ) where
@@ -265,12 +250,11 @@ module _ (g : GraphParts) (is : IsGraph g) (weight : ℕ → ℕ) where
 
   is_free : (unit : ℕ) → ((vector : ℕ) → UnitLiesUnder g vector unit → ⊥) → free unit ≡ true
   unfolding under free
-  is_free unit none = elim (cases_Bool (list_any (under unit) vectors)) as
-      (λ _. not (list_any (under unit) vectors) ≡ true) [
-        | inl some ↦ let any = Any-from_list_any (under unit) vectors some in
-            absurd (none any.1 ((above_tells g any.1 unit).0 any.4))
-        | inr not_some ↦ ap not not_some
-      ]
+  is_free unit none = elim (cases_Bool (list_any (under unit) vectors)) [
+    | inl some ↦ let any = Any-from_list_any (under unit) vectors some in
+        absurd (none any.1 ((above_tells g any.1 unit).0 any.4))
+    | inr not_some ↦ ap not not_some
+  ]
 
 -- each graph has a weight
 pub has_weight : (segments : List JoinedSegment) (g : GraphParts) → IsGraph g → HasWeight segments g

@@ -1,9 +1,10 @@
 -- Levels that climb along the edges until each edge leads to a higher one.
 use Rattle.m51_graph.proofs.Common.{◌≡◌, inl, inr, ℕ, zero, suc, ◌+◌, ◌*◌, ◌<◌, ◌≤◌, true, false, Bool, ◌||◌, List, []}
-use Rattle.m51_graph.proofs.Common.{◌∷◌, ◌++◌, length, take, get_or, sum, refl, sym, ap, subst, ◌∙◌, arith, take_more}
+use Rattle.m51_graph.proofs.Common.{◌∷◌, ◌++◌, length, take, get_or, sum, refl, sym, ap, ◌∙◌, arith, take_more}
 use Rattle.m51_graph.proofs.Common.{false≢true, Edges, HasEdge, IsWalk, last_of, Reaches, none_in_empty, reach_edge}
 use Rattle.m51_graph.proofs.Common.{AreWalked, IsClimbing, LeadWithin, IsLevel}
 use Rattle.std.proofs.Common.{set, length-append}
+use Rattle.std.proofs.lemmas.Bool.{false_from_ne_true}
 use Rattle.std.proofs.lemmas.List.{get_or-set_same, get_or-set_other, length-set}
 use Rattle.std.proofs.lemmas.List.Elements.{Contains-push_cases, Contains-get_or}
 use Rattle.std.proofs.lemmas.List.Sums.{sum_by-set}
@@ -26,13 +27,11 @@ tally p (suc n) = one_if (p n) + tally p n
 
 pub tally_le : (p : ℕ → Bool) (n : ℕ) → tally p n ≤ n
 tally_le p zero = omega arith
-tally_le p (suc n) = let h = tally_le p n in
-    elim (p n) as (λ b. one_if b + tally p n ≤ suc n) [ true ↦ omega (arith, h) | false ↦ omega (arith, h) ]
+tally_le p (suc n) = grind (arith, tally_le p n)
 
 -- a number counts no more under a weaker test
 pub one_le : (a b : Bool) → (a ≡ true → b ≡ true) → one_if a ≤ one_if b
-one_le true b h = subst (λ c. 1 ≤ one_if c) (sym (h refl)) (omega arith)
-one_le false b h = omega arith
+one_le a b h = grind arith
 
 pub tally_mono : (p q : ℕ → Bool) (n : ℕ) → ((w : ℕ) → p w ≡ true → q w ≡ true) → tally p n ≤ tally q n
 tally_mono p q zero h = omega arith
@@ -43,12 +42,9 @@ pub tally_lt : (p q : ℕ → Bool) (n w : ℕ) → w < n → ((u : ℕ) → p u
     → tally p n < tally q n
 tally_lt p q zero w below h lacks passes = absurd (omega (arith, below))
 tally_lt p q (suc n) w below h lacks passes = elim (same_or_not w n) [
-  | inl e ↦
-      let none : one_if (p n) ≡ 0 = ap one_if (subst (λ m. p m ≡ false) e lacks) in
-      let one : one_if (q n) ≡ 1 = ap one_if (subst (λ m. q m ≡ true) e passes) in
-      omega (arith, tally_mono p q n h, none, one)
-  | inr ne ↦ let less = tally_lt p q n w (omega (arith, below, ne)) h lacks passes in
-      omega (arith, less, one_le (p n) (q n) (h n))
+  | inl e ↦ omega (arith, tally_mono p q n h, ap one_if (rw e at lacks), ap one_if (rw e at passes))
+  | inr ne ↦
+      omega (arith, tally_lt p q n w (omega (arith, below, ne)) h lacks passes, one_le (p n) (q n) (h n))
 ]
 
 module _ (n : ℕ) (edges : Edges) (within : LeadWithin n edges) (no_cycle : (u : ℕ) → Reaches edges u u → ⊥) where
@@ -56,16 +52,12 @@ module _ (n : ℕ) (edges : Edges) (within : LeadWithin n edges) (no_cycle : (u 
   abbrev pub rank : ℕ → ℕ
   rank v = tally (λ w. leads edges w v) n
 
-  not_itself : (u : ℕ) → leads edges u u ≡ false
-  not_itself u =
-      elim (leads edges u u) as (λ b. (b ≡ true → ⊥) → b ≡ false) [ true ↦ λ h. absurd (h refl) | false ↦ λ h. refl ]
-      (λ h. no_cycle u ((leads_tells edges u u).0 h))
-
   -- more of them along an edge
   pub rank_edge : (u v : ℕ) → HasEdge edges u v → rank u < rank v
   rank_edge u v e = tally_lt (λ w. leads edges w u) (λ w. leads edges w v) n u (within.within u v e).0
       (λ w h. (leads_tells edges w v).1 (reach_on edges w u v ((leads_tells edges w u).0 h) e))
-      (not_itself u) ((leads_tells edges u v).1 (reach_edge edges u v e))
+      (false_from_ne_true (leads edges u u) (λ h. no_cycle u ((leads_tells edges u u).0 h)))
+      ((leads_tells edges u v).1 (reach_edge edges u v e))
 
   rank_walk : (u : ℕ) (more : List ℕ) → IsWalk edges u more → rank u + length more ≤ rank (last_of u more)
   rank_walk u [] walk = omega arith
@@ -87,7 +79,7 @@ pub ends_on : (edges : Edges) (u v count : ℕ) → EndsWalk edges u count → H
 ends_on edges u v count h e = record {
   first = h.first;
   more = h.more ++ v ∷ [];
-  walk = walk_on edges h.first h.more v h.walk (subst (λ x. HasEdge edges x v) (sym h.ends) e);
+  walk = walk_on edges h.first h.more v h.walk (rw h.ends e);
   ends = last_on h.first h.more v;
   count_is = omega (arith, length-append h.more (v ∷ []), h.count_is);
 }
@@ -124,11 +116,9 @@ climbs_edge edges done u v old new rose e in_u in_v less c =
       len = same ∙ c.len;
       walked = record {
         walked = λ w below. elim (same_or_not w v) [
-          | inl here ↦ subst (λ x. EndsWalk edges x (get_or (set new v level) x 0)) (sym here)
-              (subst (λ k. EndsWalk edges v k) (sym (get_or-set_same new v level 0 in_v))
-              (ends_on edges u v (get_or new u 0) (c.walked.walked u in_u) e))
-          | inr other ↦ subst (λ k. EndsWalk edges w k) (sym (get_or-set_other new v w level 0 other))
-              (c.walked.walked w (omega (arith, below, same)))
+          | inl here ↦ rw (here, get_or-set_same new v level 0 in_v)
+              (ends_on edges u v (get_or new u 0) (c.walked.walked u in_u) e)
+          | inr other ↦ rw (get_or-set_other new v w level 0 other) (c.walked.walked w (omega (arith, below, same)))
         ];
       };
       settled = λ h. absurd (false≢true (sym h));
@@ -164,15 +154,12 @@ climbs_more edges i d old now new rose true within below h c =
     let edge : ℕ × ℕ = get_or edges i d in
     let is : HasEdge edges edge.0 edge.1 = Contains-get_or edges i d below in
     let inside = within.within edge.0 edge.1 is in
-    subst (λ levels. IsClimbing edges (take (i + 1) edges) old levels true) (sym h.1)
-    (subst (λ (es : Edges). IsClimbing edges es old (set now edge.1 (get_or now edge.0 0 + 1)) true)
-    (sym (take_more edges i d below))
-    (climbs_edge edges (take i edges) edge.0 edge.1 old now rose is inside.0 inside.1 h.0 c))
+    rw (h.1, take_more edges i d below)
+    (climbs_edge edges (take i edges) edge.0 edge.1 old now rose is inside.0 inside.1 h.0 c)
 climbs_more edges i d old now new rose false within below h c =
     let edge : ℕ × ℕ = get_or edges i d in
-    subst (λ levels. IsClimbing edges (take (i + 1) edges) old levels rose) (sym h.1)
-    (subst (λ (es : Edges). IsClimbing edges es old now rose) (sym (take_more edges i d below))
-    (climbs_pass edges (take i edges) edge.0 edge.1 old now rose (omega (arith, h.0)) c))
+    rw (h.1, take_more edges i d below)
+    (climbs_pass edges (take i edges) edge.0 edge.1 old now rose (omega (arith, h.0)) c)
 
 module _ (edges : Edges) (levels : List ℕ) (within : LeadWithin (length levels) edges)
     (no_cycle : (u : ℕ) → Reaches edges u u → ⊥) (walked : AreWalked edges levels) where

@@ -1,19 +1,17 @@
 -- What the rules on edges and roots make sure of.
-use Rattle.m51_graph.proofs.Common.{◌≡◌, inl, inr, ℕ, zero, suc, ◌+◌, ◌-◌, ◌<◌, true, false, Bool, cond, nat_eq, List}
-use Rattle.m51_graph.proofs.Common.{[], ◌∷◌, length, drop, get_or, Option, Some, None, refl, sym, ap, subst, ◌∙◌, arith}
-use Rattle.m51_graph.proofs.Common.{Contains, list_any, option_map_or, option_or, cases_Bool, false≢true, Decides-eqb}
+use Rattle.m51_graph.proofs.Common.{◌≡◌, inl, inr, ℕ, zero, suc, ◌+◌, ◌-◌, ◌<◌, true, false, Bool, nat_eq, List, []}
+use Rattle.m51_graph.proofs.Common.{◌∷◌, length, drop, get_or, Option, Some, None, refl, sym, ap, ◌∙◌, arith, Contains}
+use Rattle.m51_graph.proofs.Common.{list_any, option_map_or, option_or, cases_Bool, false≢true, Decides-eqb}
 use Rattle.m51_graph.proofs.Common.{list_any_at, vectors, first_or_after, none_in_empty, GraphParts, AreOfUnits}
 use Rattle.m51_graph.proofs.Common.{first_under_two, cyclic_from, lies_under}
-use Rattle.std.proofs.Common.{Result, Ok}
+use Rattle.std.proofs.Common.{Ok}
 use Rattle.std.proofs.lemmas.Option.{slice_get_within, get_or_from_slice_get}
 use Rattle.m51_cells.specs.Outcome.{RefusesWith}
 use Rattle.m51_module.specs.declared.linked.Refusal.{Refusal}
-use Rattle.m51_module.specs.declared.linked.Refusal.TheVariants.{L8}
 use Rattle.m51_cells.proofs.ListsAndOptions.{filter_keeps}
 use Rattle.m51_module.proofs.Units.{same_or_not}
 use Rattle.m51_graph.specs.Graph.{IsGraph, IsOwn, UnitLiesUnder}
-use Rattle.m51_graph.specs.Graphs.{judged_by, on_cycles, passed, unless, under_two, unit_under_two}
-use Rattle.m51_graph.specs.Graphs.{has_overlaid, roots_above}
+use Rattle.m51_graph.specs.Graphs.{judged_by, passed, under_two, unit_under_two, has_overlaid, roots_above}
 use Rattle.m51_graph.specs.Leading.{leads}
 use Rattle.m51_graph.proofs.Deciding.{leads_tells}
 use Rattle.m51_graph.proofs.Drawn.{drop_rest}
@@ -50,8 +48,7 @@ module _ (reach : ℕ → ℕ → Bool) (g : GraphParts) where
       → first_under_two reach g.roots g.own (i + 1) (drop (i + 1) titles)
       ≡ first_under_two reach g.roots g.own i (drop i titles)
   first_goes_on titles i d below none =
-      sym (first_step titles i d below
-      ∙ ap (λ (found : Option Refusal). option_or found (rules (i + 1) (drop (i + 1) titles))) none)
+      sym (first_step titles i d below ∙ rw none refl)
 
 -- a list without an item
 pub none_left : (xs : List (List ℕ)) → length xs ≡ 0 → xs ≡ []
@@ -59,23 +56,18 @@ none_left [] h = refl
 none_left (x ∷ xs) h = absurd (omega (arith, h))
 
 -- no unit reaches itself
-no_first : (title : List ℕ) (more : List (List ℕ)) → title ∷ more ≡ [] → ⊥
-no_first title more h = absurd (cc h)
-
 cyclic_none : (reach : ℕ → ℕ → Bool) (unit : ℕ) (titles : List (List ℕ)) → cyclic_from reach unit titles ≡ [] → (k : ℕ)
     → k < length titles → reach (unit + k) (unit + k) ≡ false
 cyclic_none reach unit [] h k below = absurd (omega (arith, below))
 cyclic_none reach unit (title ∷ more) h k below =
-    let rest = cyclic_from reach (unit + 1) more in
     elim (cases_Bool (reach unit unit)) [
-      | inl cycle ↦ absurd (no_first title rest (sym (ap (λ (b : Bool). cond b (title ∷ rest) rest) cycle) ∙ h))
-      | inr free ↦
-          let none : rest ≡ [] = sym (ap (λ (b : Bool). cond b (title ∷ rest) rest) free) ∙ h in
-          elim (same_or_not k 0) [
-            | inl here ↦ subst (λ n. reach n n ≡ false) (omega (arith, here)) free
-            | inr later ↦ subst (λ n. reach n n ≡ false) (omega (arith, later))
-                (cyclic_none reach (unit + 1) more none (k - 1) (omega (arith, below, later)))
-          ]
+      | inl cycle ↦ absurd (cc (rw cycle at h))
+      | inr free ↦ elim (same_or_not k 0) [
+        | inl here ↦ let same : unit ≡ unit + k = omega (arith, here) in rw same at free
+        | inr later ↦
+            let next : unit + 1 + (k - 1) ≡ unit + k = omega (arith, later) in
+            rw next at (cyclic_none reach (unit + 1) more (rw free at h) (k - 1) (omega (arith, below, later)))
+      ]
     ]
 
 -- the rules of all units
@@ -88,14 +80,10 @@ none_under_two : (reach : ℕ → ℕ → Bool) (g : GraphParts) (unit : ℕ) (t
     → unit_under_two reach g.roots g.own (unit + k) (get_or titles k []) ≡ None
 none_under_two reach g unit [] h k below = absurd (omega (arith, below))
 none_under_two reach g unit (title ∷ more) h zero below =
-    subst (λ n. unit_under_two reach g.roots g.own n title ≡ None) (omega arith)
-    (none_of_both (unit_under_two reach g.roots g.own unit title)
-    (first_under_two reach g.roots g.own (unit + 1) more) h).0
+    let here : unit + 0 ≡ unit = omega arith in rw here (none_of_both _ _ h).0
 none_under_two reach g unit (title ∷ more) h (suc k) below =
-    subst (λ n. unit_under_two reach g.roots g.own n (get_or more k []) ≡ None) (omega arith)
-    (none_under_two reach g (unit + 1) more
-    (none_of_both (unit_under_two reach g.roots g.own unit title)
-    (first_under_two reach g.roots g.own (unit + 1) more) h).1 k (omega (arith, below)))
+    let next : unit + 1 + k ≡ unit + suc k = omega arith in
+    rw next at (none_under_two reach g (unit + 1) more (none_of_both _ _ h).1 k (omega (arith, below)))
 
 -- a unit without that refusal lies under one root at most
 at_most_one : (title xs : List ℕ) (x y : ℕ) → under_two title xs ≡ None → Contains xs x → Contains xs y → x ≡ y
@@ -114,8 +102,7 @@ own_has_overlaid : (g : GraphParts) (unit segment : ℕ) → IsOwn g unit segmen
 own_has_overlaid g unit segment own =
     list_any_at (λ found. option_map_or (nat_eq unit) found false) g.own segment None
     (slice_get_within g.own segment (Some unit) own)
-    (ap (λ (found : Option ℕ). option_map_or (nat_eq unit) found false)
-    (get_or_from_slice_get g.own segment (Some unit) None own) ∙ (Decides-eqb unit unit).1 refl)
+    (rw (get_or_from_slice_get g.own segment (Some unit) None own) ((Decides-eqb unit unit).1 refl))
 
 module _ (titles : List (List ℕ)) (g : GraphParts) (units : AreOfUnits g) (same : length titles ≡ length g.units) where
   one_above : first_under_two (leads g.edges) g.roots g.own 0 titles ≡ None → (segment unit x y : ℕ)
@@ -124,12 +111,8 @@ module _ (titles : List (List ℕ)) (g : GraphParts) (units : AreOfUnits g) (sam
       let reach : ℕ → ℕ → Bool = leads g.edges in
       let title : List ℕ = get_or titles u [] in
       let below : u < length titles = omega (arith, units.own u s own, same) in
-      let passes : unit_under_two reach g.roots g.own u title ≡ None =
-      subst (λ n. unit_under_two reach g.roots g.own n title ≡ None) (omega arith)
-      (none_under_two reach g 0 titles single u below) in
-      let under : under_two title (roots_above reach g.roots u) ≡ None =
-      sym (ap (λ (b : Bool). cond b (under_two title (roots_above reach g.roots u)) None) (own_has_overlaid g u s own))
-      ∙ passes in
+      let same_unit : 0 + u ≡ u = omega arith in
+      let under = rw (same_unit, own_has_overlaid g u s own) at (none_under_two reach g 0 titles single u below) in
       let among : (v : ℕ) → UnitLiesUnder g v u → Contains (roots_above reach g.roots u) v =
       λ v h. filter_keeps (λ vector. lies_under reach g.roots vector u) vectors v (units.roots v h.root h.is_root).0
       ((above_tells g v u).1 h) in
@@ -141,8 +124,8 @@ module _ (titles : List (List ℕ)) (g : GraphParts) (units : AreOfUnits g) (sam
     units = units;
     no_cycle = λ u r.
         let below : u < length titles = omega (arith, (units.edges.within u r.next r.walk.0).0, same) in
-        let none : leads g.edges u u ≡ false =
-        subst (λ n. leads g.edges n n ≡ false) (omega arith) (cyclic_none (leads g.edges) 0 titles free u below) in
+        let same_unit : 0 + u ≡ u = omega arith in
+        let none = rw same_unit at (cyclic_none (leads g.edges) 0 titles free u below) in
         false≢true (sym none ∙ (leads_tells g.edges u u).1 r);
     one_root = λ s u x y owns above_x above_y.
         one_above single s owns.own x y owns.own_is (owner_under g s u x owns above_x)
@@ -153,8 +136,4 @@ module _ (titles : List (List ℕ)) (g : GraphParts) (units : AreOfUnits g) (sam
 pub judged_ok : (reach : ℕ → ℕ → Bool) (titles : List (List ℕ)) (g : GraphParts)
     → list_any (λ root. nat_eq root.0 0) g.roots ≡ true → cyclic_from reach 0 titles ≡ []
     → first_under_two reach g.roots g.own 0 titles ≡ None → judged_by reach titles g ≡ Ok g
-judged_ok reach titles g reset free single =
-    let last : Result GraphParts Refusal = unless (first_under_two reach g.roots g.own 0 titles) (Ok g) in
-    ap (λ (b : Bool). unless (cond b None (Some L8)) (unless (on_cycles (cyclic_from reach 0 titles)) last)) reset
-    ∙ ap (λ (cyclic : List (List ℕ)). unless (on_cycles cyclic) last) free
-    ∙ ap (λ (found : Option Refusal). unless found (Ok g)) single
+judged_ok reach titles g reset free single = rw (reset, free, single) refl

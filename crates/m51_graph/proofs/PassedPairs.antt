@@ -1,7 +1,7 @@
 -- Pairs joined by a pair of one set and then one of another, and which owners they say are related.
-use Rattle.m51_graph.proofs.Common.{◌≡◌, ℕ, zero, suc, ◌+◌, ◌<◌, ◌≤◌, true, false, Bool, ◌||◌, ◌&&◌, [], ◌∷◌, length}
-use Rattle.m51_graph.proofs.Common.{refl, sym, ap, ◌∙◌, arith, list_any, range_with_len, GraphParts, Tables, edge_test}
-use Rattle.m51_graph.proofs.Common.{flipped, pairs}
+use Rattle.m51_graph.proofs.Common.{◌≡◌, ℕ, zero, suc, ◌+◌, ◌<◌, ◌≤◌, true, false, Bool, ◌||◌, ◌&&◌, length, refl, sym}
+use Rattle.m51_graph.proofs.Common.{ap, ◌∙◌, arith, list_any, range_with_len, GraphParts, Tables, edge_test, flipped}
+use Rattle.m51_graph.proofs.Common.{pairs}
 use Rattle.std.proofs.lemmas.List.Folds.{list_any-append}
 use Rattle.std.proofs.Math.Bool.{and_comm, or-false}
 use Rattle.m51_cells.proofs.Small.{range_suc}
@@ -11,17 +11,11 @@ use Rattle.m51_relations.specs.OwnerPairs.{owner_pair, related_by}
 use Rattle.m51_graph.specs.Relating.{are_related, owner_related, owners_related}
 use Rattle.m51_relations.specs.Rows.{passed_below}
 
-or_three : (a b c : Bool) → ((a || b) || c) ≡ (a || (b || (c || false)))
-or_three true b c = refl
-or_three false true c = refl
-or_three false false true = refl
-or_three false false false = refl
-
 any_more : (p : ℕ → Bool) (n : ℕ) → list_any p (range_with_len 0 (suc n))
     ≡ (list_any p (range_with_len 0 n) || (p n || false))
 any_more p n =
-    ap (list_any p) (range_suc 0 n) ∙ list_any-append p (range_with_len 0 n) ((0 + n) ∷ [])
-    ∙ ap (λ k. list_any p (range_with_len 0 n) || (p k || false)) (omega arith)
+    let same : 0 + n ≡ n = omega arith in
+    ap (list_any p) (range_suc 0 n) ∙ rw (list_any-append, same) refl
 
 -- what is joined below the bound, where each unit on the way passes the test
 pub passed_is : (tests others has : ℕ → ℕ → Bool) (first : Bool) (p : ℕ → Bool) (u v count : ℕ) → has u v ≡ first
@@ -30,11 +24,8 @@ pub passed_is : (tests others has : ℕ → ℕ → Bool) (first : Bool) (p : �
 unfolding passed_below
 passed_is tests others has first p u v count is each zero below = is ∙ sym (or-false first)
 passed_is tests others has first p u v count is each (suc n) below =
-    ap (λ b. b || (tests u n && others n v))
-    (passed_is tests others has first p u v count is each n (omega (arith, below)))
-    ∙ ap (λ b. (first || list_any p (range_with_len 0 n)) || b) (each n (omega (arith, below)))
-    ∙ or_three first (list_any p (range_with_len 0 n)) (p n)
-    ∙ ap (λ b. first || b) (sym (any_more p n))
+    let before = passed_is tests others has first p u v count is each n (omega (arith, below)) in
+    grind (arith, before, each n (omega (arith, below)), any_more p n)
 
 -- the pairs of the tables of a graph
 module _ (g : GraphParts) (t : Tables) (are : AreTables g t) where

@@ -1,13 +1,13 @@
 -- The level of a unit is decided along the list of edges.
 use Rattle.m51_graph.proofs.Common.{◌≡◌, inl, inr, ℕ, zero, suc, ◌+◌, ◌-◌, ◌<◌, true, false, Bool, not, ◌&&◌, nat_eq}
-use Rattle.m51_graph.proofs.Common.{List, [], ◌∷◌, length, Option, Some, cond, refl, sym, ap, subst, ◌∙◌, arith}
-use Rattle.m51_graph.proofs.Common.{add-one, Decides, Contains, range_with_len, cases_Bool, Decides-eqb}
-use Rattle.m51_graph.proofs.Common.{Any-from_list_any, list_any_at, Edges, HasEdge, IsWalk, last_of, IsLevel}
+use Rattle.m51_graph.proofs.Common.{List, [], ◌∷◌, length, Option, Some, refl, sym, ap, ◌∙◌, arith, add-one, Decides}
+use Rattle.m51_graph.proofs.Common.{range_with_len, cases_Bool, Decides-eqb, Any-from_list_any, list_any_at, Edges}
+use Rattle.m51_graph.proofs.Common.{HasEdge, IsWalk, last_of, IsLevel}
 use Rattle.std.proofs.Common.{unwrap_or}
 use Rattle.std.specs.Prelude.{find}
 use Rattle.m51_graph.specs.Levels.{EndsWalk, ends_walk, level_of}
 use Rattle.m51_graph.proofs.Climbing.{ends_on}
-use Rattle.m51_graph.proofs.Deciding.{and_decides}
+use Rattle.m51_graph.proofs.Deciding.{and_decides, with_ends}
 
 -- the last edge of a walk, and what comes before it
 record IsLast (edges : Edges) (first unit count : ℕ) : Type 0 where
@@ -49,7 +49,7 @@ last_of_walk edges unit count first (next ∷ more) walk ends count_is =
         count_is =
             omega (arith, last.count_is, count_is);
       };
-      edge = subst (λ w. HasEdge edges (last_of first last.before) w) ends last.edge;
+      edge = rw ends at last.edge;
     }
 
 -- the decision: by its last edge
@@ -67,9 +67,9 @@ ends_walk_tells edges (suc count) unit =
           let any = Any-from_list_any test edges h in
           let edge : ℕ × ℕ = any.1 in
           let told = (tells edge).0 any.4 in
-          let e : HasEdge edges edge.0 unit =
-          subst (λ (p : ℕ × ℕ). Contains edges p) (ap (λ (v : ℕ). (edge.0, v)) told.0) (any.0, any.2, any.3) in
-          subst (λ n. EndsWalk edges unit n) (add-one count) (ends_on edges edge.0 unit count told.1 e),
+          let e : HasEdge edges edge.0 unit = with_ends edges edge edge.0 unit refl (sym told.0) (any.0, any.2, any.3)
+          in
+          rw add-one at (ends_on edges edge.0 unit count told.1 e),
       λ h.
           let last = last_of_walk edges unit count h.first h.more h.walk h.ends h.count_is in
           let e : HasEdge edges last.from unit = last.edge in
@@ -89,35 +89,32 @@ shorter edges unit count h = without_first edges unit count h.first h.more h.wal
 
 -- of fewer edges
 pub fewer : (edges : Edges) (unit count less : ℕ) → EndsWalk edges unit (less + count) → EndsWalk edges unit count
-fewer edges unit count zero h = subst (λ n. EndsWalk edges unit n) (omega arith) h
+fewer edges unit count zero h = let same : 0 + count ≡ count = omega arith in rw same at h
 fewer edges unit count (suc less) h =
-    fewer edges unit count less (shorter edges unit (less + count) (subst (λ n. EndsWalk edges unit n) (omega arith) h))
+    let next : suc less + count ≡ suc (less + count) = omega arith in
+    fewer edges unit count less (shorter edges unit (less + count) (rw next at h))
 
 find_from : (p : ℕ → Bool) (n from count : ℕ) → count < n → p (from + count) ≡ true
     → ((k : ℕ) → k < count → p (from + k) ≡ false)
     → find p (range_with_len from n) ≡ Some (from + count)
 find_from p zero from count below passes fails = absurd (omega (arith, below))
 find_from p (suc n) from zero below passes fails =
-    let here : from + 0 ≡ from = omega arith in
-    ap (λ (b : Bool). cond b (Some from) (find p (range_with_len (from + 1) n))) (ap p (sym here) ∙ passes)
-    ∙ ap (λ (k : ℕ). Some k) (sym here)
+    let here : from + 0 ≡ from = omega arith in rw (here, rw here at passes) refl
 find_from p (suc n) from (suc count) below passes fails =
     let here : from + 0 ≡ from = omega arith in
     let next : from + suc count ≡ from + 1 + count = omega arith in
-    ap (λ (b : Bool). cond b (Some from) (find p (range_with_len (from + 1) n)))
-    (ap p (sym here) ∙ fails 0 (omega arith))
-    ∙ find_from p n (from + 1) count (omega (arith, below)) (ap p (sym next) ∙ passes)
-    (λ k less. let shifted : from + 1 + k ≡ from + suc k = omega arith in ap p shifted
-    ∙ fails (suc k) (omega (arith, less)))
-    ∙ ap (λ (k : ℕ). Some k) (sym next)
+    rw (rw here at (fails 0 (omega arith)), next) (find_from p n (from + 1) count (omega (arith, below))
+    (rw next at passes)
+    (λ k less. let shifted : from + 1 + k ≡ from + suc k = omega arith in
+    rw shifted (fails (suc k) (omega (arith, less)))))
 
 -- the first below n that passes
 pub find_least : (p : ℕ → Bool) (n count : ℕ) → count < n → p count ≡ true → ((k : ℕ) → k < count → p k ≡ false)
     → find p (range_with_len 0 n) ≡ Some count
 find_least p n count below passes fails =
-    let same : (k : ℕ) → 0 + k ≡ k = λ k. omega arith in
-    find_from p n 0 count below (ap p (same count) ∙ passes) (λ k less. ap p (same k) ∙ fails k less)
-    ∙ ap (λ (k : ℕ). Some k) (same count)
+    let same : 0 + count ≡ count = omega arith in
+    rw same at (find_from p n 0 count below (rw same passes)
+    (λ k less. let here : 0 + k ≡ k = omega arith in rw here (fails k less)))
 
 -- the level of a unit is what the decision finds
 pub level_function : (edges : Edges) (unit level : ℕ) → IsLevel edges unit level → level < 65536 → level
@@ -133,6 +130,6 @@ level_function edges unit level h below =
     let under : (k : ℕ) → k < level → test k ≡ false = λ k less.
     let split : (level - suc k) + suc k ≡ level = omega (arith, less) in
     let walk : EndsWalk edges unit (suc k) =
-    fewer edges unit (suc k) (level - suc k) (subst (λ n. EndsWalk edges unit n) (sym split) h.longest) in
+    fewer edges unit (suc k) (level - suc k) (rw split h.longest) in
     ap not ((ends_walk_tells edges (suc k) unit).1 walk) in
     sym (ap (λ (found : Option ℕ). unwrap_or found 0) (find_least test 65536 level below here under))

@@ -1,13 +1,10 @@
 -- The heaviest walks, raised along the edges and followed from each root.
-use Rattle.m51_place.proofs.Common.{◌≡◌, inl, inr, ℕ, ◌<◌, false, tally, Edges, HasEdge, Reaches, reach_edge, leads}
-use Rattle.m51_place.proofs.Common.{cases_Bool, ◌+◌, ◌≤◌, true, Bool, ◌||◌, List, [], ◌∷◌, ◌++◌, length, map, take}
-use Rattle.m51_place.proofs.Common.{get_or, refl, sym, ap, subst, ◌∙◌, arith, false≢true, sum_by-cons, LayoutParts}
-use Rattle.m51_place.proofs.Common.{weight_along, weight_of, IsSound, none_in_empty, IsRising, ◌≢◌, ◌⊎◌, drop, Option}
-use Rattle.m51_place.proofs.Common.{Some, None, append_assoc, nat_lt, Contains, append-nil, Contains-append_left}
-use Rattle.m51_place.proofs.Common.{cases_lt, Chain, IsWalk, drop_rest, IsFront, IsLeastOn}
-use Rattle.m51_graph.proofs.Climbing.{tally_lt}
-use Rattle.m51_module.proofs.Reach.{reach_on}
-use Rattle.m51_graph.proofs.Deciding.{leads_tells}
+use Rattle.m51_place.proofs.Common.{◌≡◌, inl, inr, ℕ, ◌<◌, false, tally, Edges, HasEdge, leads, cases_Bool, ◌+◌, ◌≤◌}
+use Rattle.m51_place.proofs.Common.{true, Bool, ◌||◌, List, [], ◌∷◌, ◌++◌, length, map, take, get_or, refl, sym, ap}
+use Rattle.m51_place.proofs.Common.{subst, ◌∙◌, arith, false≢true, sum_by-cons, LayoutParts, weight_along, weight_of}
+use Rattle.m51_place.proofs.Common.{IsSound, none_in_empty, IsRising, ◌≢◌, ◌⊎◌, drop, Option, Some, None, append_assoc}
+use Rattle.m51_place.proofs.Common.{nat_lt, Contains, append-nil, Contains-append_left, cases_lt, Chain, IsWalk}
+use Rattle.m51_place.proofs.Common.{drop_rest, IsFront, IsLeastOn}
 use Rattle.std.proofs.Common.{set, sum}
 use Rattle.std.proofs.lemmas.List.{take_more, get_or-set_same, get_or-set_other, length-set, drop_all}
 use Rattle.std.proofs.lemmas.List.Elements.{Contains-push_cases, Contains-get_or, Contains-push}
@@ -26,17 +23,6 @@ use Rattle.m51_module.specs.Plan.{IsRootAt}
 -- how many units reach a unit
 abbrev pub rank : Edges → ℕ → ℕ → ℕ
 rank edges n v = tally (λ w. leads edges w v) n
-
-pub rank_edge : (edges : Edges) (n u v : ℕ) → u < n → ((x : ℕ) → Reaches edges x x → ⊥) → HasEdge edges u v
-    → rank edges n u < rank edges n v
-rank_edge edges n u v below no_cycle e =
-    let not_itself : leads edges u u ≡ false = elim (cases_Bool (leads edges u u)) [
-      | inl r ↦ absurd (no_cycle u ((leads_tells edges u u).0 r))
-      | inr h ↦ h
-    ] in
-    tally_lt (λ w. leads edges w u) (λ w. leads edges w v) n u below
-    (λ w h. (leads_tells edges w v).1 (reach_on edges w u v ((leads_tells edges w u).0 h) e)) not_itself
-    ((leads_tells edges u v).1 (reach_edge edges u v e))
 
 -- The bytes of the heaviest walk from each unit, raised along the edges.
 
@@ -221,18 +207,15 @@ module _ (l : LayoutParts) (sound : IsSound l) (weights best : List ℕ) (w : Ar
   step_is u None below ne h =
       let at = b.reached.each u (in_best u below) in
       let on = leads_somewhere u at.more below at.walk at.bytes_are (λ e. ne (e ∙ sym (same_weight u below))) in
-      absurd (h (u, on.0) on.1
-      (record { from = refl; rest = ap (λ (n : ℕ). n + get_or best on.0 0) (same_weight u below) ∙ on.2 }))
+      absurd (h (u, on.0) on.1 (record { from = refl; rest = omega (arith, same_weight u below, on.2) }))
   step_is u (Some v) below ne h =
       let leads : LeadsOn weights best u (u, v) = h.1 in (
         λ e. ne (e ∙ sym (same_weight u below)),
         record {
           edge = h.0;
-          rest = ap (λ (n : ℕ). n + get_or best v 0) (sym (same_weight u below)) ∙ leads.rest;
+          rest = omega (arith, same_weight u below, leads.rest);
           least = λ x less e same.
-              let no_less =
-              h.2 x e (record
-              { from = refl; rest = ap (λ (n : ℕ). n + get_or best x 0) (same_weight u below) ∙ same }) in
+              let no_less = h.2 x e (record { from = refl; rest = omega (arith, same_weight u below, same) }) in
               omega (arith, less, no_less);
         },
       )
@@ -339,6 +322,13 @@ first_with l addresses i d chains chain below root heavy h = record {
 pub first_all : (l : LayoutParts) (addresses : List ℕ) (i : ℕ) (chains : List Chain) → length addresses ≤ i
     → AreFirst l addresses i chains → ChainsAt l addresses chains
 first_all l addresses i chains past h = rw append-nil at (h.all [] (rw (drop_all i addresses past) tt))
+
+-- an edge that a loop reads
+pub edge_at : (edges items : Edges) (i : ℕ) → items ≡ edges → i < length items
+    → HasEdge edges (get_or items i (0, 0)).0 (get_or items i (0, 0)).1
+edge_at edges items i same below =
+    subst (λ (es : Edges). HasEdge es (get_or items i (0, 0)).0 (get_or items i (0, 0)).1) same
+    (Contains-get_or items i (0, 0) below)
 
 -- the least of the units that lead on, one more edge
 module _ (xs : Edges) (weights best : List ℕ) (u i : ℕ) (d : ℕ × ℕ) (below : i < length xs) where

@@ -1,118 +1,80 @@
 -- Owners of joined segments and their conflict, decided.
-use Rattle.m51_place.proofs.Common.{◌≡◌, ◌≢◌, ◌⊎◌, inl, inr, ℕ, zero, suc, true, false, Bool, cond, not, ◌&&◌, ◌||◌}
-use Rattle.m51_place.proofs.Common.{nat_eq, List, [], ◌∷◌, length, filter, Option, Some, None, refl, sym, ap, subst}
-use Rattle.m51_place.proofs.Common.{◌∙◌, arith, slice_get, option_map_or, Decides, Contains, list_any, range_with_len}
-use Rattle.m51_place.proofs.Common.{false≢true, Decides-eqb, same_from_decides, All-contains, list_any_at, Space}
-use Rattle.m51_place.proofs.Common.{AreRelated, Same, Before, After, FirstUnderNone, SecondUnderNone, UnderTwo}
-use Rattle.m51_place.proofs.Common.{FirstPlain, SecondPlain, Owners, vectors, HasEdge, Reaches, contains_behind}
-use Rattle.m51_place.proofs.Common.{first_or_behind, none_in_empty, GraphParts, edge_test, IsArgument, IsOwn, Owns}
-use Rattle.m51_place.proofs.Common.{SegmentsConflict, UnitLiesUnder, joined_graph, and_decides, above_tells, Numbered}
-use Rattle.m51_place.proofs.Common.{are_owners_related, in_conflict, is_argument_at, owners_at, owners_with, own_at}
-use Rattle.m51_place.proofs.Common.{conflicting, extents_in}
+use Rattle.m51_place.proofs.Common.{◌≡◌, ◌≢◌, ◌⊎◌, inl, inr, ℕ, true, false, Bool, cond, not, ◌&&◌, ◌||◌, nat_eq, List}
+use Rattle.m51_place.proofs.Common.{[], ◌∷◌, length, filter, Option, Some, None, refl, sym, ap, arith, slice_get}
+use Rattle.m51_place.proofs.Common.{option_map_or, Decides, Contains, list_any, range_with_len, false≢true, Decides-eqb}
+use Rattle.m51_place.proofs.Common.{same_from_decides, Space, AreRelated, Same, Before, After, FirstUnderNone}
+use Rattle.m51_place.proofs.Common.{SecondUnderNone, UnderTwo, FirstPlain, SecondPlain, Owners, vectors, HasEdge}
+use Rattle.m51_place.proofs.Common.{Reaches, contains_behind, first_or_behind, none_in_empty, GraphParts, edge_test}
+use Rattle.m51_place.proofs.Common.{IsArgument, IsOwn, Owns, SegmentsConflict, UnitLiesUnder, joined_graph, and_decides}
+use Rattle.m51_place.proofs.Common.{above_tells, Numbered, are_owners_related, in_conflict, is_argument_at, owners_at}
+use Rattle.m51_place.proofs.Common.{owners_with, own_at, conflicting, extents_in, none-some}
+use Rattle.m51_place.proofs.Numbering.{filter_in}
 use Rattle.std.proofs.lemmas.Bool.Decides.{Decides-like, Decides-not}
-use Rattle.std.proofs.lemmas.List.Elements.{filter_passes}
-use Rattle.std.proofs.lemmas.List.Folds.{Any-from_list_any}
-use Rattle.std.proofs.lemmas.List.FromFn.{get_or-range_with_len, length-range_with_len}
-use Rattle.m51_cells.proofs.ListsAndOptions.{filter_keeps}
+use Rattle.m51_cells.proofs.Members.{contains_in, in_contains, in_filter, range_in}
 use Rattle.m51_graph.specs.Graph.{AreOfUnits, IsOverlaid}
 use Rattle.m51_graph.proofs.Closed.{edge_tells}
-use Rattle.m51_graph.proofs.Deciding.{leads_tells, or_decides}
+use Rattle.m51_graph.proofs.Deciding.{any_decides, leads_tells, or_decides}
 use Rattle.m51_place.specs.Conflicts.{are_apart, are_on_walk, are_related, are_under_two, callers_of, is_under}
 use Rattle.m51_place.specs.Conflicts.{is_under_none}
 use Rattle.m51_place.specs.InTheWay.{in_the_way}
 
--- some item passes the test
-record Passes (xs : List ℕ) (p : ℕ → Bool) : Type 0 where
-  x : ℕ
-  there : Contains xs x
-  passes : p x ≡ true
-
-passes_tell : (xs : List ℕ) (p : ℕ → Bool) → Decides (list_any p xs) (Passes xs p)
-passes_tell xs p = (
-  λ h. let any = Any-from_list_any p xs h in record { x = any.1; there = (any.0, any.2, any.3); passes = any.4 },
-  λ h. let at = h.there in list_any_at p xs at.0 h.x at.1 (ap p at.2 ∙ h.passes),
-)
-
--- where a number is read
-own_found : (own : List (Option ℕ)) (number unit : ℕ) → option_map_or (λ (o : Option ℕ). o) (slice_get own number) None
-    ≡ Some unit → slice_get own number ≡ Some (Some unit)
-own_found [] number unit h = absurd (cc h)
-own_found (o ∷ more) zero unit h = ap (λ (x : Option ℕ). Some x) h
-own_found (o ∷ more) (suc number) unit h = own_found more number unit h
-
-mark_found : (marks : List Bool) (number : ℕ) → option_map_or (λ (b : Bool). b) (slice_get marks number) false ≡ true
-    → slice_get marks number ≡ Some true
-mark_found [] number h = absurd (false≢true h)
-mark_found (b ∷ more) zero h = ap (λ (x : Bool). Some x) h
-mark_found (b ∷ more) (suc number) h = mark_found more number h
+-- a value that is read and is not the default is an element
+read_found : {A : Type 0} (o : Option A) (none x : A) → (none ≡ x → ⊥) → option_map_or (λ y. y) o none ≡ x
+    → o ≡ Some x
+read_found None none x differ h = absurd (differ h)
+read_found (Some y) none x differ h = ap (λ z. Some z) h
 
 module _ (g : GraphParts) where
   pub own_is : (number unit : ℕ) → own_at g number ≡ Some unit → IsOwn g unit number
-  own_is number unit h = own_found g.own number unit h
+  own_is number unit h = read_found (slice_get g.own number) None (Some unit) (none-some unit) h
 
   pub own_read : (number unit : ℕ) → IsOwn g unit number → own_at g number ≡ Some unit
   own_read number unit h = rw h
 
-  argument_read : (number : ℕ) → IsArgument g number → is_argument_at g number ≡ true
-  argument_read number h = rw h
-
   -- the callers of a unit
+  abbrev calls : ℕ → ℕ → Bool
+  calls unit caller = edge_test g.edges caller unit
+
   pub caller_edge : (unit caller : ℕ) → Contains (callers_of g unit) caller → HasEdge g.edges caller unit
   unfolding callers_of
   caller_edge unit caller h =
-      let test : ℕ → Bool = λ c. edge_test g.edges c unit in
-      let range : List ℕ = range_with_len 0 (length g.units) in
       (edge_tells g.edges caller unit).0
-      (All-contains (λ c. test c ≡ true) (filter test range) caller (filter_passes test range) h)
+      (in_filter (calls unit) (range_with_len 0 (length g.units)) caller (in_contains _ caller h)).1
 
   caller_there : AreOfUnits g → (unit caller : ℕ) → HasEdge g.edges caller unit → Contains (callers_of g unit) caller
   unfolding callers_of
   caller_there units unit caller e =
-      let count : ℕ = length g.units in
-      let below = (units.edges.within caller unit e).0 in
-      filter_keeps (λ c. edge_test g.edges c unit) (range_with_len 0 count) caller (
-        caller,
-        omega (arith, below, length-range_with_len 0 count),
-        get_or-range_with_len 0 count caller caller below
-            ∙ omega arith,
-      ) ((edge_tells g.edges caller unit).1 e)
+      let inside = range_in (length g.units) 0 caller (omega arith)
+      (omega (arith, (units.edges.within caller unit e).0))
+      in
+      contains_in _ caller (filter_in (calls unit) _ caller inside ((edge_tells g.edges caller unit).1 e))
 
   -- the owners are those that own
-  listed_owns : (s u own : ℕ) (argument : Bool) → own_at g s ≡ Some own → is_argument_at g s ≡ argument
-      → Contains (owners_with g argument (Some own)) u → Owns g u s
-  listed_owns s u own true is marked h = record {
-    own = own;
-    own_is = own_is s own is;
-    owner = elim (first_or_behind own (callers_of g own) u h) [
-      | inl same ↦ inl (sym same)
-      | inr behind ↦ inr (mark_found g.arguments s marked, caller_edge own u behind)
-    ];
-  }
-  listed_owns s u own false is marked h = record {
-    own = own;
-    own_is = own_is s own is;
-    owner = elim (first_or_behind own [] u h)
-        [ inl same ↦ inl (sym same) | inr behind ↦ absurd (none_in_empty u behind) ];
-  }
-
-  from_listed : (s u : ℕ) (own : Option ℕ) → own_at g s ≡ own → Contains (owners_with g (is_argument_at g s) own) u
+  listed_owns : (s u : ℕ) (own : Option ℕ) → own_at g s ≡ own → Contains (owners_with g (is_argument_at g s) own) u
       → Owns g u s
-  from_listed s u None is h = absurd (none_in_empty u h)
-  from_listed s u (Some own) is h = listed_owns s u own (is_argument_at g s) is refl h
+  listed_owns s u None is h = absurd (none_in_empty u h)
+  listed_owns s u (Some own) is h = record {
+    own = own;
+    own_is = own_is s own is;
+    owner = elim (first_or_behind own _ u h)
+        [ inl same ↦ inl (sym same) | inr behind ↦ inr (called (is_argument_at g s) refl behind) ];
+  } where
+    called : (b : Bool) → is_argument_at g s ≡ b → Contains (cond b (callers_of g own) []) u
+        → IsArgument g s × HasEdge g.edges u own
+    called true is behind = (read_found (slice_get g.arguments s) false true false≢true is, caller_edge own u behind)
+    called false is behind = absurd (none_in_empty u behind)
 
   pub owner_owns : (s u : ℕ) → Contains (owners_at g s) u → Owns g u s
-  owner_owns s u h = from_listed s u (own_at g s) refl h
+  owner_owns s u h = listed_owns s u (own_at g s) refl h
 
   owner_listed : AreOfUnits g → (s u : ℕ) → Owns g u s → Contains (owners_at g s) u
-  owner_listed units s u owns =
-      let listed : Contains (owners_with g (is_argument_at g s) (Some owns.own)) u = elim owns.owner [
-        | inl same ↦ (0, omega arith, sym same)
-        | inr calls ↦
-            contains_behind owns.own (cond (is_argument_at g s) (callers_of g owns.own) []) u
-            (rw (argument_read s calls.0) (caller_there units owns.own u calls.1))
-      ] in
-      subst (λ (own : Option ℕ). Contains (owners_with g (is_argument_at g s) own) u)
-      (sym (own_read s owns.own owns.own_is)) listed
+  owner_listed units s u owns = rw (own_read s owns.own owns.own_is) (elim owns.owner [
+    | inl same ↦ (0, omega arith, sym same)
+    | inr calls ↦
+        let argument : is_argument_at g s ≡ true = rw (calls.0) refl in
+        contains_behind owns.own (cond (is_argument_at g s) (callers_of g owns.own) []) u
+        (rw argument (caller_there units owns.own u calls.1))
+  ])
 
   -- units under no root, and units under different ones
   abbrev UnderNone : ℕ → Type 0
@@ -125,48 +87,27 @@ module _ (g : GraphParts) where
     none_tells : (unit : ℕ) → Decides (is_under_none g unit) (UnderNone unit)
     unfolding is_under_none
     none_tells unit =
-        let test : ℕ → Bool = λ vector. is_under g vector unit in
-        Decides-like _
-        (λ h vector lies. h (record
-        { x = vector; there = at_vector vector unit lies; passes = (above_tells g vector unit).1 lies }))
-        (λ h some. h some.x ((above_tells g some.x unit).0 some.passes))
-        (Decides-not (list_any test vectors) (passes_tell vectors test))
-
-    record IsUnderTwo (one two : ℕ) : Type 0 where
-      x : ℕ
-      y : ℕ
-      differ : x ≢ y
-      first : UnitLiesUnder g x one
-      second : UnitLiesUnder g y two
+        Decides-like _ (λ h vector lies. h (vector, at_vector vector unit lies, lies)) (λ h some. h some.0 some.2)
+        (Decides-not _ (any_decides (λ vector. is_under g vector unit) (λ vector. UnitLiesUnder g vector unit)
+        (λ vector. above_tells g vector unit) vectors))
 
     differ_tells : (x y : ℕ) → Decides (not (nat_eq x y)) (x ≢ y)
     differ_tells x y = Decides-not (nat_eq x y) (Decides-eqb x y)
 
-    pair_tells : (one two x y : ℕ) → Decides (not (nat_eq x y) && (is_under g x one && is_under g y two))
-        ((x ≢ y) × (UnitLiesUnder g x one × UnitLiesUnder g y two))
-    pair_tells one two x y =
-        and_decides (not (nat_eq x y)) (is_under g x one && is_under g y two) (differ_tells x y)
-        (and_decides (is_under g x one) (is_under g y two) (above_tells g x one) (above_tells g y two))
+    -- units under different roots
+    abbrev Two : ℕ → ℕ → ℕ → ℕ → Type 0
+    Two one two x y = (x ≢ y) × (UnitLiesUnder g x one × UnitLiesUnder g y two)
+
+    abbrev IsUnderTwo : ℕ → ℕ → Type 0
+    IsUnderTwo one two = (x : ℕ) × Contains vectors x × ((y : ℕ) × Contains vectors y × Two one two x y)
 
     two_tells : (one two : ℕ) → Decides (are_under_two g one two) (IsUnderTwo one two)
     unfolding are_under_two
     two_tells one two =
-        let inner : ℕ → ℕ → Bool = λ x y. not (nat_eq x y) && (is_under g x one && is_under g y two) in (
-          λ h.
-              let a = (passes_tell vectors (λ x. list_any (inner x) vectors)).0 h in
-              let b = (passes_tell vectors (inner a.x)).0 a.passes in
-              let told = (pair_tells one two a.x b.x).0 b.passes in
-              record { x = a.x; y = b.x; differ = told.0; first = told.1.0; second = told.1.1 },
-          λ h. (passes_tell vectors (λ x. list_any (inner x) vectors)).1 (record {
-            x = h.x;
-            there = at_vector h.x one h.first;
-            passes = (passes_tell vectors (inner h.x)).1 (record {
-              x = h.y;
-              there = at_vector h.y two h.second;
-              passes = (pair_tells one two h.x h.y).1 (h.differ, (h.first, h.second));
-            });
-          }),
-        )
+        let differ : ℕ → ℕ → Bool = λ x y. not (nat_eq x y) && (is_under g x one && is_under g y two) in
+        any_decides (λ x. list_any (differ x) vectors) (λ x. (y : ℕ) × Contains vectors y × Two one two x y)
+        (λ x. any_decides (differ x) (Two one two x) (λ y. and_decides _ _ (differ_tells x y)
+        (and_decides _ _ (above_tells g x one) (above_tells g y two))) vectors) vectors
 
     abbrev OnWalk : ℕ → ℕ → Type 0
     OnWalk one two = (one ≡ two) ⊎ (Reaches g.edges one two ⊎ Reaches g.edges two one)
@@ -190,7 +131,7 @@ module _ (g : GraphParts) where
     sides one two (inl (inr (inr after))) = After after
     sides one two (inr (inl none)) = FirstUnderNone none
     sides one two (inr (inr (inl none))) = SecondUnderNone none
-    sides one two (inr (inr (inr roots))) = UnderTwo roots.x roots.y roots.differ roots.first roots.second
+    sides one two (inr (inr (inr (x, _, (y, _, (differ, (h, k))))))) = UnderTwo x y differ h k
 
     from_sides : (one two : ℕ) → AreRelated (joined_graph g) one two → OnWalk one two ⊎ Apart one two
     from_sides one two (Same same) = inl (inl same)
@@ -199,7 +140,7 @@ module _ (g : GraphParts) where
     from_sides one two (FirstUnderNone none) = inr (inl none)
     from_sides one two (SecondUnderNone none) = inr (inr (inl none))
     from_sides one two (UnderTwo x y differ h k) =
-        inr (inr (inr (record { x = x; y = y; differ = differ; first = h; second = k })))
+        inr (inr (inr (x, at_vector x one h, (y, at_vector y two k, (differ, (h, k))))))
 
     related_tells : (one two : ℕ) → Decides (are_related g one two) (AreRelated (joined_graph g) one two)
     unfolding are_related
@@ -207,30 +148,15 @@ module _ (g : GraphParts) where
         Decides-like _ (sides one two) (from_sides one two)
         (or_decides (are_on_walk g one two) (are_apart g one two) (walk_tells one two) (apart_tells one two))
 
-    -- segments with these owners
-    owners_of_two : (s t : ℕ) (ones twos : List ℕ) → owners_at g s ≡ ones → owners_at g t ≡ twos
-        → list_any (λ x. list_any (are_related g x) twos) ones ≡ true → SegmentsConflict g s t
-    owners_of_two s t ones twos p q h =
-        let a = (passes_tell ones (λ x. list_any (are_related g x) twos)).0 h in
-        let b = (passes_tell twos (are_related g a.x)).0 a.passes in
-        Owners a.x b.x (owner_owns s a.x (rw p a.there)) (owner_owns t b.x (rw q b.there))
-        ((related_tells a.x b.x).0 b.passes)
+    -- an owner of the one list is related to one of the other
+    abbrev Near : List ℕ → ℕ → Type 0
+    Near twos a = (b : ℕ) × Contains twos b × AreRelated (joined_graph g) a b
 
-    of_owners : (s t one two : ℕ) (ones twos : List ℕ) → owners_at g s ≡ ones → owners_at g t ≡ twos → Owns g one s
-        → Owns g two t → AreRelated (joined_graph g) one two
-        → list_any (λ x. list_any (are_related g x) twos) ones ≡ true
-    of_owners s t one two ones twos p q o o' related =
-        (passes_tell ones (λ x. list_any (are_related g x) twos)).1 (record {
-          x = one;
-          there = rw p at (owner_listed units s one o);
-          passes = (passes_tell twos (are_related g one)).1
-              (record {
-                x = two;
-                there = rw q at (owner_listed units t two o');
-                passes = (related_tells one two).1
-                    related;
-              });
-        })
+    near_tells : (ones twos : List ℕ)
+        → Decides (list_any (λ x. list_any (are_related g x) twos) ones) ((a : ℕ) × Contains ones a × Near twos a)
+    near_tells ones twos =
+        any_decides (λ x. list_any (are_related g x) twos) (Near twos)
+        (λ a. any_decides (are_related g a) (AreRelated (joined_graph g) a) (related_tells a) twos) ones
 
     no_owner : (s : ℕ) → owners_at g s ≡ [] → IsOverlaid g s → ⊥
     no_owner s h o = cc (rw (own_read s o.0 o.1) at h)
@@ -245,11 +171,13 @@ module _ (g : GraphParts) where
     owners_tell s t [] twos p q = (λ _. FirstPlain (no_owner s p), λ _. refl)
     owners_tell s t (one ∷ ones) [] p q = (λ _. SecondPlain (no_owner t q), λ _. refl)
     owners_tell s t (one ∷ ones) (two ∷ twos) p q = (
-      λ h. owners_of_two s t (one ∷ ones) (two ∷ twos) p q h,
+      λ h. let some = (near_tells (one ∷ ones) (two ∷ twos)).0 h in
+          Owners some.0 some.2.0 (owner_owns s some.0 (rw p some.1)) (owner_owns t some.2.0 (rw q some.2.1)) some.2.2,
       λ h. elim h [
         | FirstPlain plain ↦ absurd (plain (is_overlaid s one ones (own_at g s) refl p))
         | SecondPlain plain ↦ absurd (plain (is_overlaid t two twos (own_at g t) refl q))
-        | Owners u v o o' related ↦ of_owners s t u v (one ∷ ones) (two ∷ twos) p q o o' related
+        | Owners u v o o' related ↦ (near_tells (one ∷ ones) (two ∷ twos)).1
+            (u, rw p at (owner_listed units s u o), (v, rw q at (owner_listed units t v o'), related))
       ],
     )
 

@@ -8,10 +8,10 @@ use Rattle.m51_place.proofs.Common.{list_all, range_with_len, IsPermutation, All
 use Rattle.m51_place.proofs.Common.{UnitType, extent_of, Placed, extent_at, extents_in, ◌++◌, filter, map, Result, Ok}
 use Rattle.m51_place.proofs.Common.{Err, append_assoc, option_map_or, AllZip, append-nil, L12, GraphParts, Numbered}
 use Rattle.m51_place.proofs.Common.{Ranked, Refusal, base_for, located_at, place_after, conflicting, in_conflict_with}
-use Rattle.m51_place.proofs.Common.{◌-◌, ◌*◌, subst, Ram, Cell, AreOneRun, IsOpen}
+use Rattle.m51_place.proofs.Common.{◌-◌, ◌*◌, subst, Ram, Cell, AreOneRun, IsOpen, ◌⊎◌, list_any}
 use Rattle.std.proofs.Common.{◌%◌}
 use Rattle.std.proofs.lemmas.Bool.Decides.{nat_tests, Decides-by_and, Decides-like, Decides-not}
-use Rattle.std.specs.Prelude.{nat_le, IfSome}
+use Rattle.std.specs.Prelude.{nat_le, IfSome, ◌↔◌}
 use Rattle.m51_cells.proofs.Meeting.{shared}
 use Rattle.m51_place.specs.Bases.{overlap, share, fits_block, fits_memory, fits_at, HasNoBase, is_free, IsApart, IsFree}
 use Rattle.m51_place.specs.Bases.{IsLeastBase, least_base}
@@ -21,6 +21,12 @@ use Rattle.m51_place.specs.Laws.{LeastIsLeast}
 use Rattle.m51_bases.specs.Raising.{IsClear, IsFirstClear, IsOutside, NoneIsClear}
 use Rattle.m51_cells.proofs.Members.{all_every, Every, every_all, every_weaker, Pairs, pairs_push, every_in, every_of}
 use Rattle.m51_cells.proofs.Members.{In, in_cases, in_left, in_right}
+
+-- where no element passes a test, each fails
+pub all_fail : {A : Type 0} (test : A → Bool) (xs : List A) → list_any test xs ≡ false → Every (λ x. test x ≡ false) xs
+all_fail test [] h = tt
+all_fail test (x ∷ xs) h = elim (cases_Bool (test x))
+    [ inl is ↦ absurd (cc (rw is at h)) | inr fails ↦ (fails, all_fail test xs (rw fails at h)) ]
 
 -- The decisions on cells and bases are right.
 
@@ -211,42 +217,39 @@ module _ (kind : Kind) (reloc : Reloc) (size : ℕ) (space : Space)
         (sym other ∙ (space_tells (extent_at p).space space).1 (sym a.space ∙ b.space ∙ sym (in_space base)));
   }
 
-  apart_all : (base : ℕ) (ps : List Placed) → Every (IsOutside (extent_of kind base size)) (extents_in space ps)
-      → Every (IsApart (extent_of kind base size)) ps
-  apart_all base [] h = tt
-  apart_all base (p ∷ more) h = elim (cases_Bool (same_space (extent_at p).space space)) [
-    | inl same ↦ let all = rw same at h in (record { none = all.0.none }, apart_all base more all.1)
-    | inr other ↦ (other_memory base p other, apart_all base more (rw other at h))
-  ]
-
-  outside_all : (base : ℕ) (ps : List Placed) → Every (IsApart (extent_of kind base size)) ps
-      → Every (IsOutside (extent_of kind base size)) (extents_in space ps)
-  outside_all base [] h = tt
-  outside_all base (p ∷ more) h = elim (cases_Bool (same_space (extent_at p).space space)) [
-    | inl same ↦ rw same (record { none = h.0.none }, outside_all base more h.1)
-    | inr other ↦ rw other (outside_all base more h.1)
-  ]
+  outside_tells : (base : ℕ) (ps : List Placed) → Every (IsOutside (extent_of kind base size)) (extents_in space ps)
+      ↔ Every (IsApart (extent_of kind base size)) ps
+  outside_tells base [] = (λ h. h, λ h. h)
+  outside_tells base (p ∷ more) = let rest = outside_tells base more in
+      elim (cases_Bool (same_space (extent_at p).space space)) [
+        | inl same ↦ rw same (
+          λ h. (record { none = h.0.none }, rest.0 h.1),
+          λ h. (record { none = h.0.none }, rest.1 h.1),
+        )
+        | inr other ↦ rw other (λ h. (other_memory base p other, rest.0 h), λ h. rest.1 h.1)
+      ]
 
   module _ (others : List Placed) (extents : List Extent) (moved : IsPermutation (extents_in space others) extents)
     where
-      clear_is_free : (base : ℕ) → IsClear extents kind reloc size base → is_free others kind reloc size base ≡ true
-      clear_is_free base h =
+      clear_tells : (base : ℕ) → Decides (is_free others kind reloc size base) (IsClear extents kind reloc size base)
+      clear_tells base =
           let P : Extent → Type 0 = IsOutside (extent_of kind base size) in
-          let all = All-permutation P extents (extents_in space others) (IsPermutation-sym _ _ moved) h.outside in
-          (free_tells others kind reloc size base).1 (record {
+          let tells = outside_tells base others in
+          Decides-like _
+          (λ h. record {
             fits = h.fits;
-            apart = every_all _ others (apart_all base others (all_every P (extents_in space others) all));
+            outside = All-permutation P (extents_in space others) extents moved
+                (every_all P _ (tells.1 (all_every _ others h.apart)));
           })
+          (λ h. record {
+            fits = h.fits;
+            apart = every_all _ others (tells.0 (all_every P _
+                (All-permutation P extents (extents_in space others) (IsPermutation-sym _ _ moved) h.outside)));
+          })
+          (free_tells others kind reloc size base)
 
       not_free : (base : ℕ) → (IsClear extents kind reloc size base → ⊥) → is_free others kind reloc size base ≡ false
-      not_free base h = false_from_ne_true _ (λ is.
-          let free = (free_tells others kind reloc size base).0 is in
-          let P : Extent → Type 0 = IsOutside (extent_of kind base size) in
-          h (record {
-            fits = free.fits;
-            outside = All-permutation P (extents_in space others) extents moved
-                (every_all P _ (outside_all base others (all_every _ others free.apart)));
-          }))
+      not_free base h = false_from_ne_true _ (λ is. h ((clear_tells base).0 is))
 
       first_is : (found : Option ℕ)
           → MatchOption found (NoneIsClear extents kind reloc size) (λ base. IsFirstClear extents kind reloc size base)
@@ -254,7 +257,7 @@ module _ (kind : Kind) (reloc : Reloc) (size : ℕ) (space : Space)
       first_is None h below = λ k up less. not_free k (h k)
       first_is (Some base) h below =
           let first : IsFirstClear extents kind reloc size base = h in
-          (clear_is_free base first.clear, below, λ k up less. not_free k (first.none k less))
+          ((clear_tells base).1 first.clear, below, λ k up less. not_free k (first.none k less))
 
       pub least_is : (found : Option ℕ)
           → MatchOption found (NoneIsClear extents kind reloc size) (λ base. IsFirstClear extents kind reloc size base)
@@ -386,23 +389,18 @@ pub both_ok : (answer : Answer) (f : List Numbered → Answer) (z : List Numbere
 both_ok (Ok es) f z h = (es, refl, h)
 both_ok (Err refusal) f z h = absurd (cc h)
 
-append_by : (g : GraphParts) (earlier : List Numbered) (t : Ranked) (more later : List Ranked) (found : Option ℕ)
-    → ((base : ℕ) → place_after g (earlier ++ located_at t base ∷ []) (more ++ later)
-    ≡ and_then (place_after g (earlier ++ located_at t base ∷ []) more) (λ es. place_after g es later))
-    → option_map_or (λ base. place_after g (earlier ++ located_at t base ∷ []) (more ++ later)) found
-    (Err (L12 t.segment.title))
-    ≡ and_then
-    (option_map_or (λ base. place_after g (earlier ++ located_at t base ∷ []) more) found (Err (L12 t.segment.title)))
-    (λ es. place_after g es later)
-append_by g earlier t more later None again = refl
-append_by g earlier t more later (Some base) again = again base
+-- a segment has a base, or none
+pub base_cases : (found : Option ℕ) → (found ≡ None) ⊎ ((base : ℕ) × (found ≡ Some base))
+base_cases None = inl refl
+base_cases (Some base) = inr (base, refl)
 
 pub place_append : (g : GraphParts) (first later : List Ranked) (earlier : List Numbered)
     → place_after g earlier (first ++ later) ≡ and_then (place_after g earlier first) (λ es. place_after g es later)
 place_append g [] later earlier = refl
-place_append g (t ∷ more) later earlier =
-    append_by g earlier t more later (base_for g earlier t)
-    (λ base. place_append g more later (earlier ++ located_at t base ∷ []))
+place_append g (t ∷ more) later earlier = elim (base_cases (base_for g earlier t)) [
+  | inl none ↦ rw none refl
+  | inr some ↦ rw (some.1) (place_append g more later (earlier ++ located_at t some.0 ∷ []))
+]
 
 -- Where overlaid DATA is placed in a run of open bytes: at its low end, or on an earlier segment in conflict.
 
@@ -492,10 +490,10 @@ module _ (g : GraphParts) (front done : List Numbered) (t : Ranked) (low high ba
       (out_open front byte (every_of _ front
       (λ e there at p q. front_apart e there at (omega (arith, from, p)) (omega (arith, below, q)))))
 
-  pub not_below : low ≤ base
+  not_below : low ≤ base
   not_below = (in_run base (omega arith) (omega (arith, some))).0
 
-  pub not_past : base + size ≤ high
+  not_past : base + size ≤ high
   not_past = let last = in_run (base + size - 1) (omega (arith, some)) (omega (arith, some)) in
       omega (arith, last.1, some)
 
@@ -565,8 +563,8 @@ module _ (g : GraphParts) (front done : List Numbered) (t : Ranked) (low high ba
         ],
       )
 
-  pub seated : IsSeated g done t low base
-  seated = elim (cases_lt low base) [
+  on_seat : IsSeated g done t low base
+  on_seat = elim (cases_lt low base) [
     | inr same ↦ AtLow (omega (arith, same, not_below))
     | inl above ↦
         let found = some_meets clear_of (in_conflict_with g t.number) (front ++ done) (blocked (omega (arith, above)))
@@ -578,3 +576,7 @@ module _ (g : GraphParts) (front done : List Numbered) (t : Ranked) (low high ba
               OnTop found.0 in_done found.2 there.0 there.1
         ]
   ]
+
+  -- it lies in the run, at its low end or on an earlier one
+  pub seated : (low ≤ base) × (base + size ≤ high) × IsSeated g done t low base
+  seated = (not_below, not_past, on_seat)

@@ -5,6 +5,7 @@ pub mod Counting
 pub mod Ends
 pub mod Free
 pub mod Meetings
+pub mod Numbering
 pub mod Ordered
 pub mod Piled
 pub mod Ranks

@@ -6,15 +6,15 @@ use Rattle.m51_place.proofs.Common.{JoinedSegment, GraphParts, Numbered, Ranked,
 use Rattle.m51_place.proofs.Common.{bytes_joined, overlaid_in, located_at, mark_of, zero, suc, ◌-◌, ◌<◌, ◌≤◌, nat_eq}
 use Rattle.m51_place.proofs.Common.{◌++◌, get_or, subst, cases_lt, nat_lt, sum_along, vectors, Edges, IsWalk, Reaches}
 use Rattle.m51_place.proofs.Common.{IsGraph, IsRootAt, root_number, AreOneRun, ◌*◌, ◌/◌, Ok, Err, append_assoc}
-use Rattle.m51_place.proofs.Common.{append-nil, Direct, UnitType, extent_of, Covers, Fits, L12, IsOwn, in_conflict}
-use Rattle.m51_place.proofs.Common.{base_for, conflicting, in_conflict_with, place_after, length, Chain, ChainsFrom}
-use Rattle.m51_place.proofs.Common.{ProgramGraph}
-use Rattle.m51_place.proofs.Free.{IsPlacedRanked, Answer, least_is_least, AtLow, IsOut, IsSeated, not_below, not_past}
+use Rattle.m51_place.proofs.Common.{append-nil, Direct, UnitType, extent_of, Covers, Fits, IsOwn, in_conflict, base_for}
+use Rattle.m51_place.proofs.Common.{conflicting, in_conflict_with, place_after, length, Chain, ChainsFrom, ProgramGraph}
+use Rattle.m51_place.proofs.Free.{AreAfter, IsPlacedRanked, Answer, least_is_least, AtLow, IsOut, IsSeated, base_cases}
 use Rattle.m51_place.proofs.Free.{OnTop, open_out, out_apart, ram, seated}
 use Rattle.m51_cells.proofs.Members.{Every, total, total_moved, total-append, every_all, every_append, every_in}
 use Rattle.m51_cells.proofs.Members.{every_weaker, In, in_cases, in_filter, in_map, every_of, Pairs}
-use Rattle.m51_place.proofs.Ranks.{AreFrom, from_head, from_start, from_tail, IsRankedOf, order_moves, Earlier}
+use Rattle.m51_place.proofs.Ranks.{IsRankedOf, order_moves, Earlier}
 use Rattle.m51_place.proofs.Weights.{bytes, is_data, Local, along_total}
+use Rattle.m51_place.proofs.Numbering.{at_number, with_numbers}
 use Rattle.std.proofs.lemmas.Bool.{eq-eqb, le-ltb, lt-ltb, ne_eqb}
 use Rattle.m51_module.specs.Walks.{last_of}
 use Rattle.m51_place.proofs.Ordered.{EarlierRoot, few_roots, Leads, Precedes, root_above, SameUnit, UnderNone}
@@ -54,11 +54,11 @@ none_joined : (d : Bool) (own : Option ℕ) (test : ℕ → Bool) (size : ℕ) �
 none_joined d own test size none = rw none (grind arith)
 
 module _ (g : GraphParts) (test : ℕ → Bool) where
-  pub bare_sum : (es : List Numbered) → Every (λ e. own_of g e ≡ None) es → total (placed_bytes g test) es ≡ 0
+  bare_sum : (es : List Numbered) → Every (λ e. own_of g e ≡ None) es → total (placed_bytes g test) es ≡ 0
   bare_sum [] h = refl
   bare_sum (e ∷ es) h = rw h.0 (omega (arith, bare_sum es h.1))
 
-  pub zip_sum : (order : List Ranked) (later : List Numbered) → AllZip IsPlacedRanked order later
+  zip_sum : (order : List Ranked) (later : List Numbered) → AllZip IsPlacedRanked order later
       → total (placed_bytes g test) later ≡ total (ranked_bytes g test) order
   zip_sum [] [] h = refl
   zip_sum [] (e ∷ later) h = absurd h
@@ -66,21 +66,34 @@ module _ (g : GraphParts) (test : ℕ → Bool) where
   zip_sum (t ∷ order) (e ∷ later) h =
       omega (arith, ap (placed_bytes g test) h.0.is, zip_sum order later h.1)
 
+  -- what is placed after extents that are not overlaid has the bytes of its order
+  pub located_sum : (front located : List Numbered) (order : List Ranked) → Every (λ e. own_of g e ≡ None) front
+      → AreAfter g front order located → total (placed_bytes g test) located ≡ total (ranked_bytes g test) order
+  located_sum front located order bare after =
+      omega (
+        arith,
+        ap (λ (es : List Numbered). total (placed_bytes g test) es) after.are,
+        total-append (placed_bytes g test) front after.later,
+        bare_sum front bare,
+        zip_sum order after.later after.each,
+      )
+
   module _ (segments : List JoinedSegment) (controls : List (ℕ × Control))
       (bare : (n : ℕ) (j : JoinedSegment) → slice_get segments n ≡ Some j → is_absolute j.reloc ≡ true → own_at g n
       ≡ None) where
-    joined_sum : (number : ℕ) (rest : List JoinedSegment) → AreFrom segments number rest
+    joined_sum : (number : ℕ) (rest : List JoinedSegment)
+        → Every (λ (p : ℕ × JoinedSegment). is_absolute p.1.reloc ≡ true → own_at g p.0 ≡ None)
+        (with_numbers number rest)
         → total (ranked_bytes g test) (ranked_from g controls number rest) ≡ bytes_joined g test number rest
-    joined_sum number [] from = refl
-    joined_sum number (j ∷ more) from =
-        let rest = joined_sum (number + 1) more (from_tail segments number j more from) in
+    joined_sum number [] plain = refl
+    joined_sum number (j ∷ more) plain =
+        let rest = joined_sum (number + 1) more plain.1 in
         elim (cases_Bool (is_absolute j.reloc)) [
           | inl abs ↦
-              let none = bare number j (from_head segments number j more from) abs in
               rw abs (omega (
                 arith,
                 rest,
-                none_joined (is_overlaid_data j.kind j.reloc Overlaid) (own_at g number) test j.size none,
+                none_joined (is_overlaid_data j.kind j.reloc Overlaid) (own_at g number) test j.size (plain.0 abs),
               ))
           | inr rel ↦ rw rel (omega (arith, rest, one_joined test j (own_at g number)))
         ]
@@ -105,7 +118,7 @@ module _ (g : GraphParts) (test : ℕ → Bool) where
 
     pub order_all : total (ranked_bytes g test) (order_of g controls segments) ≡ bytes_joined g test 0 segments
     order_all = sym (total_moved (ranked_bytes g test) _ _ (order_moves g controls segments))
-        ∙ joined_sum 0 segments (from_start segments)
+        ∙ joined_sum 0 segments (every_of _ _ (λ p i. bare p.0 p.1 (at_number segments p i)))
 
     pub order_sum : Every (IsRankedOf g controls segments) (order_of g controls segments)
         → total (ranked_bytes g test) (overlaid_in (order_of g controls segments)) ≡ bytes_joined g test 0 segments
@@ -495,11 +508,9 @@ module _ (s : Scene) where
             base = base;
             is = refl;
             before = before;
-            from = λ some. not_below s.g s.front done t s.low s.high base s.run against direct one.local.kind
-                one.local.reloc some is;
-            till = λ some. not_past s.g s.front done t s.low s.high base s.run against direct one.local.kind
-                one.local.reloc some is;
-            ends = λ some. ends_at base (on some);
+            from = λ some. (on some).0;
+            till = λ some. (on some).1;
+            ends = λ some. ends_at base (on some).2;
           },
           tt,
         )
@@ -586,27 +597,18 @@ module _ (s : Scene) where
   Piles unrooted (Ok located) = AreLaid unrooted located
   Piles unrooted (Err refusal) = s.high < s.low + s.top 7 + unrooted
 
-  piled_by : (t : Ranked) (more : List Ranked) (done : List Numbered) (unrooted : ℕ) (found : Option ℕ)
-      → base_for s.g (s.front ++ done) t ≡ found
-      → (base_for s.g (s.front ++ done) t ≡ None → s.high < s.low + s.top 7 + unrooted)
-      → ((base : ℕ) → base_for s.g (s.front ++ done) t ≡ Some base
-      → Piles unrooted (place_after s.g (s.front ++ (done ++ located_at t base ∷ [])) more))
-      → Piles unrooted (option_map_or (λ base. place_after s.g ((s.front ++ done) ++ located_at t base ∷ []) more) found
-      (Err (L12 t.segment.title)))
-  piled_by t more done unrooted None is short long = short is
-  piled_by t more done unrooted (Some base) is short long = rw append_assoc (long base is)
-
   piled : (next : List Ranked) (done : List Numbered) (unrooted : ℕ) → Every (IsLocalOne s.g) next → Pairs Earlier next
       → Every (IsLaid done next) done → HasRoom done next unrooted
       → Piles unrooted (place_after s.g (s.front ++ done) next)
   piled [] done unrooted ones rising laid has =
       record { done = done; are = refl; laid = laid; room = has }
-  piled (t ∷ more) done unrooted ones rising laid has =
-      piled_by t more done unrooted (base_for s.g (s.front ++ done) t) refl
-      (no_base done t more unrooted ones.0 rising.0 laid has)
-      (λ base is. piled more (done ++ located_at t base ∷ []) unrooted ones.1 rising.1
-      (laid_after done t more unrooted ones.0 rising.0 laid has base is)
-      (room_after done t more unrooted ones.0 rising.0 laid has base))
+  piled (t ∷ more) done unrooted ones rising laid has = elim (base_cases (base_for s.g (s.front ++ done) t)) [
+    | inl none ↦ rw none (no_base done t more unrooted ones.0 rising.0 laid has none)
+    | inr some ↦ rw (some.1, append_assoc)
+        (piled more (done ++ located_at t some.0 ∷ []) unrooted ones.1 rising.1
+        (laid_after done t more unrooted ones.0 rising.0 laid has some.0 some.1)
+        (room_after done t more unrooted ones.0 rising.0 laid has some.0))
+  ]
 
   pub piles : (next : List Ranked) (unrooted : ℕ) → Every (IsLocalOne s.g) next → Pairs Earlier next
       → ((u : ℕ) → total (ranked_bytes s.g (nat_eq u)) next ≤ s.w u)

@@ -9,13 +9,13 @@ use Rattle.m51_place.proofs.Common.{drop_rest, above_tells, Ranked, comes_before
 use Rattle.m51_place.proofs.Common.{append-nil, length-map, All-get_or, All-permutation, slice_get_within}
 use Rattle.m51_place.proofs.Common.{get_or_from_slice_get, Numbered, absolutes_from, one_if, order_of, own_at, put_all}
 use Rattle.m51_place.proofs.Common.{ranked_of, ranked_from, ◌⊎◌, false≢true, before_by, class_number, group_number}
+use Rattle.m51_place.proofs.Common.{absolute, filter, map, not-true}
 use Rattle.std.proofs.lemmas.List.Elements.{All-map}
 use Rattle.m51_cells.proofs.KindLaws.{absolute_is, overlay_kind, overlay_reloc}
 use Rattle.m51_cells.specs.Fits.{allows}
 use Rattle.m51_module.specs.declared.segment.Segment.{Segment}
 use Rattle.m51_module.specs.Validity.{IsSegmentValid}
-use Rattle.m51_resolve.specs.Joining.{all_segments, are_parts, firsts, firsts_after}
-use Rattle.m51_resolve.specs.Joining.{joined_of}
+use Rattle.m51_resolve.specs.Joining.{all_segments, are_parts, firsts, firsts_after, joined_of}
 use Rattle.m51_graph.specs.Drawing.{edges_of, fixup_edges}
 use Rattle.m51_graph.specs.Graphs.{cyclic_from, first_under_two, judged, lacks_reset, on_cycles, parts_of}
 use Rattle.m51_graph.specs.Locals.{own_units}
@@ -33,6 +33,8 @@ use Rattle.m51_place.specs.Placement.{is_number}
 use Rattle.m51_place.specs.Ready.{IsPlaceable}
 use Rattle.m51_place.proofs.Weights.{has_byte}
 use Rattle.m51_cells.proofs.Members.{all_every, Every, every_all, total, total_moved, every_weaker, Pairs, pairs_all}
+use Rattle.m51_cells.proofs.Members.{every_map, every_of, in_filter}
+use Rattle.m51_place.proofs.Numbering.{at_number, with_numbers}
 use Rattle.m51_place.specs.declared.ranked.Rank.{Rank}
 use Rattle.m51_place.specs.Laws.{IsInOrder}
 
@@ -203,41 +205,40 @@ pub record IsRankedOf (g : GraphParts) (controls : List (ℕ × Control)) (segme
   pub relocatable : is_absolute t.segment.reloc ≡ false
   pub rank : t.rank ≡ rank_of g controls t.number t.segment t.own
 
--- these are the joined segments from that number on
-abbrev pub AreFrom : List JoinedSegment → ℕ → List JoinedSegment → Type 0
-AreFrom segments number rest = (k : ℕ) → slice_get rest k ≡ slice_get segments (number + k)
+-- the absolute segments and the relocatable ones, each with its number
+abbrev pub is_fixed : ℕ × JoinedSegment → Bool
+is_fixed p = is_absolute p.1.reloc
 
-pub from_tail : (segments : List JoinedSegment) (number : ℕ) (j : JoinedSegment) (more : List JoinedSegment)
-    → AreFrom segments number (j ∷ more) → AreFrom segments (number + 1) more
-from_tail segments number j more h k = let next : number + suc k ≡ number + 1 + k = omega arith in rw next at
-    (h (suc k))
+abbrev pub absolute_at : ℕ × JoinedSegment → Numbered
+absolute_at p = absolute p.0 p.1
 
-pub from_head : (segments : List JoinedSegment) (number : ℕ) (j : JoinedSegment) (more : List JoinedSegment)
-    → AreFrom segments number (j ∷ more) → slice_get segments number ≡ Some j
-from_head segments number j more h = let same : number + 0 ≡ number = omega arith in sym (rw same at (h 0))
-
-pub from_start : (segments : List JoinedSegment) → AreFrom segments 0 segments
-from_start segments k = let same : 0 + k ≡ k = omega arith in rw same
+pub absolutes_are : (number : ℕ) (rest : List JoinedSegment)
+    → absolutes_from number rest ≡ map absolute_at (filter is_fixed (with_numbers number rest))
+absolutes_are number [] = refl
+absolutes_are number (j ∷ more) = grind (arith, absolutes_are (number + 1) more)
 
 module _ (g : GraphParts) (controls : List (ℕ × Control)) (segments : List JoinedSegment) where
-  ranked_are : (number : ℕ) (rest : List JoinedSegment) → AreFrom segments number rest
-      → Every (IsRankedOf g controls segments) (ranked_from g controls number rest)
-  ranked_are number [] h = tt
-  ranked_are number (j ∷ more) h =
-      let tail = ranked_are (number + 1) more (from_tail segments number j more h) in
-      elim (cases_Bool (is_absolute j.reloc)) [
-        | inl abs ↦ rw abs tail
-        | inr rel ↦ rw rel (
-          record { segment = from_head segments number j more h; own = refl; relocatable = rel; rank = refl },
-          tail,
-        )
-      ]
+  abbrev ranked_at : ℕ × JoinedSegment → Ranked
+  ranked_at p = ranked_of g controls p.0 p.1
+
+  ranked_are : (number : ℕ) (rest : List JoinedSegment) → ranked_from g controls number rest
+      ≡ map ranked_at (filter (λ p. not (is_fixed p)) (with_numbers number rest))
+  ranked_are number [] = refl
+  ranked_are number (j ∷ more) = grind (arith, ranked_are (number + 1) more)
 
   pub order_ranked : Every (IsRankedOf g controls segments) (order_of g controls segments)
   order_ranked =
       let P : Ranked → Type 0 = IsRankedOf g controls segments in
+      let all = every_map ranked_at P _ (every_of _ (filter (λ p. not (is_fixed p)) (with_numbers 0 segments)) (λ p i.
+      let is = in_filter (λ p. not (is_fixed p)) (with_numbers 0 segments) p i in
+      record {
+        segment = at_number segments p is.0;
+        own = refl;
+        relocatable = not-true (is_fixed p) is.1;
+        rank = refl;
+      })) in
       all_every P _ (All-permutation P _ _ (order_moves g controls segments)
-      (every_all P _ (ranked_are 0 segments (from_start segments))))
+      (every_all P _ (rw (← ranked_are 0 segments) at all)))
 
 -- a graph has an owner, or none, for each joined segment
 pub as_many_own : (segments : List JoinedSegment) (controls : List (ℕ × Control)) (g : GraphParts)

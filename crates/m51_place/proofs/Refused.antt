@@ -1,15 +1,13 @@
 -- L12 names an overlaid segment exactly if the run has fewer bytes than the weight.
 use Rattle.m51_place.proofs.Common.{◌≡◌, ℕ, ◌+◌, ◌≤◌, Ok, Err, refl, arith, Numbered, place_after, overlaid_in, inl}
-use Rattle.m51_place.proofs.Common.{inr, zero, suc, ◌<◌, true, false, Bool, cond, not, ◌&&◌, List, [], ◌∷◌, Some, sym}
-use Rattle.m51_place.proofs.Common.{ap, ◌∙◌, slice_get, list_any, cases_lt, false≢true, list_any_at}
-use Rattle.m51_place.proofs.Common.{get_or_from_slice_get, slice_get_within, is_absolute, ModuleParts, JoinedSegment}
-use Rattle.m51_place.proofs.Common.{segments_of, ◌-◌, ◌++◌, Option, None, is_some, length, option_map, option_map_or}
-use Rattle.m51_place.proofs.Common.{Refusal, L12, GraphParts, unless, Ranked, first_met, shared_after, shared_at}
-use Rattle.m51_place.proofs.Common.{shared_extents, own_at, before_overlaid, IsWeightOf, OverlaysData, base_for}
-use Rattle.m51_place.proofs.Common.{located_at, located_of}
+use Rattle.m51_place.proofs.Common.{inr, true, false, Bool, cond, not, ◌&&◌, List, [], ◌∷◌, Some, sym, ap, ◌∙◌}
+use Rattle.m51_place.proofs.Common.{slice_get, cases_lt, false≢true, is_absolute, ModuleParts, JoinedSegment}
+use Rattle.m51_place.proofs.Common.{segments_of, ◌-◌, ◌++◌, Option, None, is_some, length, Refusal, L12, GraphParts}
+use Rattle.m51_place.proofs.Common.{unless, Ranked, first_met, shared_after, shared_at, shared_extents, own_at}
+use Rattle.m51_place.proofs.Common.{before_overlaid, IsWeightOf, OverlaysData, base_for, located_at, located_of}
 use Rattle.m51_place.specs.Overlay.{OverlayFits, PlacesOverlaid, ExceedsRun, LeavesRun, OverlayRefused, PlacesBefore}
 use Rattle.m51_place.specs.Overlay.{RefusesOverlaid}
-use Rattle.m51_place.proofs.Free.{Answer, and_then, place_append}
+use Rattle.m51_place.proofs.Free.{all_fail, Answer, and_then, base_cases, place_append}
 use Rattle.m51_place.proofs.Piled.{Piles}
 use Rattle.m51_place.proofs.Tight.{answer as settled, order, scene, Setting, unrooted, weighs, fixed, holds, Program}
 use Rattle.m51_place.proofs.Tight.{ranked, segments}
@@ -19,7 +17,7 @@ use Rattle.m51_cells.specs.Name.{title_at}
 use Rattle.m51_module.specs.declared.segment.Segment.{Segment}
 use Rattle.m51_resolve.specs.Joining.{all_segments, are_parts, firsts, joined_of, title_of}
 use Rattle.m51_resolve.proofs.FirstSight.{AreApart, firsts_apart}
-use Rattle.m51_cells.proofs.Members.{map_at, Every, every_in, In, in_filter, in_left, in_right}
+use Rattle.m51_cells.proofs.Members.{map_at, Every, every_in, In, in_filter, in_left, in_right, Pairs, pairs_at}
 use Rattle.std.specs.Option.{option_or}
 use Rattle.m51_module.specs.declared.linked.Refusal.TheVariants.{L9}
 use Rattle.m51_place.specs.Placement.{placing_from}
@@ -54,23 +52,9 @@ overlay_fits modules controls g low high weight valid kept is graph_is shares da
 -- Relocatable joined segments of one title are one.
 
 -- no two of the segments that are seen first are parts of one
-no_part : (s : Segment) (xs : List Segment) (n : ℕ) (t : Segment) → list_any (are_parts s) xs ≡ false → slice_get xs n
-    ≡ Some t → are_parts s t ≡ true → ⊥
-no_part s xs n t none at parts =
-    false≢true
-    (sym none
-    ∙ list_any_at (are_parts s) xs n t (slice_get_within xs n t at)
-    (ap (are_parts s) (get_or_from_slice_get xs n t t at) ∙ parts))
-
-two_parts : (xs : List Segment) (n m : ℕ) (s t : Segment) → AreApart xs → n < m → slice_get xs n ≡ Some s
-    → slice_get xs m ≡ Some t → are_parts s t ≡ true → ⊥
-two_parts [] n m s t apart less h k parts = absurd (cc h)
-two_parts (x ∷ xs) n zero s t apart less h k parts = absurd (omega (arith, less))
-two_parts (x ∷ xs) zero (suc m) s t apart less h k parts =
-    let same : x ≡ s = cc h in
-    no_part x xs m t apart.0 k (ap (λ (y : Segment). are_parts y t) same ∙ parts)
-two_parts (x ∷ xs) (suc n) (suc m) s t apart less h k parts =
-    two_parts xs n m s t apart.1 (omega (arith, less)) h k parts
+apart_pairs : (xs : List Segment) → AreApart xs → Pairs (λ s t. are_parts s t ≡ false) xs
+apart_pairs [] h = tt
+apart_pairs (s ∷ xs) h = (all_fail (are_parts s) xs h.0, apart_pairs xs h.1)
 
 -- relocatable segments of one title are parts of one
 alike : (s t : Segment) → is_absolute s.reloc ≡ false → is_absolute t.reloc ≡ false → title_of s ≡ title_of t
@@ -92,12 +76,13 @@ one_title modules n m j k at at' a b same =
     let reloc' : is_absolute f'.0.reloc ≡ false = ap (λ (x : JoinedSegment). is_absolute x.reloc) f'.2 ∙ b in
     let title : title_of f.0 ≡ title_of f'.0 = ap (λ (x : JoinedSegment). x.title) f.2 ∙ same
     ∙ sym (ap (λ (x : JoinedSegment). x.title) f'.2) in
-    let apart : AreApart (firsts all) = firsts_apart [] all in
+    let apart = apart_pairs (firsts all) (firsts_apart [] all) in
     elim (cases_lt n m) [
-      | inl less ↦ absurd (two_parts (firsts all) n m f.0 f'.0 apart less f.1 f'.1 (alike f.0 f'.0 reloc reloc' title))
+      | inl less ↦ absurd
+          (cc (pairs_at _ (firsts all) n m f.0 f'.0 apart less f.1 f'.1, alike f.0 f'.0 reloc reloc' title))
       | inr not_less ↦ elim (cases_lt m n) [
         | inl more ↦ absurd
-            (two_parts (firsts all) m n f'.0 f.0 apart more f'.1 f.1 (alike f'.0 f.0 reloc' reloc (sym title)))
+            (cc (pairs_at _ (firsts all) m n f'.0 f.0 apart more f'.1 f.1, alike f'.0 f.0 reloc' reloc (sym title)))
         | inr not_more ↦ omega (arith, not_less, not_more)
       ]
     ]
@@ -108,40 +93,25 @@ one_title modules n m j k at at' a b same =
 abbrev Names : List Ranked → Refusal → Type 0
 Names order refusal = (t : Ranked) × In t order × (refusal ≡ L12 t.segment.title)
 
-named_by : (g : GraphParts) (earlier : List Numbered) (t : Ranked) (more : List Ranked) (refusal : Refusal)
-    (found : Option ℕ)
-    → ((base : ℕ) → place_after g (earlier ++ located_at t base ∷ []) more ≡ Err refusal → Names more refusal)
-    → option_map_or (λ base. place_after g (earlier ++ located_at t base ∷ []) more) found (Err (L12 t.segment.title))
-    ≡ Err refusal → Names (t ∷ more) refusal
-named_by g earlier t more refusal None again h =
-    let same : L12 t.segment.title ≡ refusal = cc h in (t, inl refl, sym same)
-named_by g earlier t more refusal (Some base) again h = let rest = again base h in (rest.0, inr rest.1, rest.2)
-
 named_in : (g : GraphParts) (order : List Ranked) (earlier : List Numbered) (refusal : Refusal)
     → place_after g earlier order ≡ Err refusal → Names order refusal
 named_in g [] earlier refusal h = absurd (cc h)
-named_in g (t ∷ more) earlier refusal h =
-    named_by g earlier t more refusal (base_for g earlier t)
-    (λ base k. named_in g more (earlier ++ located_at t base ∷ []) refusal k) h
+named_in g (t ∷ more) earlier refusal h = elim (base_cases (base_for g earlier t)) [
+  | inl none ↦ let same : L12 t.segment.title ≡ refusal = cc (rw none at h) in (t, inl refl, sym same)
+  | inr some ↦
+      let rest = named_in g more (earlier ++ located_at t some.0 ∷ []) refusal (rw (some.1) at h) in
+      (rest.0, inr rest.1, rest.2)
+]
 
 -- L9 is not L12
-not_read : (e : Numbered) (rest : Option Refusal) (title : List ℕ) (found : Option Numbered)
-    → (rest ≡ Some (L12 title) → ⊥)
-    → option_or (option_map (λ (q : Numbered). L9 q.placed.title e.placed.title) found) rest ≡ Some (L12 title) → ⊥
-not_read e rest title None again h = again h
-not_read e rest title (Some q) again h = cc h
-
-not_shared_at : (earlier : List Numbered) (e : Numbered) (rest : Option Refusal) (title : List ℕ) (found : Option ℕ)
-    → (rest ≡ Some (L12 title) → ⊥) → option_or (shared_at earlier e found) rest ≡ Some (L12 title) → ⊥
-not_shared_at earlier e rest title None again h = again h
-not_shared_at earlier e rest title (Some index) again h =
-    not_read e rest title (slice_get earlier index) again h
-
 not_shared : (fixed earlier : List Numbered) (title : List ℕ) → shared_after earlier fixed ≡ Some (L12 title) → ⊥
 not_shared [] earlier title h = cc h
 not_shared (e ∷ more) earlier title h =
-    not_shared_at earlier e (shared_after (earlier ++ e ∷ []) more) title (first_met earlier e)
-    (not_shared more (earlier ++ e ∷ []) title) h
+    passed_over (first_met earlier e) (not_shared more (earlier ++ e ∷ []) title) h
+  where
+    passed_over : (found : Option ℕ) → (shared_after (earlier ++ e ∷ []) more ≡ Some (L12 title) → ⊥)
+        → option_or (shared_at earlier e found) (shared_after (earlier ++ e ∷ []) more) ≡ Some (L12 title) → ⊥
+    passed_over found again h = grind arith
 
 own_some : (own : Option ℕ) → is_some own ≡ true → (unit : ℕ) × (own ≡ Some unit)
 own_some None absent = absurd (false≢true absent)

@@ -1,29 +1,26 @@
 -- The layout of what was placed is sound, and each vector has at most one root.
 use Rattle.m51_place.proofs.Common.{◌≡◌, inl, inr, ℕ, zero, suc, ◌+◌, ◌<◌, ◌≤◌, true, false, Bool, cond, nat_eq, List}
-use Rattle.m51_place.proofs.Common.{[], ◌∷◌, get_or, map, Some, refl, sym, ap, subst, ◌∙◌, arith, slice_get, Contains}
-use Rattle.m51_place.proofs.Common.{list_any, list_any_at, and_parts, vectors, JoinedSegment, is_absolute}
-use Rattle.m51_place.proofs.Common.{code_segments, units_of, cases_Bool, ◌⊎◌, ◌≢◌, ◌++◌, Option, None, All, same_Some}
-use Rattle.m51_place.proofs.Common.{Cell, Code, Covers, Control, IsAllowed, extent_at, ModuleParts, GraphParts}
-use Rattle.m51_place.proofs.Common.{Numbered, in_conflict, absolute, absolutes_from, banks_of, fixed_of, reserves_of}
-use Rattle.m51_place.proofs.Common.{shared_extents, own_at, length, option_map_or, range_with_len, append-nil}
-use Rattle.m51_place.proofs.Common.{length-map, slice_get_within, Meet, LayoutParts, Overlaid, Placed, FirstPlain}
-use Rattle.m51_place.proofs.Common.{SecondPlain, Owners, IsSegment, layout_graph, owners_of, IsSound, reach_edge}
-use Rattle.m51_place.proofs.Common.{none_in_empty, edge_test, IsGraph, SegmentsConflict, is_argument_at, owners_at}
-use Rattle.m51_place.proofs.Common.{parts_of_layout}
+use Rattle.m51_place.proofs.Common.{filter, [], ◌∷◌, get_or, map, Some, refl, sym, ap, subst, ◌∙◌, arith, slice_get}
+use Rattle.m51_place.proofs.Common.{Contains, list_any, list_any_at, and_parts, vectors, JoinedSegment, is_absolute}
+use Rattle.m51_place.proofs.Common.{code_segments, units_of, ◌≢◌, ◌++◌, Option, None, All, same_Some, Code, Covers}
+use Rattle.m51_place.proofs.Common.{Control, extent_at, ModuleParts, GraphParts, Numbered, in_conflict, absolute}
+use Rattle.m51_place.proofs.Common.{absolutes_from, banks_of, fixed_of, reserves_of, shared_extents, own_at, length}
+use Rattle.m51_place.proofs.Common.{option_map_or, range_with_len, append-nil, length-map, slice_get_within, Meet}
+use Rattle.m51_place.proofs.Common.{LayoutParts, Overlaid, Placed, FirstPlain, SecondPlain, Owners, IsSegment}
+use Rattle.m51_place.proofs.Common.{layout_graph, owners_of, IsSound, reach_edge, none_in_empty, edge_test, IsGraph}
+use Rattle.m51_place.proofs.Common.{SegmentsConflict, is_argument_at, owners_at, parts_of_layout}
+use Rattle.m51_place.proofs.Numbering.{at_number, filter_in, number_at, numbers_rise, with_numbers}
 use Rattle.std.proofs.lemmas.Bool.{eq-eqb, cases_order, ne_eqb}
 use Rattle.m51_cells.specs.Kinds.{is_code}
 use Rattle.m51_graph.specs.Units.{is_root, roots_from, units_from}
-use Rattle.m51_cells.proofs.Members.{contains_in, Every, every_in, every_weaker, got_in, In, in_cons, map_at, map_got}
-use Rattle.m51_cells.proofs.Members.{map_in, Pairs, pairs_at, in_contains, in_right, pairs_in}
-use Rattle.m51_place.proofs.Ranks.{AreFrom, from_head, from_start, from_tail, joined_at, IsJoined, IsOf}
+use Rattle.m51_cells.proofs.Members.{contains_in, every_in, got_in, In, in_contains, in_filter, in_map, in_right}
+use Rattle.m51_cells.proofs.Members.{map_at, map_got, map_in, pairs_all, pairs_at, pairs_filter, pairs_in, pairs_range}
+use Rattle.m51_place.proofs.Ranks.{absolute_at, absolutes_are, IsJoined, IsOf, is_fixed, joined_at}
 use Rattle.m51_cells.proofs.KindLaws.{code_is}
 use Rattle.m51_module.specs.Cells.{code_cell}
 use Rattle.m51_place.proofs.Free.{KeepApart}
-use Rattle.m51_place.proofs.Whole.{fixed_apart, fixed_bare, IsSegmentOf, IsSpot, found, IsWhole, only}
-use Rattle.m51_place.proofs.Piled.{own_of}
-use Rattle.std.proofs.lemmas.List.FromFn.{get_or-range_with_len, length-range_with_len, get_or-map-range_with_len}
-use Rattle.std.proofs.lemmas.List.FromFn.{length-map-range_with_len}
-use Rattle.std.proofs.lemmas.List.Kept.{AllPairs-filter}
+use Rattle.m51_place.proofs.Whole.{bare_absolute, fixed_apart, IsSegmentOf, IsSpot, found, IsWhole, only}
+use Rattle.std.proofs.lemmas.List.FromFn.{get_or-map-range_with_len, length-map-range_with_len}
 use Rattle.m51_module.specs.Laws.{HaveSameUnits}
 use Rattle.m51_module.specs.Plan.{ExtentsConflict, IsCodeSegment, IsOverlaid, IsPlaced, IsRootAt, Owns, UnitLiesUnder}
 use Rattle.m51_module.specs.Rising.{Rises}
@@ -37,11 +34,8 @@ use Rattle.m51_place.specs.Places.{ArePlaces, IsPlacedAs, IsSegmentAt}
 
 -- Units, the segments that they are, and roots.
 
--- the segments that are units, each with its number
-abbrev picks : ℕ → List JoinedSegment → List (ℕ × JoinedSegment)
-picks number [] = []
-picks number (j ∷ more) =
-    cond (is_code j.kind) ((number, j) ∷ picks (number + 1) more) (picks (number + 1) more)
+abbrev is_unit : ℕ × JoinedSegment → Bool
+is_unit p = is_code p.1.kind
 
 abbrev pick_number : ℕ × JoinedSegment → ℕ
 pick_number p = p.0
@@ -49,67 +43,31 @@ pick_number p = p.0
 abbrev pick_segment : ℕ × JoinedSegment → JoinedSegment
 pick_segment p = p.1
 
-record IsPick (segments : List JoinedSegment) (number : ℕ) (p : ℕ × JoinedSegment) : Type 0 where
-  from : number ≤ p.0
-  segment : slice_get segments p.0 ≡ Some p.1
-  code : is_code p.1.kind ≡ true
+abbrev is_rooted : ℕ × JoinedSegment → Bool
+is_rooted p = is_root p.1
 
-record ArePicked (segments : List JoinedSegment) (number : ℕ) (rest : List JoinedSegment)
-    (ps : List (ℕ × JoinedSegment)) : Type 0 where
-  units : units_from number rest ≡ map pick_number ps
-  codes : code_segments rest ≡ map pick_segment ps
-  each : Every (IsPick segments number) ps
-  rise : Pairs (λ p q. p.0 < q.0) ps
-  all : (k : ℕ) (j : JoinedSegment) → slice_get rest k ≡ Some j → is_code j.kind ≡ true → In (number + k, j) ps
+abbrev root_pair : ℕ × JoinedSegment → ℕ × ℕ
+root_pair p = (p.1.base, p.0)
+
+units_are : (number : ℕ) (rest : List JoinedSegment)
+    → units_from number rest ≡ map pick_number (filter is_unit (with_numbers number rest))
+units_are number [] = refl
+units_are number (j ∷ more) = grind (arith, units_are (number + 1) more)
+
+codes_are : (number : ℕ) (rest : List JoinedSegment)
+    → code_segments rest ≡ map pick_segment (filter is_unit (with_numbers number rest))
+codes_are number [] = refl
+codes_are number (j ∷ more) = grind (arith, codes_are (number + 1) more)
+
+roots_are : (number : ℕ) (rest : List JoinedSegment)
+    → roots_from number rest ≡ map root_pair (filter is_rooted (with_numbers number rest))
+roots_are number [] = refl
+roots_are number (j ∷ more) = grind (arith, roots_are (number + 1) more)
 
 module _ (segments : List JoinedSegment) where
-  later : (number : ℕ) (ps : List (ℕ × JoinedSegment)) → Every (IsPick segments (number + 1)) ps
-      → Every (IsPick segments number) ps
-  later number ps h = every_weaker _ _ ps
-      (λ p is. record { from = omega (arith, is.from); segment = is.segment; code = is.code }) h
-
-  picked : (number : ℕ) (rest : List JoinedSegment) → AreFrom segments number rest
-      → ArePicked segments number rest (picks number rest)
-  picked number [] h = record { units = refl; codes = refl; each = tt; rise = tt; all = λ k j at. absurd (cc at) }
-  picked number (x ∷ more) h =
-      let ps : List (ℕ × JoinedSegment) = picks (number + 1) more in
-      let rest = picked (number + 1) more (from_tail segments number x more h) in
-      elim (cases_Bool (is_code x.kind)) [
-        | inl code ↦ record {
-          units = rw code (ap (λ (us : List ℕ). number ∷ us) rest.units);
-          codes = rw code (ap (λ (js : List JoinedSegment). x ∷ js) rest.codes);
-          each = rw code (
-            record { from = omega arith; segment = from_head segments number x more h; code = code },
-            later number ps rest.each,
-          );
-          rise = rw code (every_weaker _ _ ps (λ p is. omega (arith, is.from)) rest.each, rest.rise);
-          all = λ k j at is. rw code (elim (all_cases number k x j more at) [
-            | inl here ↦ inl here
-            | inr behind ↦ inr
-                (subst (λ n. In (n, j) ps) (sym behind.1) (rest.all behind.0 j behind.2 is))
-          ]);
-        }
-        | inr other ↦ record {
-          units = rw other rest.units;
-          codes = rw other rest.codes;
-          each = rw other (later number ps rest.each);
-          rise = rw other rest.rise;
-          all = λ k j at is. rw other (elim (all_cases number k x j more at) [
-            | inl here ↦ absurd (cc (other, is, ap (λ (p : ℕ × JoinedSegment). is_code p.1.kind) here))
-            | inr behind ↦ subst (λ n. In (n, j) ps) (sym behind.1) (rest.all behind.0 j behind.2 is)
-          ]);
-        }
-      ]
-    where
-      all_cases : (first k : ℕ) (y j : JoinedSegment) (ys : List JoinedSegment) → slice_get (y ∷ ys) k ≡ Some j
-          → ◌≡◌ {A = ℕ × JoinedSegment} (first, y) (first + k, j)
-          ⊎ ((i : ℕ) × (first + k ≡ first + 1 + i) × (slice_get ys i ≡ Some j))
-      all_cases first zero y j ys at = let same : first + 0 ≡ first = omega arith in
-          inl (rw same (ap (λ (z : JoinedSegment). (first, z)) (cc at)))
-      all_cases first (suc k) y j ys at = inr (k, omega arith, at)
-
-  all_picked : ArePicked segments 0 segments (picks 0 segments)
-  all_picked = picked 0 segments (from_start segments)
+  -- the segments that are units, each with its number
+  abbrev picks : List (ℕ × JoinedSegment)
+  picks = filter is_unit (with_numbers 0 segments)
 
   -- the unit of that number is this segment
   pub record UnitAt (unit n : ℕ) (j : JoinedSegment) : Type 0 where
@@ -118,90 +76,68 @@ module _ (segments : List JoinedSegment) where
     pub code_segment : slice_get (code_segments segments) unit ≡ Some j
     pub code : is_code j.kind ≡ true
 
-  at_pick : (unit : ℕ) (p : ℕ × JoinedSegment) → slice_get (picks 0 segments) unit ≡ Some p → UnitAt unit p.0 p.1
+  at_pick : (unit : ℕ) (p : ℕ × JoinedSegment) → slice_get picks unit ≡ Some p → UnitAt unit p.0 p.1
   at_pick unit p at =
-      let is = every_in _ (picks 0 segments) p all_picked.each (got_in (picks 0 segments) unit p at) in
+      let is = in_filter is_unit (with_numbers 0 segments) p (got_in picks unit p at) in
       record {
-        unit_is = rw all_picked.units (map_got pick_number (picks 0 segments) unit p at);
-        segment = is.segment;
-        code_segment = rw all_picked.codes (map_got pick_segment (picks 0 segments) unit p at);
-        code = is.code;
+        unit_is = rw (units_are 0 segments) (map_got pick_number picks unit p at);
+        segment = at_number segments p is.0;
+        code_segment = rw (codes_are 0 segments) (map_got pick_segment picks unit p at);
+        code = is.1;
       }
 
   -- a unit is a segment of program memory, and such a segment is a unit
   pub code_of_unit : (unit n : ℕ) → slice_get (units_of segments) unit ≡ Some n → (j : JoinedSegment) × UnitAt unit n j
   code_of_unit unit n h =
-      let of = map_at pick_number (picks 0 segments) unit n (rw all_picked.units at h) in
+      let of = map_at pick_number picks unit n (rw (units_are 0 segments) at h) in
       (of.0.1, rw of.2 at (at_pick unit of.0 of.1))
 
   pub unit_of_code : (unit : ℕ) (j : JoinedSegment) → slice_get (code_segments segments) unit ≡ Some j
       → (n : ℕ) × UnitAt unit n j
   unit_of_code unit j h =
-      let of = map_at pick_segment (picks 0 segments) unit j (rw all_picked.codes at h) in
+      let of = map_at pick_segment picks unit j (rw (codes_are 0 segments) at h) in
       (of.0.0, rw of.2 at (at_pick unit of.0 of.1))
 
   pub unit_there : (k : ℕ) (j : JoinedSegment) → slice_get segments k ≡ Some j → is_code j.kind ≡ true
       → In k (units_of segments)
   unit_there k j at code =
-      let same : 0 + k ≡ k = omega arith in
-      rw all_picked.units
-      (map_in pick_number (picks 0 segments) (k, j) (rw same at (all_picked.all k j at code)))
+      rw (units_are 0 segments)
+      (map_in pick_number picks (k, j) (filter_in is_unit _ (k, j) (number_at segments k j at) code))
 
   -- the numbers of units rise
   pub units_rise : (u v n m : ℕ) → u < v → slice_get (units_of segments) u ≡ Some n
       → slice_get (units_of segments) v ≡ Some m → n < m
   units_rise u v n m less h k =
-      let a = map_at pick_number (picks 0 segments) u n (rw all_picked.units at h) in
-      let b = map_at pick_number (picks 0 segments) v m (rw all_picked.units at k) in
-      let rise = pairs_at _ (picks 0 segments) u v a.0 b.0 all_picked.rise less a.1 b.1 in
-      omega (arith, rise, a.2, b.2)
+      let a = map_at pick_number picks u n (rw (units_are 0 segments) at h) in
+      let b = map_at pick_number picks v m (rw (units_are 0 segments) at k) in
+      let rise = pairs_filter _ is_unit (with_numbers 0 segments) (numbers_rise segments) in
+      omega (arith, pairs_at _ picks u v a.0 b.0 rise less a.1 b.1, a.2, b.2)
 
 -- roots among segments of program memory
-pub root_there : (first : ℕ) (codes : List JoinedSegment) (unit : ℕ) (j : JoinedSegment) → slice_get codes unit ≡ Some j
-    → is_root j ≡ true → In (j.base, first + unit) (roots_from first codes)
-root_there first [] unit j h root = absurd (cc h)
-root_there first (x ∷ more) zero j h root =
-    let same : x ≡ j = cc h in
-    let number : first + 0 ≡ first = omega arith in
-    rw (same, root, number) (inl refl)
-root_there first (x ∷ more) (suc unit) j h root =
-    let number : first + 1 + unit ≡ first + suc unit = omega arith in
-    let rest =
-    subst (λ n. In (j.base, n) (roots_from (first + 1) more)) number (root_there (first + 1) more unit j h root) in
-    elim (cases_Bool (is_root x)) [ inl is ↦ rw is (inr rest) | inr other ↦ rw other rest ]
+pub root_there : (codes : List JoinedSegment) (unit : ℕ) (j : JoinedSegment) → slice_get codes unit ≡ Some j
+    → is_root j ≡ true → In (j.base, unit) (roots_from 0 codes)
+root_there codes unit j h root =
+    rw (roots_are 0 codes)
+    (map_in root_pair _ (unit, j) (filter_in is_rooted _ (unit, j) (number_at codes unit j h) root))
 
-pub record RootAt (first : ℕ) (codes : List JoinedSegment) (vector unit : ℕ) : Type 0 where
-  pub k : ℕ
-  pub number : unit ≡ first + k
+pub record RootAt (codes : List JoinedSegment) (vector unit : ℕ) : Type 0 where
   pub j : JoinedSegment
-  pub segment : slice_get codes k ≡ Some j
+  pub segment : slice_get codes unit ≡ Some j
   pub root : is_root j ≡ true
   pub base : j.base ≡ vector
 
-root_after : (first : ℕ) (x : JoinedSegment) (more : List JoinedSegment) (vector unit : ℕ)
-    → RootAt (first + 1) more vector unit → RootAt first (x ∷ more) vector unit
-root_after first x more vector unit h =
-    record { k = suc h.k; number = omega (arith, h.number); j = h.j; segment = h.segment; root = h.root; base = h.base }
-
-pub root_found : (first : ℕ) (codes : List JoinedSegment) (vector unit : ℕ)
-    → In (vector, unit) (roots_from first codes) → RootAt first codes vector unit
-root_found first [] vector unit h = absurd h
-root_found first (x ∷ more) vector unit h = elim (cases_Bool (is_root x)) [
-  | inl root ↦ elim (in_cons _ _ _ (rw root at h)) [
-    | inl here ↦
-        let number : first ≡ unit = ap (λ (p : ℕ × ℕ). p.1) here in
-        record {
-          k = 0;
-          number = omega (arith, number);
-          j = x;
-          segment = refl;
-          root = root;
-          base = ap (λ (p : ℕ × ℕ). p.0) here;
-        }
-    | inr after ↦ root_after first x more vector unit (root_found (first + 1) more vector unit after)
-  ]
-  | inr other ↦ root_after first x more vector unit (root_found (first + 1) more vector unit (rw other at h))
-]
+pub root_found : (codes : List JoinedSegment) (vector unit : ℕ) → In (vector, unit) (roots_from 0 codes)
+    → RootAt codes vector unit
+root_found codes vector unit h =
+    let of = in_map root_pair _ (vector, unit) (rw (roots_are 0 codes) at h) in
+    let is = in_filter is_rooted (with_numbers 0 codes) of.0 of.1 in
+    let number : of.0.0 ≡ unit = ap (λ (p : ℕ × ℕ). p.1) of.2 in
+    record {
+      j = of.0.1;
+      segment = rw number at (at_number codes of.0 is.0);
+      root = is.1;
+      base = ap (λ (p : ℕ × ℕ). p.0) of.2;
+    }
 
 -- what a root is
 pub root_absolute : (j : JoinedSegment) → is_root j ≡ true → is_absolute j.reloc ≡ true
@@ -218,80 +154,52 @@ is_root_at j vector abs base h =
 
 -- Where no two fixed extents share a cell, each vector has at most one root.
 
--- an absolute segment is among the fixed extents
-absolute_there : (first : ℕ) (rest : List JoinedSegment) (k : ℕ) (j : JoinedSegment) → slice_get rest k ≡ Some j
-    → is_absolute j.reloc ≡ true → In (absolute (first + k) j) (absolutes_from first rest)
-absolute_there first [] k j h abs = absurd (cc h)
-absolute_there first (x ∷ more) zero j h abs =
-    let same : x ≡ j = cc h in
-    let number : first + 0 ≡ first = omega arith in
-    rw (same, abs, number) (inl refl)
-absolute_there first (x ∷ more) (suc k) j h abs =
-    let number : first + 1 + k ≡ first + suc k = omega arith in
-    let rest =
-    subst (λ n. In (absolute n j) (absolutes_from (first + 1) more)) number
-    (absolute_there (first + 1) more k j h abs) in
-    elim (cases_Bool (is_absolute x.reloc)) [ inl is ↦ rw is (inr rest) | inr rel ↦ rw rel rest ]
-
 -- a plain segment is in conflict with each other one
 plain_conflict : (g : GraphParts) (n m : ℕ) → n ≢ m → own_at g n ≡ None → in_conflict g n m ≡ true
 plain_conflict g n m ne plain = rw (ne_eqb n m ne, plain)
 
 module _ (g : GraphParts) (modules : List ModuleParts) (controls : List (ℕ × Control)) (segments : List JoinedSegment)
     (is : IsOf segments controls g) (joined : All IsJoined segments)
-    (allowed : All (λ (line : ℕ × Control). IsAllowed line.1) controls)
     (shares : shared_extents (fixed_of modules controls segments) ≡ None) where
   abbrev fixed : List Numbered
   fixed = fixed_of modules controls segments
-
-  there : (n : ℕ) (j : JoinedSegment) → slice_get segments n ≡ Some j → is_absolute j.reloc ≡ true
-      → In (absolute n j) fixed
-  there n j at abs =
-      let number : 0 + n ≡ n = omega arith in
-      in_right (banks_of modules ++ reserves_of controls) (absolutes_from 0 segments) (absolute n j)
-      (rw number at (absolute_there 0 segments n j at abs))
-
-  bare : (n : ℕ) (j : JoinedSegment) → In (absolute n j) fixed → own_at g n ≡ None
-  bare n j h = every_in (λ e. own_of g e ≡ None) fixed (absolute n j)
-      (fixed_bare g modules controls segments is joined allowed) h
-
-  pub bare_absolute : (n : ℕ) (j : JoinedSegment) → slice_get segments n ≡ Some j → is_absolute j.reloc ≡ true
-      → own_at g n ≡ None
-  bare_absolute n j at abs = bare n j (there n j at abs)
 
   -- a root, as a fixed extent that covers its vector
   record IsFixedRoot (vector unit : ℕ) : Type 0 where
     n : ℕ
     j : JoinedSegment
     number : slice_get (units_of segments) unit ≡ Some n
+    plain : own_at g n ≡ None
     there : In (absolute n j) fixed
     covers : Covers (extent_at (absolute n j).placed) (code_cell vector)
 
   fixed_root : (vector unit : ℕ) → graph.IsRootAt g vector unit → IsFixedRoot vector unit
   fixed_root vector unit h =
-      let root = root_found 0 (code_segments segments) vector unit (in_contains _ _ (rw is.roots at h)) in
-      let at = unit_of_code segments root.k root.j root.segment in
-      let unit_is : unit ≡ root.k = omega (arith, root.number) in
+      let root = root_found (code_segments segments) vector unit (in_contains _ _ (rw is.roots at h)) in
+      let at = unit_of_code segments unit root.j root.segment in
       let abs = root_absolute root.j root.root in
       let some : 0 < root.j.size = (joined_at IsJoined segments at.0 root.j joined at.1.segment).some abs in
       record {
         n = at.0;
         j = root.j;
-        number = ap (slice_get (units_of segments)) unit_is ∙ at.1.unit_is;
-        there = there at.0 root.j at.1.segment abs;
+        number = at.1.unit_is;
+        plain = bare_absolute segments controls g is joined at.0 root.j at.1.segment abs;
+        there =
+            in_right (banks_of modules ++ reserves_of controls) (absolutes_from 0 segments) _
+            (rw (absolutes_are 0 segments) (map_in absolute_at _ (at.0, root.j)
+            (filter_in is_fixed _ (at.0, root.j) (number_at segments at.0 root.j at.1.segment) abs)));
         covers = rw (code_is root.j.kind at.1.code)
             (record { space = refl; from = omega (arith, root.base); below = omega (arith, root.base, some) });
       }
 
-  -- two fixed segments that cover one cell have one number
-  one_number : (n m : ℕ) (j k : JoinedSegment) (c : Cell) → n ≢ m → In (absolute n j) fixed → In (absolute m k) fixed
-      → Covers (extent_at (absolute n j).placed) c → Covers (extent_at (absolute m k).placed) c → ⊥
-  one_number n m j k c ne h h' covers covers' =
-      elim (pairs_in (KeepApart g) fixed (absolute n j) (absolute m k) (fixed_apart g fixed [] tt shares) h h') [
-        | inl same ↦ ne (same_Some n m (ap (λ (x : Numbered). x.number) same))
+  -- two at one vector have one number
+  one_number : (vector a b : ℕ) (one : IsFixedRoot vector a) (two : IsFixedRoot vector b) → one.n ≢ two.n → ⊥
+  one_number vector a b one two ne =
+      elim (pairs_in (KeepApart g) fixed _ _ (fixed_apart g fixed [] tt shares) one.there two.there) [
+        | inl same ↦ ne (same_Some one.n two.n (ap (λ (x : Numbered). x.number) same))
         | inr pair ↦ elim pair [
-          | inl keep ↦ keep.none (plain_conflict g n m ne (bare n j h)) (c, covers, covers')
-          | inr keep ↦ keep.none (plain_conflict g m n (λ e. ne (sym e)) (bare m k h')) (c, covers', covers)
+          | inl keep ↦ keep.none (plain_conflict g one.n two.n ne one.plain) (_, one.covers, two.covers)
+          | inr keep ↦ keep.none (plain_conflict g two.n one.n (λ e. ne (sym e)) two.plain) (_, two.covers, one.covers)
         ]
       ]
 
@@ -301,12 +209,10 @@ module _ (g : GraphParts) (modules : List ModuleParts) (controls : List (ℕ × 
       let two = fixed_root vector b h' in
       elim (cases_order a b) [
         | inl same ↦ same
-        | inr rest ↦ absurd (one_number one.n two.n one.j two.j (code_cell vector) (λ e. elim rest [
-          | inl less ↦ let rise = units_rise segments a b one.n two.n less one.number two.number in
-              omega (arith, rise, e)
-          | inr less ↦ let rise = units_rise segments b a two.n one.n less two.number one.number in
-              omega (arith, rise, e)
-        ]) one.there two.there one.covers two.covers)
+        | inr rest ↦ absurd (one_number vector a b one two (λ e. elim rest [
+          | inl less ↦ omega (arith, units_rise segments a b one.n two.n less one.number two.number, e)
+          | inr less ↦ omega (arith, units_rise segments b a two.n one.n less two.number one.number, e)
+        ]))
       ]
 
 -- The layout of what was placed is sound.
@@ -359,21 +265,10 @@ number_of None h = absurd (h refl)
 number_of (Some n) h = (n, refl)
 
 -- the callers of a unit rise, and are others
-range_rises : (count : ℕ) → Rises (range_with_len 0 count)
-range_rises count i j d less below =
-    let inside : j < count = omega (arith, below, length-range_with_len 0 count) in
-    omega (
-      arith,
-      less,
-      get_or-range_with_len 0 count i d (omega (arith, less, inside)),
-      get_or-range_with_len 0 count j d inside,
-    )
-
 callers_rise : (g : GraphParts) (unit : ℕ) → Rises (callers_of g unit)
 unfolding callers_of
 callers_rise g unit =
-    AllPairs-filter (λ x y. x < y) (λ caller. edge_test g.edges caller unit) (range_with_len 0 (length g.units))
-    (range_rises (length g.units))
+    pairs_all _ _ (pairs_filter _ (λ caller. edge_test g.edges caller unit) _ (pairs_range (length g.units) 0))
 
 abbrev others_of : GraphParts → Bool → ℕ → List ℕ
 others_of g argument own = cond argument (callers_of g own) []
@@ -461,20 +356,18 @@ module _ (segments : List JoinedSegment) (controls : List (ℕ × Control)) (g :
       let abs = u.entry.of.absolute (ap (λ (p : Placed). p.mark) same ∙ h.absolute) in
       let base : u.entry.of.j.base ≡ vector =
       sym (u.entry.of.fixed abs).1 ∙ ap (λ (p : Placed). p.base) same ∙ h.base in
-      let number : 0 + unit ≡ unit = omega arith in
       let pair =
-      root_there 0 (code_segments segments) unit u.j u.at.code_segment
+      root_there (code_segments segments) unit u.j u.at.code_segment
       (is_root_at u.j vector (rw u.entry.is at abs) (rw u.entry.is at base) h.vector_is) in
-      rw shape.roots (contains_in _ _ (rw (number, rw u.entry.is at base) at pair))
+      rw shape.roots (contains_in _ _ (rw (rw u.entry.is at base) at pair))
 
   pub root_out : (vector unit : ℕ) → graph.IsRootAt g vector unit → IsRootAt l vector unit
   root_out vector unit h =
-      let root = root_found 0 (code_segments segments) vector unit (in_contains _ _ (rw shape.roots at h)) in
-      let unit_is : unit ≡ root.k = omega (arith, root.number) in
-      let at = unit_of_code segments root.k root.j root.segment in
+      let root = root_found (code_segments segments) vector unit (in_contains _ _ (rw shape.roots at h)) in
+      let at = unit_of_code segments unit root.j root.segment in
       let there = entry at.0 root.j at.1.segment in
       let units : slice_get g.units unit ≡ Some at.0 = ap (λ (us : List ℕ). slice_get us unit) shape.units
-      ∙ ap (slice_get (units_of segments)) unit_is ∙ at.1.unit_is in
+      ∙ at.1.unit_is in
       let fixed = there.of.fixed (rw there.is (root_absolute root.j root.root)) in
       record {
         vector_is = (kept.units.roots vector unit h).0;

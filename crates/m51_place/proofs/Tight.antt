@@ -11,6 +11,7 @@ use Rattle.m51_place.proofs.Common.{Refusal, LayoutParts, Placed, ChainsFrom, we
 use Rattle.m51_place.proofs.Common.{ProgramGraph, Placing, bytes_passing, is_argument_at, owners_at, owners_with}
 use Rattle.m51_place.proofs.Common.{located_of, parts_of_layout, list_any, and_parts, none-some, IsSegment, covers_byte}
 use Rattle.m51_place.proofs.Common.{zero, Kind, Direct, Reloc, UnitType, Mark, is_overlaid_data}
+use Rattle.m51_place.proofs.Numbering.{at_number, with_numbers}
 use Rattle.std.proofs.Common.{min}
 use Rattle.std.proofs.lemmas.Bool.Decides.{nat_tests}
 use Rattle.m51_place.specs.declared.ranked.Rank.{Rank}
@@ -18,20 +19,18 @@ use Rattle.m51_place.specs.Order.{first_sort_key, second_sort_key}
 use Rattle.m51_place.proofs.Free.{are_after, AreAfter, conflicts, IsPlacedRanked, KeepApart, zip_every, both_ok}
 use Rattle.m51_place.proofs.Free.{place_append}
 use Rattle.m51_place.proofs.Weights.{AreLocals, has_byte, has_byte_tells, tally_range, weight_bound, bytes, data_byte}
-use Rattle.m51_place.proofs.Weights.{is_data}
-use Rattle.m51_place.proofs.Weights.{IsLocal, KeptApart, Local, first_of_list, local_of, locals, passing_is, weight_is}
-use Rattle.m51_place.proofs.Weights.{count_is, least, data_kind}
+use Rattle.m51_place.proofs.Weights.{is_data, IsLocal, KeptApart, Local, first_of_list, local_of, locals, passing_is}
+use Rattle.m51_place.proofs.Weights.{weight_is, count_is, least, data_kind}
 use Rattle.m51_place.proofs.Conflicting.{conflict_tells, own_is}
-use Rattle.m51_place.proofs.Piled.{Scene, AreLaid, IsLaid, Piles, piles, AreTops, tops, bare_sum, local_at, order_sum}
-use Rattle.m51_place.proofs.Piled.{own_of, placed_bytes, ranked_bytes, zip_sum, order_all, under_all}
+use Rattle.m51_place.proofs.Piled.{Scene, AreLaid, IsLaid, Piles, piles, AreTops, tops, local_at, located_sum}
+use Rattle.m51_place.proofs.Piled.{order_sum, own_of, ranked_bytes, order_all, under_all}
 use Rattle.m51_cells.proofs.Members.{Every, every_append, every_both, every_filter, every_map, every_of, every_weaker}
-use Rattle.m51_cells.proofs.Members.{Pairs, pairs_both, pairs_map, pairs_filter, total, total-append, total_map}
-use Rattle.m51_cells.proofs.Members.{total_sum, every_in, In, in_cases, in_contains, in_map}
-use Rattle.m51_place.proofs.SoundLayout.{bare_absolute, one_root_each, lies_in, lies_out, owners_are, root_in, root_out}
-use Rattle.m51_place.proofs.SoundLayout.{sound}
+use Rattle.m51_cells.proofs.Members.{Pairs, pairs_both, pairs_map, pairs_filter, total, total_map, total_sum, every_in}
+use Rattle.m51_cells.proofs.Members.{In, in_cases, in_contains, in_map}
+use Rattle.m51_place.proofs.SoundLayout.{one_root_each, lies_in, lies_out, owners_are, root_in, root_out, sound}
 use Rattle.m51_place.proofs.Ordered.{AreParts, no_root, order_parts, lone_before}
 use Rattle.m51_place.proofs.Ranks.{IsRankedOf, order_ranked, Earlier, order_rises, all_joined, graph_is, IsJoined, IsOf}
-use Rattle.m51_place.proofs.Whole.{fixed_apart, fixed_bare, IsWhole, placed_whole, unless_none, IsSpot}
+use Rattle.m51_place.proofs.Whole.{bare_absolute, fixed_apart, fixed_bare, IsWhole, placed_whole, unless_none, IsSpot}
 use Rattle.std.specs.Prelude.{◌↔◌}
 use Rattle.m51_module.specs.Chains.{IsHeaviestWalk}
 use Rattle.m51_place.specs.Bound.{IsWeight, count_below, covered_bytes, overlaid_bytes, overlays_byte}
@@ -75,16 +74,14 @@ module _ (c : Program) where
   pub bare : Every (λ e. own_of c.g e ≡ None) fixed
   bare = fixed_bare c.g c.modules c.controls segments shape joined c.kept.each
 
-  module _ (shares : shared_extents fixed ≡ None) where
-    pub apart : Pairs (KeepApart c.g) fixed
-    apart = fixed_apart c.g fixed [] tt shares
+  -- the overlaid segments of the order have the bytes of the joined segments
+  pub order_bytes : (test : ℕ → Bool) → total (ranked_bytes c.g test) (overlaid_in order)
+      ≡ bytes_joined c.g test 0 segments
+  order_bytes test =
+      order_sum c.g test segments c.controls (bare_absolute segments c.controls c.g shape joined) ranked
 
-    -- the overlaid segments of the order have the bytes of the joined segments
-    pub order_bytes : (test : ℕ → Bool) → total (ranked_bytes c.g test) (overlaid_in order)
-        ≡ bytes_joined c.g test 0 segments
-    order_bytes test =
-        order_sum c.g test segments c.controls
-        (bare_absolute c.g c.modules c.controls segments shape joined c.kept.each shares) ranked
+  pub apart : shared_extents fixed ≡ None → Pairs (KeepApart c.g) fixed
+  apart shares = fixed_apart c.g fixed [] tt shares
 
 -- ranked segments of one number are one, which does not come before itself
 all_same : (a b c d n : ℕ) → before_by a a (before_by b b (before_by c c (before_by d d (nat_lt n n)))) ≡ true → ⊥
@@ -144,7 +141,7 @@ module _ (t : Setting) where
       (total (λ (x : Chain). x.bytes) t.weighed.chains)
   heights =
       tops (joined_graph t.c.g) (unit_weight (segments t.c) t.c.g)
-      (one_root_each t.c.g t.c.modules t.c.controls (segments t.c) (shape t.c) (joined t.c) t.c.kept.each t.shares)
+      (one_root_each t.c.g t.c.modules t.c.controls (segments t.c) (shape t.c) (joined t.c) t.shares)
       vectors t.weighed.chains
       t.weighed.heaviest
 
@@ -179,7 +176,7 @@ module _ (t : Setting) where
   pub answer : Piles scene unrooted (place_after t.c.g t.front (overlaid_in (order t.c)))
   answer =
       piles scene (overlaid_in (order t.c)) unrooted all_parts.locals pairs
-      (λ u. omega (arith, order_bytes t.c t.shares (nat_eq u))) (omega (arith, order_bytes t.c t.shares t.weighed.free))
+      (λ u. omega (arith, order_bytes t.c (nat_eq u))) (omega (arith, order_bytes t.c t.weighed.free))
 
   module _ (located : List Numbered) (located_is : place_after t.c.g t.front (overlaid_in (order t.c)) ≡ Ok located)
     where
@@ -197,29 +194,27 @@ module _ (t : Setting) where
           omega (
             arith,
             total_map (bytes test) (local_at t.c.g) located,
-            ap (λ (es : List Numbered). total (placed_bytes t.c.g test) es) after.are,
-            total-append (placed_bytes t.c.g test) t.front after.later,
-            bare_sum t.c.g test t.front plain,
-            zip_sum t.c.g test (overlaid_in (order t.c)) after.later after.each,
-            order_bytes t.c t.shares test,
+            located_sum t.c.g test t.front located (overlaid_in (order t.c)) plain after,
+            order_bytes t.c test,
           )
 
-      -- each of them lies in the run
-      own_none : (e : Numbered) (u : ℕ) → own_of t.c.g e ≡ None → own_of t.c.g e ≡ Some u → ⊥
-      own_none e u none own = cc (none, own)
+      -- the extents before the overlaid segments, and these
+      each_located : (P : Numbered → Type 0) → ((e : Numbered) → own_of t.c.g e ≡ None → P e)
+          → ((e : Numbered) → IsLaid scene laid.done [] e → P e) → Every P located
+      each_located P bare lies = rw laid.are (every_append P t.front laid.done (every_weaker _ P t.front bare plain)
+          (every_weaker _ P laid.done lies laid.laid))
 
+      -- each of them lies in the run
       local_each : Every (λ e. IsLocal (joined_graph t.c.g) (local_at t.c.g e)) located
       local_each =
-          rw laid.are (every_append _ t.front laid.done
-          (every_weaker _ _ t.front (λ e none. record {
-            ends = λ u own. absurd (own_none e u none own);
-            one_root = λ u a b own. absurd (own_none e u none own);
-          }) plain)
-          (every_weaker _ _ laid.done (λ e l. rw l.is (record {
+          each_located _ (λ e none. record {
+            ends = λ u own. absurd (cc (none, own));
+            one_root = λ u a b own. absurd (cc (none, own));
+          }) (λ e l. rw l.is (record {
             ends = λ u own some. ends l.base l.t.segment.size (is_data (located_at l.t l.base).placed) l.till some;
             one_root = λ u a b own. t.c.is.one_root l.t.number u a b
                 (record { own = u; own_is = own_is t.c.g l.t.number u own; owner = inl refl });
-          })) laid.laid))
+          }))
         where
           ends : (base size : ℕ) (d : Bool) → (0 < size → base + size ≤ t.high) → 0 < cond d size 0
               → base + cond d size 0 ≤ 256
@@ -230,16 +225,13 @@ module _ (t : Setting) where
           → has_byte e.placed.base (cond (is_data e.placed) e.placed.size 0) byte ≡ true
           → has_byte t.low (t.high - t.low) byte ≡ true) located
       met =
-          rw laid.are (every_append _ t.front laid.done
-          (every_weaker _ _ t.front (λ e none byte o own. absurd (own_none e o none own)) plain)
-          (every_weaker _ _ laid.done (λ e l. rw l.is (λ byte o own has.
+          each_located _ (λ e none byte o own. absurd (cc (none, own))) (λ e l. rw l.is (λ byte o own has.
           let inside = data_byte (located_at l.t l.base).placed byte has in
           let some : 0 < l.t.segment.size = omega (arith, inside.2, inside.3) in
           let from = l.from some in
           let till = l.till some in
           (has_byte_tells t.low (t.high - t.low) byte).1
-          (omega (arith, from, inside.2), omega (arith, till, inside.3, t.run.order))
-          )) laid.laid))
+          (omega (arith, from, inside.2), omega (arith, till, inside.3, t.run.order))))
 
       -- two of related owners share no byte
       abbrev Against : Numbered → Numbered → Type 0
@@ -278,7 +270,7 @@ module _ (t : Setting) where
               → Pairs Against (es ++ after.later)
           plain_pairs [] none = different
           plain_pairs (e ∷ es) none = (
-            every_of _ (es ++ after.later) (λ f there a b own. absurd (own_none e a none.0 own)),
+            every_of _ (es ++ after.later) (λ f there a b own. absurd (cc (none.0, own))),
             plain_pairs es none.1,
           )
 
@@ -328,18 +320,13 @@ first_is_own g (Some n) = first_with g (is_argument_at g n) (own_at g n)
 
 -- the segments of the layout are the extents
 locals_are : (g : GraphParts) (located : List Numbered) (number : ℕ) (rest : List Numbered)
-    → ((k : ℕ) → slice_get rest k ≡ slice_get located (number + k))
+    → Every (λ (p : ℕ × Numbered). slice_get located p.0 ≡ Some p.1) (with_numbers number rest)
     → locals (parts_of_layout g located) number (map (λ (e : Numbered). e.placed) rest) ≡ map (local_at g) rest
 locals_are g located number [] from = refl
 locals_are g located number (e ∷ more) from =
-    let here : number + 0 ≡ number = omega arith in
-    let at : slice_get located number ≡ Some e = sym (rw here at (from 0)) in
     let first : local_of e.placed (owners_of (parts_of_layout g located).owners number) ≡ local_at g e =
-    rw (owners_are g located number, at, first_is_own) in
-    let rest =
-    locals_are g located (number + 1) more
-    (λ k. let next : number + suc k ≡ number + 1 + k = omega arith in rw next at (from (suc k))) in
-    cc (first, rest)
+    rw (owners_are g located number, from.0, first_is_own) in
+    cc (first, locals_are g located (number + 1) more from.1)
 
 -- chains by the roots of one program are chains by those of another with the same edges
 chains_there : (p q : ProgramGraph) (w : ℕ → ℕ) →
@@ -369,21 +356,15 @@ module _ (c : Program) (resolved : AreResolved c.modules) (located : List Number
   passing_joined : (test : ℕ → Bool) → bytes_passing layout test 0 layout.placed ≡ bytes_joined c.g test 0 (segments c)
   passing_joined test =
       let after = are_after c.g (order c) (fixed c) located (apart c rules.0) rules.1 in
-      let same : locals layout 0 layout.placed ≡ map (local_at c.g) located =
-      locals_are c.g located 0 located (λ k. let none : 0 + k ≡ k = omega arith in rw none) in
-      passing_is layout test 0 layout.placed ∙ ap (λ (xs : List Local). total (bytes test) xs) same
-      ∙ total_map (bytes test) (local_at c.g) located
-      ∙ ap (λ (es : List Numbered). total (placed_bytes c.g test) es) after.are
-      ∙ total-append (placed_bytes c.g test) (fixed c) after.later
-      ∙ (let parts : total (placed_bytes c.g test) (fixed c) + total (placed_bytes c.g test) after.later
-      ≡ bytes_joined c.g test 0 (segments c) =
+      let same = locals_are c.g located 0 located (every_of _ _ (at_number located)) in
       omega (
         arith,
-        bare_sum c.g test (fixed c) (bare c),
-        zip_sum c.g test (order c) after.later after.each,
-        order_all c.g test (segments c) c.controls
-            (bare_absolute c.g c.modules c.controls (segments c) (shape c) (joined c) c.kept.each rules.0),
-      ) in parts)
+        passing_is layout test 0 layout.placed,
+        ap (λ (xs : List Local). total (bytes test) xs) same,
+        total_map (bytes test) (local_at c.g) located,
+        located_sum c.g test (fixed c) located (order c) (bare c) after,
+        order_all c.g test (segments c) c.controls (bare_absolute (segments c) c.controls c.g (shape c) (joined c)),
+      )
 
   same_weights : unit_weight (segments c) c.g ≡ weight_of layout
   same_weights = λ i unit. sym (weight_is layout unit 0 layout.placed ∙ passing_joined (nat_eq unit)) i
@@ -454,9 +435,6 @@ not_bare g _ e None spot is mark none = spot.free is (subst IsSegment (sym mark)
 not_bare g _ e (Some n) spot is mark none =
     let own = (spot.numbered n is).overlaid mark in none-some own.0 (sym none ∙ own.1)
 
-both_ways : (a b run : ℕ) → a ≤ b → b ≤ a → a ≤ run → (a ≡ b) × (b ≤ run)
-both_ways a b run h k m = (omega (arith, h, k), omega (arith, k, m))
-
 module _ (c : Program) (low high weight : ℕ) (resolved : AreResolved c.modules)
     (data_only : OverlaysData (segments c) c.g) (finds : FindsRun c.g (fixed c) (order c) low high)
     (located : List Numbered) (located_is : located_of c.modules c.controls c.g ≡ Ok located)
@@ -494,10 +472,8 @@ module _ (c : Program) (low high weight : ℕ) (resolved : AreResolved c.modules
   rest = are_after c.g parts.rest middle.0 located (after t middle.0 middle.1).apart middle.2
 
   -- where an overlaid segment lies
-  record IsIn (byte : ℕ) : Type 0 where
-    from : low ≤ byte
-    till : byte < high
-    weighs : byte < low + weight
+  abbrev IsIn : ℕ → Type 0
+  IsIn byte = (low ≤ byte) × (byte < low + weight)
 
   laid_in : (e : Numbered) (byte : ℕ) → IsLaid (scene t) done.done [] e
       → has_byte e.placed.base e.placed.size byte ≡ true → IsIn byte
@@ -507,15 +483,10 @@ module _ (c : Program) (low high weight : ℕ) (resolved : AreResolved c.modules
       let size : e.placed.size ≡ l.t.segment.size = ap (λ (x : Numbered). x.placed.size) l.is in
       let some : 0 < l.t.segment.size = omega (arith, inside.0, inside.1, size) in
       let from = l.from some in
-      let till = l.till some in
       let most =
       under_all (scene t) done.done l.one.unit (l.base + l.t.segment.size)
       (omega (arith, done.room.units l.one.unit)) (l.ends some) in
-      record {
-        from = omega (arith, from, base, inside.0);
-        till = omega (arith, till, base, size, inside.1);
-        weighs = omega (arith, most, done.room.others, weighs t, base, size, inside.1);
-      }
+      (omega (arith, from, base, inside.0), omega (arith, most, done.room.others, weighs t, base, size, inside.1))
 
   bare_out : (e : Numbered) → In e located → e.placed.mark ≡ Overlaid → own_of c.g e ≡ None → ⊥
   bare_out e there mark none =
@@ -548,17 +519,14 @@ module _ (c : Program) (low high weight : ℕ) (resolved : AreResolved c.modules
   pub tight : (covered_bytes (layout c resolved located located_is) ≡ weight) × (low ≤ high) × (weight ≤ high - low)
   tight =
       let test : ℕ → Bool = λ byte. list_any (covers_byte byte) (map (λ (e : Numbered). e.placed) located) in
-      let most =
-      in_range_most test low weight 256 (λ byte covers. let at = covered_in byte covers in (at.from, at.weighs)) in
-      let run_is : low + (high - low) ≡ high = omega (arith, finds.run.order) in
-      let room =
-      in_range_most test low (high - low) 256
-      (λ byte covers. let at = covered_in byte covers in (at.from, omega (arith, at.till, run_is))) in
       let bound =
       least (layout c resolved located located_is) weight
       (sound (segments c) c.controls c.g (shape c) c.is located (whole c resolved located located_is)) h in
-      let both = both_ways (covered_bytes (layout c resolved located located_is)) weight (high - low) most bound room in
-      (both.0, finds.run.order, both.1)
+      let room = holds t middle.0 middle.1 in (
+        omega (arith, in_range_most test low weight 256 covered_in, bound),
+        finds.run.order,
+        omega (arith, room),
+      )
 
 pub placing_tight : PlacingIsTight
 placing_tight modules controls g p low high weight valid resolved kept is graph_is placed data_only finds h =

@@ -1,21 +1,22 @@
 -- Segments of overlaid DATA as bytes: those of related units have together no more than they cover.
 use Rattle.m51_place.proofs.Common.{◌≡◌, ℕ, zero, suc, ◌+◌, ◌-◌, ◌<◌, ◌≤◌, true, Bool, cond, ◌&&◌, not, List, [], ◌∷◌}
 use Rattle.m51_place.proofs.Common.{inl, inr, refl, sym, ◌∙◌, arith, nat_lt, Decides, Decides-ltb, and_decides}
-use Rattle.m51_place.proofs.Common.{false≢true, cases_Bool, cases_lt, one_if, tally, ◌*◌, false, ◌||◌, nat_eq}
-use Rattle.m51_place.proofs.Common.{Option, Some, None, ap, subst, list_any, option_map_or, slice_get, Contains, Ram}
-use Rattle.m51_place.proofs.Common.{Kind, Direct, Reloc, Covers, extent_of, LayoutParts, Mark, Overlaid, Placed}
-use Rattle.m51_place.proofs.Common.{extent_at, data_of, is_first, is_overlaid_data, sum_along, weight_along, weight_of}
-use Rattle.m51_place.proofs.Common.{AreRelated, Same, Before, After, Owners, layout_graph, owners_of, ProgramGraph}
-use Rattle.m51_place.proofs.Common.{IsInside, IsSound, Edges, IsWalk, Reaches, reach_edge, bytes_passing, own_passes}
-use Rattle.m51_place.proofs.Common.{◌++◌, sum_by, list_any_at, get_or_from_slice_get, slice_get_within, Chain}
-use Rattle.m51_place.proofs.Common.{ChainsFrom, FirstUnderNone, SecondUnderNone, UnderTwo, vectors, covers_byte}
+use Rattle.m51_place.proofs.Common.{false≢true, cases_Bool, cases_lt, one_if, tally, ◌*◌, false, ◌||◌, nat_eq, Option}
+use Rattle.m51_place.proofs.Common.{Some, None, ap, subst, list_any, option_map_or, slice_get, Contains, Ram, Kind}
+use Rattle.m51_place.proofs.Common.{Direct, Reloc, Covers, extent_of, LayoutParts, Mark, Overlaid, Placed, extent_at}
+use Rattle.m51_place.proofs.Common.{data_of, is_first, is_overlaid_data, sum_along, weight_along, weight_of, AreRelated}
+use Rattle.m51_place.proofs.Common.{Same, Before, After, Owners, layout_graph, owners_of, ProgramGraph, IsInside}
+use Rattle.m51_place.proofs.Common.{IsSound, Edges, IsWalk, Reaches, reach_edge, bytes_passing, own_passes, ◌++◌, map}
+use Rattle.m51_place.proofs.Common.{sum_by, list_any_at, get_or_from_slice_get, slice_get_within, Chain, ChainsFrom}
+use Rattle.m51_place.proofs.Common.{FirstUnderNone, SecondUnderNone, UnderTwo, vectors, covers_byte}
+use Rattle.m51_place.proofs.Numbering.{at_number, number_got, with_numbers}
 use Rattle.std.proofs.lemmas.Bool.Decides.{nat_tests}
 use Rattle.std.specs.Prelude.{nat_le}
 use Rattle.std.proofs.Common.{min}
 use Rattle.m51_place.proofs.Free.{le_decides}
-use Rattle.m51_cells.proofs.Members.{Every, Pairs, every_both, total, any_in, every_got, every_weaker, In, in_any}
-use Rattle.m51_cells.proofs.Members.{pairs_got, pairs_weaker, total_add, total_le, total_sum, total_swap, total_zero}
-use Rattle.m51_cells.proofs.Members.{in_cases, total-append}
+use Rattle.m51_cells.proofs.Members.{Every, Pairs, every_both, total, any_in, every_map, every_of, every_weaker, In}
+use Rattle.m51_cells.proofs.Members.{in_any, pairs_got, pairs_map, pairs_weaker, total_add, total_le, total_sum}
+use Rattle.m51_cells.proofs.Members.{total_swap, total_zero, in_cases, total-append}
 use Rattle.std.proofs.lemmas.Bool.{eqb-true, or_cases, false_from_ne_true}
 use Rattle.std.proofs.lemmas.List.Sums.{sum-map}
 use Rattle.m51_cells.specs.Cells.{cells_in}
@@ -263,9 +264,11 @@ first_of_list (own ∷ others) = Some own
 abbrev pub local_of : Placed → List ℕ → Local
 local_of p owners = record { base = p.base; size = cond (is_data p) p.size 0; own = first_of_list owners }
 
+abbrev pub local_at : LayoutParts → ℕ × Placed → Local
+local_at l p = local_of p.1 (owners_of l.owners p.0)
+
 abbrev pub locals : LayoutParts → ℕ → List Placed → List Local
-locals l number [] = []
-locals l number (p ∷ more) = local_of p (owners_of l.owners number) ∷ locals l (number + 1) more
+locals l number rest = map (local_at l) (with_numbers number rest)
 
 one_passing : (test : ℕ → Bool) (d : Bool) (size : ℕ) (owners : List ℕ) → cond (d && own_passes test owners) size 0
     ≡ cond (option_map_or test (first_of_list owners) false) (cond d size 0) 0
@@ -291,17 +294,6 @@ pub weight_is : (l : LayoutParts) (unit number : ℕ) (rest : List Placed)
     → data_of l unit number rest ≡ bytes_passing l (nat_eq unit) number rest
 weight_is l unit number [] = refl
 weight_is l unit number (p ∷ more) = rw (first_is, weight_is l unit (number + 1) more)
-
-pub local_at : (l : LayoutParts) (number : ℕ) (rest : List Placed) (k : ℕ) (x : Local)
-    → slice_get (locals l number rest) k ≡ Some x
-    → (p : Placed) × (slice_get rest k ≡ Some p) × (x ≡ local_of p (owners_of l.owners (number + k)))
-local_at l number [] k x h = absurd (cc h)
-local_at l number (p ∷ more) zero x h =
-    let same : number + 0 ≡ number = omega arith in (p, refl, rw same (cc h))
-local_at l number (p ∷ more) (suc k) x h =
-    let same : number + suc k ≡ number + 1 + k = omega arith in
-    let rest = local_at l (number + 1) more k x h in
-    (rest.0, rest.1, rw same rest.2)
 
 own_first : (us : List ℕ) (o : ℕ) → first_of_list us ≡ Some o → Contains us o
 own_first [] o h = absurd (cc h)
@@ -336,23 +328,21 @@ data_ends p inside some =
 
 pub sound_locals : (l : LayoutParts) → IsSound l → AreLocals (layout_graph l) (locals l 0 l.placed)
 sound_locals l sound = record {
-  each = every_got (IsLocal (layout_graph l)) (locals l 0 l.placed) (λ k x at.
-      let is = local_at l 0 l.placed k x at in
-      let same : 0 + k ≡ k = omega arith in
-      rw (is.2, same) (record {
-        ends = λ u own. data_ends is.0 (sound.fit k is.0 is.1).inside;
-        one_root = λ u a b own. sound.one_root k u a b (own_first (owners_of l.owners k) u own);
+  each = every_map (local_at l) _ _ (every_of _ (with_numbers 0 l.placed) (λ p i.
+      let at = at_number l.placed p i in
+      record {
+        ends = λ u own. data_ends p.1 (sound.fit p.0 p.1 at).inside;
+        one_root = λ u a b own. sound.one_root p.0 u a b (own_first (owners_of l.owners p.0) u own);
       }));
-  apart = pairs_got (KeptApart (layout_graph l)) (locals l 0 l.placed) (λ i j x y less at at'.
-      let is = local_at l 0 l.placed i x at in
-      let is' = local_at l 0 l.placed j y at' in
-      let same : 0 + i ≡ i = omega arith in
-      let same' : 0 + j ≡ j = omega arith in
-      rw (is.2, is'.2, same, same') (record {
-        none = λ a b byte own own' related h h'.
-            sound.apart i j is.0 is'.0 is.1 is'.1 (λ e. omega (arith, less, e))
-            (Owners a b (own_first (owners_of l.owners i) a own) (own_first (owners_of l.owners j) b own') related)
-            (_, (data_byte is.0 byte h).4, (data_byte is'.0 byte h').4);
+  apart = pairs_map (local_at l) _ _ (pairs_got _ (with_numbers 0 l.placed) (λ i j p q less h k.
+      let at = number_got l.placed i p h in
+      let at' = number_got l.placed j q k in
+      record {
+        none = λ a b byte own own' related has has'.
+            sound.apart i j p.1 q.1 at.1 at'.1 (λ e. omega (arith, less, e))
+            (Owners a b (rw at.0 at (own_first (owners_of l.owners p.0) a own))
+            (rw at'.0 at (own_first (owners_of l.owners q.0) b own')) related)
+            (_, (data_byte p.1 byte has).4, (data_byte q.1 byte has').4);
       }));
 }
 
@@ -540,6 +530,6 @@ least l weight sound h =
     weight_bound (layout_graph l) xs (weight_of l) h.chains h.free hit (sound_locals l sound) sound.no_cycle
     (λ u. weight_is l u 0 l.placed ∙ passing_is l (nat_eq u) 0 l.placed) h.heaviest
     (λ unit is_free. (h.tells unit).0 is_free)
-    (every_got _ xs
-    (λ k x at byte o own has. let is = local_at l 0 l.placed k x at in met l byte k is.0 is.1 (rw is.2 at has))) in
+    (every_map (local_at l) _ _ (every_of _ (with_numbers 0 l.placed)
+    (λ p i byte o own has. met l byte p.0 p.1 (at_number l.placed p i) has))) in
     least_join _ _ _ _ _ _ h.is (passing_is l h.free 0 l.placed) most (count_is hit 256)

@@ -1,34 +1,35 @@
 -- What each placed extent is, and that each joined segment is placed once.
 use Rattle.m51_place.proofs.Common.{◌≢◌, ◌≡◌, inl, inr, ℕ, zero, suc, ◌+◌, ◌*◌, ◌<◌, ◌≤◌, true, List, [], ◌∷◌, Option}
-use Rattle.m51_place.proofs.Common.{Some}
-use Rattle.m51_place.proofs.Common.{None, refl, sym, ap, subst, ◌∙◌, arith, slice_get, option_map_or, All, false≢true}
-use Rattle.m51_place.proofs.Common.{slice_get-map, same_Some, none-some, Kind, Code, Xdata, Direct, Idata, Bits, Number}
-use Rattle.m51_place.proofs.Common.{Reloc, Abs, extent_of, Fits, FitsMemory, Control, Absolute, Overlaid, Placed}
-use Rattle.m51_place.proofs.Common.{IsSegment, IsInside, IsFit, JoinedSegment, GraphParts, is_absolute, cases_Bool}
-use Rattle.m51_place.proofs.Common.{Numbered, Ranked, absolute, absolutes_from, own_at, located_at, mark_of, ◌-◌, false}
-use Rattle.m51_place.proofs.Common.{Bool, ◌++◌, length, get_or, append_assoc, position, position_or_len, append-nil}
-use Rattle.m51_place.proofs.Common.{fails_before_first, slice_get-get_or, Ram, IsAllowed, ModuleParts, extent_at}
-use Rattle.m51_place.proofs.Common.{banks_of, fixed_of, first_met, reserves_of, shared_at, shared_after, nat_eq, Result}
-use Rattle.m51_place.proofs.Common.{Ok, AllZip, one_if, slice_get_within, AreKept, Refusal, Plain, IsValid, segments_of}
-use Rattle.m51_place.proofs.Common.{AreResolved, graph_of, unless, shared_extents, order_of, ranked_from, located_of}
-use Rattle.m51_place.proofs.Common.{place_after, IsNumbered}
+use Rattle.m51_place.proofs.Common.{Some, None, refl, sym, ap, subst, ◌∙◌, arith, slice_get, option_map_or, All}
+use Rattle.m51_place.proofs.Common.{false≢true, slice_get-map, same_Some, none-some, Kind, Code, Xdata, Direct, Idata}
+use Rattle.m51_place.proofs.Common.{Bits, Number, Reloc, Abs, extent_of, Fits, FitsMemory, Control, Absolute, Overlaid}
+use Rattle.m51_place.proofs.Common.{Placed, IsSegment, IsInside, IsFit, JoinedSegment, GraphParts, is_absolute}
+use Rattle.m51_place.proofs.Common.{cases_Bool, Numbered, Ranked, absolute, absolutes_from, own_at, located_at, mark_of}
+use Rattle.m51_place.proofs.Common.{◌-◌, false, Bool, ◌++◌, length, get_or, append_assoc, position, position_or_len}
+use Rattle.m51_place.proofs.Common.{append-nil, fails_before_first, slice_get-get_or, Ram, IsAllowed, ModuleParts}
+use Rattle.m51_place.proofs.Common.{extent_at, banks_of, fixed_of, first_met, reserves_of, shared_at, shared_after}
+use Rattle.m51_place.proofs.Common.{nat_eq, Result, Ok, AllZip, one_if, slice_get_within, AreKept, Refusal, Plain}
+use Rattle.m51_place.proofs.Common.{IsValid, segments_of, AreResolved, graph_of, unless, shared_extents, order_of}
+use Rattle.m51_place.proofs.Common.{ranked_from, located_of, place_after, IsNumbered}
+use Rattle.m51_place.proofs.Numbering.{at_number, with_numbers}
 use Rattle.std.proofs.lemmas.Bool.{true_from_ne_false, cases_order, eq-eqb, eqb-true}
 use Rattle.m51_graph.specs.Locals.{overlaid_by}
 use Rattle.m51_graph.specs.Units.{unit_titles}
 use Rattle.m51_cells.proofs.Members.{Every, all_every, every_append, every_of, every_weaker, Pairs, pairs_push, total}
-use Rattle.m51_cells.proofs.Members.{total-append, total_none, every_all, contains_in}
-use Rattle.m51_place.proofs.Ranks.{IsJoined, IsOf, AreFrom, from_head, from_tail, IsRankedOf, joined_at, place_is}
-use Rattle.m51_place.proofs.Ranks.{extent_count, from_start, all_joined, graph_is, as_many_own, once, order_moves}
+use Rattle.m51_cells.proofs.Members.{total-append, total_none, every_all, contains_in, every_map, in_filter}
+use Rattle.std.proofs.Common.{filter, codes, length-append}
+use Rattle.m51_place.proofs.Ranks.{absolute_at, absolutes_are, is_fixed, IsJoined, IsOf, IsRankedOf, joined_at}
+use Rattle.m51_place.proofs.Ranks.{place_is, extent_count, all_joined, graph_is, as_many_own, once, order_moves}
 use Rattle.m51_place.proofs.Ranks.{order_ranked, ranked_count}
-use Rattle.std.proofs.Common.{codes, length-append}
 use Rattle.std.specs.List.{cons_option}
 use Rattle.std.proofs.lemmas.List.Quantifiers.{position-Some}
 use Rattle.m51_graph.proofs.Judged.{none_of_both}
-use Rattle.m51_cells.specs.declared.cell.Space.TheVariants.{Xram, Code as CodeSpace}
-use Rattle.m51_control.specs.declared.control.Control.TheVariants.{Reserve, Add, Cut, NoOverlay, Order}
+use Rattle.m51_cells.specs.declared.cell.Space.TheVariants.{Xram}
+use Rattle.m51_control.specs.declared.control.Control.TheVariants.{Reserve}
 use Rattle.m51_place.specs.Bases.{share}
 use Rattle.m51_place.specs.Fixed.{bank, bank_if, reserve_as, reserve_of, uses, without_number}
-use Rattle.m51_place.proofs.Free.{KeepApart, share_tells, are_after, IsPlacedRanked, zip_every}
+use Rattle.m51_place.proofs.Free.{all_fail, KeepApart, share_tells, are_after, IsPlacedRanked, zip_every}
+use Rattle.m51_resolve.proofs.Positions.{none_found}
 use Rattle.m51_place.proofs.Piled.{own_of}
 use Rattle.std.specs.Prelude.{find}
 use Rattle.std.proofs.lemmas.List.Folds.{find_at}
@@ -104,7 +105,14 @@ module _ (segments : List JoinedSegment) (controls : List (ℕ × Control)) (g :
   marked number j unit at owner = true_from_ne_false j.overlay
       (λ bare. none-some unit (rw (own_is_of segments controls g is number j at, bare) at owner))
 
-  -- an absolute segment
+  -- an absolute segment, which is not overlaid
+  pub bare_absolute : (number : ℕ) (j : JoinedSegment) → slice_get segments number ≡ Some j → is_absolute j.reloc ≡ true
+      → own_at g number ≡ None
+  bare_absolute number j at abs = rw (
+    own_is_of segments controls g is number j at,
+    (joined_at IsJoined segments number j all at).plain abs,
+  ) refl
+
   absolute_spot : (number : ℕ) (j : JoinedSegment) → slice_get segments number ≡ Some j → is_absolute j.reloc ≡ true
       → IsSpot g segments (absolute number j)
   absolute_spot number j at abs =
@@ -130,7 +138,7 @@ module _ (segments : List JoinedSegment) (controls : List (ℕ × Control)) (g :
               fixed = λ _. (refl, refl);
               absolute = λ _. abs;
               overlaid = λ e. absurd (cc e);
-              owned = λ unit owner. absurd (false≢true (sym (joined.plain abs) ∙ marked number j unit at owner));
+              owned = λ unit owner. absurd (none-some unit (rw (bare_absolute number j at abs) at owner));
             });
         free = λ e. absurd (cc e);
       }
@@ -179,16 +187,14 @@ module _ (segments : List JoinedSegment) (controls : List (ℕ × Control)) (g :
         free = λ e. absurd (cc e);
       }
 
-  -- absolute segments from a number on
-  pub absolute_spots : (number : ℕ) (rest : List JoinedSegment) → AreFrom segments number rest
-      → Every (IsSpot g segments) (absolutes_from number rest)
-  absolute_spots number [] h = tt
-  absolute_spots number (j ∷ more) h =
-      let tail = absolute_spots (number + 1) more (from_tail segments number j more h) in
-      elim (cases_Bool (is_absolute j.reloc)) [
-        | inl abs ↦ rw abs (absolute_spot number j (from_head segments number j more h) abs, tail)
-        | inr rel ↦ rw rel tail
-      ]
+  -- what holds of all absolute segments
+  each_absolute : (P : Numbered → Type 0)
+      → ((number : ℕ) (j : JoinedSegment) → slice_get segments number ≡ Some j → is_absolute j.reloc ≡ true
+      → P (absolute number j)) → Every P (absolutes_from 0 segments)
+  each_absolute P each =
+      let all = every_map absolute_at P _ (every_of _ (filter is_fixed (with_numbers 0 segments)) (λ p i.
+      let is = in_filter is_fixed (with_numbers 0 segments) p i in each p.0 p.1 (at_number segments p is.0) is.1)) in
+      rw (← absolutes_are 0 segments) at all
 
 -- The fixed extents: what each is, which joined numbers they have, and that no two of them share a cell.
 
@@ -214,25 +220,27 @@ bank_free : (title : List ℕ) (base : ℕ) → base ≤ 24 → IsFree (bank tit
 bank_free title base low = free_of (bank title base).placed (λ e. cc e)
     (λ c h. let below : c.at < 8 * base + 8 * 8 = h.below in omega (arith, low, below)) (λ h. h)
 
-bank_if_free : (used : Bool) (title : List ℕ) (base : ℕ) → base ≤ 24 → Every IsFree (bank_if used title base)
-    × (length (bank_if used title base) ≤ 1)
-bank_if_free true title base low = ((bank_free title base low, tt), omega arith)
-bank_if_free false title base low = (tt, omega arith)
+-- extents that are no segments, and how many there are at most
+record AreFree (es : List Numbered) (most : ℕ) : Type 0 where
+  each : Every IsFree es
+  few : length es ≤ most
 
-banks_free : (modules : List ModuleParts) → Every IsFree (banks_of modules) × (length (banks_of modules) ≤ 4)
+free_append : {es fs : List Numbered} {n m : ℕ} → AreFree es n → AreFree fs m → AreFree (es ++ fs) (n + m)
+free_append {es} {fs} h k = record {
+  each = every_append IsFree es fs h.each k.each;
+  few = omega (arith, length-append es fs, h.few, k.few);
+}
+
+bank_if_free : (used : Bool) (title : List ℕ) (base : ℕ) → base ≤ 24 → AreFree (bank_if used title base) 1
+bank_if_free true title base low = record { each = (bank_free title base low, tt); few = omega arith }
+bank_if_free false title base low = record { each = tt; few = omega arith }
+
+banks_free : (modules : List ModuleParts) → AreFree (banks_of modules) 4
 banks_free modules =
-    let one = bank_if_free (uses modules 2) (codes "BANK1") 8 (omega arith) in
-    let two = bank_if_free (uses modules 4) (codes "BANK2") 16 (omega arith) in
-    let three = bank_if_free (uses modules 8) (codes "BANK3") 24 (omega arith) in
-    let zero_bank : List Numbered = bank (codes "BANK0") 0 ∷ [] in
-    let b1 : List Numbered = bank_if (uses modules 2) (codes "BANK1") 8 in
-    let b2 : List Numbered = bank_if (uses modules 4) (codes "BANK2") 16 in
-    let b3 : List Numbered = bank_if (uses modules 8) (codes "BANK3") 24 in
-    let first : Every IsFree zero_bank = (bank_free (codes "BANK0") 0 (omega arith), tt) in (
-      every_append IsFree (zero_bank ++ b1 ++ b2) b3
-          (every_append IsFree (zero_bank ++ b1) b2 (every_append IsFree zero_bank b1 first one.0) two.0) three.0,
-      simp length-append (omega (arith, one.1, two.1, three.1)),
-    )
+    free_append (free_append (free_append (bank_if_free true (codes "BANK0") 0 (omega arith))
+    (bank_if_free (uses modules 2) (codes "BANK1") 8 (omega arith)))
+    (bank_if_free (uses modules 4) (codes "BANK2") 16 (omega arith)))
+    (bank_if_free (uses modules 8) (codes "BANK3") 24 (omega arith))
 
 reserve_free : (control : Control) (e : Numbered) → IsAllowed control → reserve_of control ≡ Some e → IsFree e
 reserve_free (Reserve Ram low high) e allowed is = rw (← same_Some _ e is)
@@ -242,22 +250,17 @@ reserve_free (Reserve Ram low high) e allowed is = rw (← same_Some _ e is)
 reserve_free (Reserve Xram low high) e allowed is = rw (← same_Some _ e is)
     (free_of (reserve_as Xdata low high).placed (λ e. cc e)
     (λ c h. let below : c.at < low + (high - low + 1) = h.below in omega (arith, allowed.0, allowed.1, below)) (λ h. h))
-reserve_free (Reserve CodeSpace low high) e allowed is = absurd allowed
-reserve_free (Add from names) e allowed is = absurd (cc is)
-reserve_free (Cut from names) e allowed is = absurd (cc is)
-reserve_free (NoOverlay name) e allowed is = absurd (cc is)
-reserve_free (Order class names) e allowed is = absurd (cc is)
+reserve_free control e allowed is = grind arith
 
 -- what one line adds
 next_free : (found : Option Numbered) (rest : List Numbered) (n : ℕ) → ((e : Numbered) → found ≡ Some e → IsFree e)
-    → Every IsFree rest × (length rest ≤ n) → Every IsFree (cons_option found rest)
-    × (length (cons_option found rest) ≤ suc n)
-next_free None rest n free h = (h.0, omega (arith, h.1))
-next_free (Some e) rest n free h = ((free e refl, h.0), omega (arith, h.1))
+    → AreFree rest n → AreFree (cons_option found rest) (suc n)
+next_free None rest n free h = record { each = h.each; few = omega (arith, h.few) }
+next_free (Some e) rest n free h = record { each = (free e refl, h.each); few = omega (arith, h.few) }
 
 reserves_free : (controls : List (ℕ × Control)) → Every (λ line. IsAllowed line.1) controls
-    → Every IsFree (reserves_of controls) × (length (reserves_of controls) ≤ length controls)
-reserves_free [] allowed = (tt, omega arith)
+    → AreFree (reserves_of controls) (length controls)
+reserves_free [] allowed = record { each = tt; few = omega arith }
 reserves_free (line ∷ more) allowed =
     next_free (reserve_of line.1) (reserves_of more) (length more) (λ e. reserve_free line.1 e allowed.0)
     (reserves_free more allowed.1)
@@ -269,85 +272,50 @@ absolutes_few number (j ∷ more) =
     elim (cases_Bool (is_absolute j.reloc))
     [ inl abs ↦ rw abs (omega (arith, h)) | inr rel ↦ rw rel (omega (arith, h)) ]
 
-absolute_bare : (g : GraphParts) (segments : List JoinedSegment) (e : Numbered) (number : Option ℕ) (own : Option ℕ)
-    → IsSpot g segments e → e.number ≡ number → option_map_or (own_at g) number None ≡ own
-    → is_absolute e.placed.reloc ≡ true → own ≡ None
-absolute_bare g segments e number None spot is own abs = refl
-absolute_bare g segments e None (Some u) spot is own abs = absurd (cc own)
-absolute_bare g segments e (Some n) (Some u) spot is own abs =
-    let of = spot.numbered n is in
-    let mark = of.owned u own in
-    let fixed = of.fixed (rw of.reloc at abs) in
-    absurd (cc (mark, fixed.0))
-
 module _ (g : GraphParts) (modules : List ModuleParts) (controls : List (ℕ × Control)) (segments : List JoinedSegment)
     (is : IsOf segments controls g) (joined : All IsJoined segments)
     (allowed : All (λ (line : ℕ × Control). IsAllowed line.1) controls) where
-  reserves : Every IsFree (reserves_of controls) × (length (reserves_of controls) ≤ length controls)
-  reserves = reserves_free controls (all_every _ controls allowed)
+  abbrev others : List Numbered
+  others = banks_of modules ++ reserves_of controls
+
+  free : AreFree others (4 + length controls)
+  free = free_append (banks_free modules) (reserves_free controls (all_every _ controls allowed))
 
   -- what holds of all fixed extents
   fixed_each : (P : Numbered → Type 0) → ((e : Numbered) → IsFree e → P e) → Every P (absolutes_from 0 segments)
       → Every P (fixed_of modules controls segments)
-  fixed_each P free h =
-      every_append P (banks_of modules ++ reserves_of controls) (absolutes_from 0 segments)
-      (every_weaker IsFree P (banks_of modules ++ reserves_of controls) free
-      (every_append IsFree (banks_of modules) (reserves_of controls) (banks_free modules).0 reserves.0)) h
-
-  absolutes : Every (IsSpot g segments) (absolutes_from 0 segments)
-  absolutes = absolute_spots segments controls g is joined 0 segments (from_start segments)
+  fixed_each P holds h =
+      every_append P others (absolutes_from 0 segments) (every_weaker IsFree P others holds free.each) h
 
   pub fixed_spots : Every (IsSpot g segments) (fixed_of modules controls segments)
   fixed_spots = fixed_each (IsSpot g segments)
       (λ e h. record { fit = h.fit; numbered = λ n at. absurd (none-some n (sym h.number ∙ at)); free = λ _. h.free })
-      absolutes
+      (each_absolute segments controls g is joined _ (absolute_spot segments controls g is joined))
 
   -- they are not overlaid
   pub fixed_bare : Every (λ e. own_of g e ≡ None) (fixed_of modules controls segments)
-  fixed_bare =
-      fixed_each (λ e. own_of g e ≡ None) (λ e h. rw h.number) (bare_from 0 segments absolutes)
-    where
-      bare_from : (number : ℕ) (rest : List JoinedSegment) → Every (IsSpot g segments) (absolutes_from number rest)
-          → Every (λ e. own_of g e ≡ None) (absolutes_from number rest)
-      bare_from number [] h = tt
-      bare_from number (j ∷ more) h = elim (cases_Bool (is_absolute j.reloc)) [
-        | inl abs ↦ let all = rw abs at h in rw abs (
-          absolute_bare g segments (absolute number j) (Some number) (own_at g number) all.0 refl refl abs,
-          bare_from (number + 1) more all.1,
-        )
-        | inr rel ↦ rw rel (bare_from (number + 1) more (rw rel at h))
-      ]
+  fixed_bare = fixed_each (λ e. own_of g e ≡ None) (λ e h. rw h.number)
+      (each_absolute segments controls g is joined _ (bare_absolute segments controls g is joined))
 
   pub fixed_count : (m : ℕ) → total (extent_count m) (fixed_of modules controls segments)
       ≡ total (extent_count m) (absolutes_from 0 segments)
   fixed_count m =
-      let free = every_append IsFree (banks_of modules) (reserves_of controls) (banks_free modules).0 reserves.0 in
       omega (
         arith,
-        total-append (extent_count m) (banks_of modules ++ reserves_of controls) (absolutes_from 0 segments),
-        total_none (extent_count m) (banks_of modules ++ reserves_of controls)
-            (every_weaker IsFree (λ e. extent_count m e ≡ 0) (banks_of modules ++ reserves_of controls)
-            (λ e h. rw h.number) free),
+        total-append (extent_count m) others (absolutes_from 0 segments),
+        total_none (extent_count m) others (every_weaker IsFree _ others (λ e h. rw h.number) free.each),
       )
 
   pub fixed_few : length (fixed_of modules controls segments) ≤ 4 + length controls + length segments
   fixed_few =
       omega (
         arith,
-        length-append (banks_of modules ++ reserves_of controls) (absolutes_from 0 segments),
-        length-append (banks_of modules) (reserves_of controls),
-        (banks_free modules).1,
-        reserves.1,
+        length-append others (absolutes_from 0 segments),
+        free.few,
         absolutes_few 0 segments,
       )
 
 -- no two fixed extents share a cell
-none_met : (p : Numbered → Bool) (xs : List Numbered) → position p xs ≡ None → (k : ℕ) (d : Numbered) → k < length xs
-    → p (get_or xs k d) ≡ false
-none_met p xs none k d below =
-    let end : length xs ≡ position_or_len p xs = rw none at (place_is p xs) in
-    fails_before_first p xs k d (omega (arith, below, end))
-
 refuses_met : (earlier : List Numbered) (e : Numbered) (found : Option ℕ) → first_met earlier e ≡ found
     → shared_at earlier e found ≡ None → first_met earlier e ≡ None
 refuses_met earlier e None is h = is
@@ -363,10 +331,9 @@ fixed_apart g (e ∷ more) earlier apart h =
     let none = refuses_met earlier e (first_met earlier e) refl rules.0 in
     let meets : Numbered → Bool = λ q. share (extent_at q.placed) (extent_at e.placed) in
     rw append_assoc at (fixed_apart g more (earlier ++ e ∷ []) (pairs_push (KeepApart g) earlier e apart
-    (all_every (λ q. KeepApart g q e) earlier (λ k d below. record {
-      none = λ _ meet. false≢true
-          (sym (none_met meets earlier none k d below) ∙ (share_tells _ (extent_at e.placed)).1 meet);
-    }))) rules.1)
+    (every_weaker _ (λ q. KeepApart g q e) earlier
+    (λ q fails. record { none = λ _ meet. absurd (cc (fails, (share_tells _ (extent_at e.placed)).1 meet)) })
+    (all_fail meets earlier (none_found meets earlier none)))) rules.1)
 
 -- What was placed: each joined segment once, and extents in conflict apart.
 

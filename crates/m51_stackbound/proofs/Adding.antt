@@ -1,7 +1,7 @@
 -- The two greatest numbers that interrupts add.
-use Rattle.m51_stackbound.proofs.Common.{◌≡◌, ◌≢◌, ◌<◌, ◌≤◌, ◌+◌, ℕ, Bool, true, false, List, [], length, get_or, take}
-use Rattle.m51_stackbound.proofs.Common.{refl, sym, arith, inl, inr, if◌then◌else◌, nat_lt, Contains}
-use Rattle.m51_stackbound.proofs.Common.{common_steps, Rises, AreGreatest}
+use Rattle.m51_stackbound.proofs.Common.{◌≢◌, ◌<◌, ◌≤◌, ◌+◌, ℕ, List, [], length, get_or, take, sym, arith, inl, inr}
+use Rattle.m51_stackbound.proofs.Common.{Contains, cases_lt, common_steps, Rises, AreGreatest}
+use Rattle.std.proofs.lemmas.Bool.{le-ltb, lt-ltb}
 use Rattle.std.proofs.lemmas.List.{length-take-le}
 use Rattle.m51_stackbound.specs.declared.totals.Greatest.{Greatest}
 use Rattle.m51_stackbound.specs.Totals.{added, with_bytes, OneAdds, TwoAdd}
@@ -27,7 +27,7 @@ module _ (depths : List ℕ) where
     -- no vector before it is the newest
     fresh : (v : ℕ) → Contains front v → v ≢ here
     fresh v k e =
-        let low : k.0 < i = omega (arith, k.1, length-take-le i vectors (omega (arith, below))) in
+        let low : k.0 < i = grind (arith, length-take-le) in
         grind (arith, common_steps, rising k.0 i v low below)
 
     kept : (b : ℕ) → OneAdds depths front b → OneAdds depths longer b
@@ -108,16 +108,10 @@ module _ (depths : List ℕ) where
 
       pub greatest_more : AreGreatest depths longer (with_bytes g bytes)
       unfolding with_bytes
-      greatest_more = by (nat_lt g.first bytes) refl
-        where
-          second : (b : Bool) → nat_lt g.second bytes ≡ b → bytes ≤ g.first
-              → AreGreatest depths longer (if b then record { first = g.first; second = bytes } else g)
-          second true e few = between few (grind arith)
-          second false e few = less (grind arith)
-
-          by : (b : Bool) → nat_lt g.first bytes ≡ b
-              → AreGreatest depths longer
-              (if b then record { first = bytes; second = g.first } else if nat_lt g.second bytes then
-              record { first = g.first; second = bytes } else g)
-          by true e = greater (grind arith)
-          by false e = second (nat_lt g.second bytes) refl (grind arith)
+      greatest_more = elim (cases_lt g.first bytes) [
+        | inl more ↦ rw (lt-ltb g.first bytes more) (greater more)
+        | inr few ↦ rw (le-ltb g.first bytes few) (elim (cases_lt g.second bytes) [
+          | inl more ↦ rw (lt-ltb g.second bytes more) (between few more)
+          | inr low ↦ rw (le-ltb g.second bytes low) (less low)
+        ])
+      ]

@@ -1,17 +1,16 @@
 -- The calls of points, and the rows of them.
 use Rattle.std.proofs.lemmas.Grind.{common_steps}
-use Rattle.m51_stackbound.proofs.Common.{◌≡◌, ◌<◌, ◌+◌, ℕ, List, [], ◌∷◌, ◌++◌, length, get_or, set, take, refl}
-use Rattle.m51_stackbound.proofs.Common.{subst, ◌∙◌, arith, ◌⊎◌, inl, inr, Option, Some, None, Contains}
-use Rattle.m51_stackbound.proofs.Common.{get_or-set_same, get_or-set_other, length-set, take_more, Contains-push}
-use Rattle.m51_stackbound.proofs.Common.{Contains-push_cases, Contains-append_left, contains_after, first_or_after}
-use Rattle.m51_stackbound.proofs.Common.{none_in_empty, LayoutParts, Start, Reset, At, same_or_not, Call, Point}
-use Rattle.m51_stackbound.proofs.Common.{AreCallRows, calls_of, callee_row, CallsAt, call_of, IsPoint, ArePoints}
+use Rattle.m51_stackbound.proofs.Common.{◌≡◌, ◌<◌, ◌+◌, ℕ, List, [], ◌∷◌, ◌++◌, length, get_or, set, take, refl, ◌∙◌}
+use Rattle.m51_stackbound.proofs.Common.{arith, ◌⊎◌, inl, inr, Option, Some, None, Contains, get_or-set_same}
+use Rattle.m51_stackbound.proofs.Common.{get_or-set_other, length-set, take_more, Contains-push, Contains-push_cases}
+use Rattle.m51_stackbound.proofs.Common.{Contains-append_left, contains_after, first_or_after, none_in_empty}
+use Rattle.m51_stackbound.proofs.Common.{LayoutParts, Start, Reset, At, same_or_not, Call, Point, AreCallRows, calls_of}
+use Rattle.m51_stackbound.proofs.Common.{callee_row, call_of, IsPoint, ArePoints}
 use Rattle.std.specs.List.{cons_option}
 use Rattle.std.proofs.lemmas.List.Elements.{filter_map-append}
 use Rattle.std.proofs.lemmas.List.Sorted.{Contains-permutation, IsPermutation-sym}
 use Rattle.m51_module.specs.Kept.{AreEmptyRows}
-use Rattle.m51_stackbound.specs.Callers.{AreCallsOf, AreRowsOf, call_from, IsCalled}
-use Rattle.m51_stackbound.specs.Callers.{with_call}
+use Rattle.m51_stackbound.specs.Callers.{AreCallsOf, AreRowsOf, call_from, IsCalled, with_call}
 use Rattle.m51_stackbound.specs.Climb.{AreCalls}
 
 -- of a list that begins with a value if there is one
@@ -23,42 +22,24 @@ cons_later : {X : Type 0} (o : Option X) (xs : List X) (x : X) → Contains xs x
 cons_later None xs x k = k
 cons_later (Some y) xs x k = contains_after y xs x k
 
-cons_here : {X : Type 0} (o : Option X) (xs : List X) (x : X) → o ≡ Some x → Contains (cons_option o xs) x
-cons_here o xs x is = grind arith
-
 module _ (l : LayoutParts) (image : List ℕ) where
-  call_at : (p : Point) (o : Option ℕ) (c : Call) → IsPoint l image p → call_of l image p ≡ o → call_from p o ≡ Some c
-      → CallsAt l image c.from c.height c.to
-  call_at p o c is calls e = grind arith
-
   -- the calls of points of the program are calls of the program
   pub calls_only : (points : List Point) → ((p : Point) → Contains points p → IsPoint l image p)
       → AreCalls l image (calls_of l image points)
   calls_only [] only c k = absurd (none_in_empty c k)
-  calls_only (q ∷ ps) only c k =
-      by (cons_cases (call_from q (call_of l image q)) (calls_of l image ps) c k)
-      (calls_only ps (λ p m. only p (contains_after q ps p m)) c)
-    where
-      by : (call_from q (call_of l image q) ≡ Some c) ⊎ Contains (calls_of l image ps) c
-          → (Contains (calls_of l image ps) c → CallsAt l image c.from c.height c.to)
-          → CallsAt l image c.from c.height c.to
-      by (inl here) on = call_at q (call_of l image q) c (only q (0, omega arith, refl)) refl here
-      by (inr after) on = on after
+  calls_only (q ∷ ps) only c k = elim (cons_cases (call_from q (call_of l image q)) (calls_of l image ps) c k) [
+    | inl here ↦ grind arith
+    | inr after ↦ calls_only ps (λ p m. only p (contains_after q ps p m)) c after
+  ]
 
   -- and all calls of these points are listed
   pub calls_all : (points : List Point) (p : Point) (to : ℕ) → Contains points p → call_of l image p ≡ Some to
       → Contains (calls_of l image points) (record { from = p.start; height = p.height; to = to })
   calls_all [] p to k calls = absurd (none_in_empty p k)
-  calls_all (q ∷ ps) p to k calls = by (first_or_after q ps p k) (λ m. calls_all ps p to m calls)
-    where
-      c : Call
-      c = record { from = p.start; height = p.height; to = to }
-
-      by : (q ≡ p) ⊎ Contains ps p → (Contains ps p → Contains (calls_of l image ps) c)
-          → Contains (calls_of l image (q ∷ ps)) c
-      by (inl here) on = cons_here (call_from q (call_of l image q)) (calls_of l image ps) c
-          (cc)
-      by (inr after) on = cons_later (call_from q (call_of l image q)) (calls_of l image ps) c (on after)
+  calls_all (q ∷ ps) p to k calls = elim (first_or_after q ps p k) [
+    | inl here ↦ grind arith
+    | inr after ↦ cons_later (call_from q (call_of l image q)) (calls_of l image ps) _ (calls_all ps p to after calls)
+  ]
 
   -- the calls of one more point
   pub calls_more : (points : List Point) (i : ℕ) (d : Point) → i < length points
@@ -93,7 +74,7 @@ module _ (l : LayoutParts) (image : List ℕ) where
         (grind (
           arith,
           calls_in points calls (record { from = g.point.start; height = g.point.height; to = to })
-              is (calls_all points g.point to (are.all g.point g.is_point) g.calls),
+              is (grind (arith, calls_all)),
         ));
   }
 
@@ -123,11 +104,10 @@ rows_more calls c rows few h = by c.from refl
             (h.only from to (rw (get_or-set_other rows a from row [] ne) at k))
       ];
       all = λ from to k. elim (same_or_not from a) [
-        | inl same ↦ subst (λ (r : List ℕ). Contains r to) (cc set_row)
+        | inl same ↦ rw (same, set_row)
             (elim (Contains-push_cases calls c k.call k.listed) [
               | inl early ↦ Contains-append_left (callee_row rows a) (c.to ∷ []) to
-                  (subst (λ n. Contains (callee_row rows n) to) same
-                  (h.all from to (grind arith)))
+                  (rw same at (h.all from to (grind arith)))
               | inr here ↦ grind (arith, Contains-push (callee_row rows a) c.to)
             ])
         | inr ne ↦ grind (arith, common_steps, h.all from to)
@@ -141,7 +121,7 @@ rows_more calls c rows few h = by c.from refl
         new = set rows a row
 
         set_row : callee_row new a ≡ row
-        set_row = get_or-set_same rows a row [] (omega (arith, few a e, h.len))
+        set_row = grind (arith, get_or-set_same)
 
         newest : (from to : ℕ) → from ≡ a → Contains row to → IsCalled (calls ++ c ∷ []) from to
         newest from to same k =

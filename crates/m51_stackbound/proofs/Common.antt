@@ -2,7 +2,7 @@
 pub use Rattle.std.proofs.Common.{◌++◌, ◌+◌, ◌-◌, ◌<◌, ◌∙◌, ◌∷◌, ◌≡◌, ◌≢◌, ◌≤◌, ◌⊎◌, Bool, List, None, Option, Some, []}
 pub use Rattle.std.proofs.Common.{ap, arith, false, get_or, inl, inr, length, map, not, refl, replicate, set, subst}
 pub use Rattle.std.proofs.Common.{suc, sym, take, true, zero, ℕ}
-pub use Rattle.std.proofs.lemmas.Bool.{cases_lt}
+pub use Rattle.std.proofs.lemmas.Bool.{cases_Bool, cases_lt}
 pub use Rattle.std.proofs.lemmas.Grind.{common_steps}
 pub use Rattle.std.proofs.lemmas.List.{get_or-set_other, get_or-set_same, length-replicate, length-set, take_all}
 pub use Rattle.std.proofs.lemmas.List.{take_more}

@@ -1,33 +1,28 @@
 -- From the tables to the answers of the bound.
 use Rattle.m51_stackbound.proofs.Common.{◌≡◌, ◌<◌, ◌≤◌, ℕ, zero, suc, Bool, true, false, List, [], ◌∷◌, ◌++◌, length}
-use Rattle.m51_stackbound.proofs.Common.{get_or, refl, sym, ap, ◌∙◌, arith, inr, nat_lt, Contains}
-use Rattle.m51_stackbound.proofs.Common.{list_any, common_steps, LayoutParts, Proc, RootDepth, StackBound}
-use Rattle.m51_stackbound.proofs.Common.{Start, Reset, At, IsUnitAt, IsSound, Next, Point, IsCyclic}
-use Rattle.m51_stackbound.proofs.Common.{Keeps, cap, depth_in, AreSettled, CallsThrough, HasHeight, IsDepth}
-use Rattle.m51_stackbound.proofs.Common.{is_noted, AreStarts, AreListed, AreNexts, AreRootRows}
-use Rattle.m51_stackbound.proofs.Common.{rank, ArePoints, IsSum, handlers}
-use Rattle.std.specs.Prelude.{slice_index}
+use Rattle.m51_stackbound.proofs.Common.{◌+◌, refl, sym, ◌∙◌, arith, inl, inr, nat_lt, Contains, contains_after}
+use Rattle.m51_stackbound.proofs.Common.{list_any, common_steps, LayoutParts, Proc, RootDepth, StackBound, Start, Reset}
+use Rattle.m51_stackbound.proofs.Common.{At, IsUnitAt, IsSound, Next, Point, IsCyclic, Keeps, depth_in, AreSettled}
+use Rattle.m51_stackbound.proofs.Common.{CallsThrough, HasHeight, IsDepth, is_noted, AreStarts, AreListed, AreNexts}
+use Rattle.m51_stackbound.proofs.Common.{AreRootRows, rank, ArePoints, IsSum, handlers, ComesTo, IsTotal, Nothing, One}
 use Rattle.std.specs.List.{Any}
 use Rattle.std.proofs.lemmas.List.Folds.{Any-from_list_any}
 use Rattle.m51_stackbound.specs.Above.{AreLow, HasLists, IsAbove}
-use Rattle.m51_stackbound.specs.Bounds.{AreEach, IsFirstCyclic, IsRootDepth, IsStart, IsTooDeep, KeepsHeights}
-use Rattle.m51_stackbound.specs.Bounds.{IsBound}
+use Rattle.m51_stackbound.specs.Bounds.{AreEach, IsFirstCyclic, IsRootDepth, IsStart, IsTooDeep, KeepsHeights, Adds}
+use Rattle.m51_stackbound.specs.Bounds.{IsBound, Two}
+use Rattle.m51_stackbound.specs.Totals.{OneAdds, TwoAdd}
 use Rattle.m51_stackbound.specs.declared.judging.Rule.TheVariants.{PushesAbove}
 use Rattle.m51_stackbound.specs.Climb.{TakesDepth}
 use Rattle.m51_stackbound.specs.Nexts.{IsRowAt}
 use Rattle.m51_stackbound.proofs.Covering.{start_covered}
 use Rattle.m51_stackbound.proofs.Leading.{depth_is, path_is}
 use Rattle.m51_stackbound.proofs.Raised.{low_not_cyclic, settled_says}
-use Rattle.m51_stackbound.proofs.Rooted.{handler_first, reset_first, taken_above}
-use Rattle.m51_stackbound.proofs.Summing.{comes_total, is_total}
+use Rattle.m51_stackbound.proofs.Rooted.{handler_height, reset_height, taken_above}
 
 -- the start with this index in a table
 start_of : (k : ℕ) → (start : Start) × (rank start ≡ k)
 start_of zero = (Reset, refl)
 start_of (suc k) = (At k, omega arith)
-
-cap_above : (depth n : ℕ) → depth ≡ cap n → 255 < depth → 255 < n
-cap_above depth n e h = grind (arith, e, h)
 
 -- no depth is above 255 where the test finds none
 pub all_low : (depths : List ℕ) → list_any (λ depth. nat_lt 255 depth) depths ≡ false → AreLow depths
@@ -43,19 +38,13 @@ module _ (l : LayoutParts) (image : List ℕ) where
   -- so SP may get a value above 255
   pub depth_above : (points : List Point) (depths : List ℕ) (s : AreSettled l image points depths)
       → list_any (λ depth. nat_lt 255 depth) depths ≡ true → IsTooDeep l image
-  depth_above points depths s some = by (Any-from_list_any _ depths some) where
-    by : Any (λ depth. nat_lt 255 depth ≡ true) depths → IsTooDeep l image
-    by (k, depth, below, at, passes) =
-        let start = start_of k in
-        let same : depth_in depths start.0 ≡ depth = ap (slice_index depths) start.1 ∙ within depths k depth below at in
-        let t = taken_by points depths s start.0 (grind (arith, common_steps, passes, same)) in
-        let high : 255 < t.bytes =
-        cap_above (depth_in depths start.0) t.bytes t.depth_is (grind (arith, common_steps, passes, same)) in
-        let above = taken_above l image start.0 t.path t.bytes t.takes in
-        inr (above.value, above.comes, omega (arith, above.high, high))
-      where
-        within : (xs : List ℕ) (i x : ℕ) → i < length xs → get_or xs i x ≡ x → get_or xs i 0 ≡ x
-        within xs i x low is = grind (arith, common_steps, low, is)
+  depth_above points depths s some =
+      let a = Any-from_list_any _ depths some in
+      let start = start_of a.0 in
+      let high : 255 < depth_in depths start.0 = grind (arith, common_steps, a.2, a.3, a.4, start.1) in
+      let t = taken_by points depths s start.0 high in
+      let above = taken_above l image start.0 t.path t.bytes t.takes in
+      grind arith
 
   pub above_by : (points : List Point) (depths : List ℕ) (s : AreSettled l image points depths) (r : Bool)
       → r ≡ list_any (λ depth. nat_lt 255 depth) depths → Keeps l image PushesAbove → IsAbove l image depths r
@@ -65,18 +54,13 @@ module _ (l : LayoutParts) (image : List ℕ) where
   -- the first start that calls itself
   pub first_is : (a : ℕ) → CallsThrough l image (At a) a → ((b : ℕ) → b < a → IsCyclic l image (At b) → ⊥)
       → IsFirstCyclic l image (At a)
-  first_is a h before = record { cyclic = h; first = least }
-    where
-      least : (other : Start) → IsCyclic l image other → rank (At a) ≤ rank other
-      least Reset k = absurd k
-      least (At b) k = grind arith
+  first_is a h before = record { cyclic = h; first = λ other k. grind arith }
 
 each_push : (Is : ℕ → RootDepth → Type 0) (vs : List ℕ) (v : ℕ) (rs : List RootDepth) (r : RootDepth) → AreEach Is vs rs
     → Is v r → AreEach Is (vs ++ v ∷ []) (rs ++ r ∷ [])
 each_push Is [] v [] r h k = (k, tt)
-each_push Is [] v (q ∷ rs) r h k = absurd h
-each_push Is (w ∷ vs) v [] r h k = absurd h
 each_push Is (w ∷ vs) v (q ∷ rs) r h k = (h.0, each_push Is vs v rs r h.1 k)
+each_push Is vs v rs r h k = absurd h
 
 -- where no address has a start that calls itself there is none
 pub none_is : (l : LayoutParts) (image : List ℕ) (points : List Point) (depths : List ℕ) → ArePoints l image points
@@ -95,10 +79,9 @@ rows_more l depths nexts vs v roots r h row = grind (arith, each_push)
 pub each_more : (Is New : ℕ → RootDepth → Type 0) (vs : List ℕ) (rs : List RootDepth)
     → ((v : ℕ) (r : RootDepth) → Contains vs v → Is v r → New v r) → AreEach Is vs rs → AreEach New vs rs
 each_more Is New [] [] on h = h
-each_more Is New [] (r ∷ rs) on h = absurd h
-each_more Is New (v ∷ vs) [] on h = absurd h
 each_more Is New (v ∷ vs) (r ∷ rs) on h =
-    (on v r (0, omega arith, refl) h.0, each_more Is New vs rs (λ w q k. on w q (suc k.0, omega (arith, k.1), k.2)) h.1)
+    (on v r (0, omega arith, refl) h.0, each_more Is New vs rs (λ w q k. on w q (contains_after v vs w k)) h.1)
+each_more Is New vs rs on h = absurd h
 
 module _ (l : LayoutParts) (image : List ℕ) (points : List Point) (depths : List ℕ) (nexts : List Next)
     (are : ArePoints l image points) (s : AreSettled l image points depths) (low : AreLow depths)
@@ -108,16 +91,10 @@ module _ (l : LayoutParts) (image : List ℕ) (points : List Point) (depths : Li
   row_is start vector height r h row =
       grind (
         arith,
-        depth_is l image points depths nexts are s low n start height h,
-        path_is l image points depths nexts are s low n start height r.path row.row.more h row.row.path_is
+        depth_is _ _ _ _ _ are s low n start height h,
+        path_is _ _ _ _ _ are s low n start height r.path row.row.more h row.row.path_is
             row.row.leads,
       )
-
-  reset_height : HasHeight l image Reset 7
-  reset_height = grind (arith, reset_first l image)
-
-  handler_height : (v : ℕ) → Contains (handlers l) v → HasHeight l image (At v) 0
-  handler_height v h = grind (arith, handler_first l image v h)
 
   -- a noted start is one of the program
   noted_start : (starts : List Bool) → AreStarts points starts → (at : ℕ) → is_noted starts at ≡ true
@@ -138,7 +115,7 @@ module _ (l : LayoutParts) (image : List ℕ) (points : List Point) (depths : Li
 
   pub covered_noted : IsSound l → (starts : List Bool) → AreStarts points starts → (at : ℕ) → is_noted starts at ≡ true
       → (unit : ℕ) × IsUnitAt l at unit
-  covered_noted sound starts ss at h = start_covered l sound image at (noted_start starts ss at h)
+  covered_noted sound starts ss at h = start_covered _ sound _ _ (noted_start starts ss at h)
 
   pub lists : (starts : List Bool) (procs : List Proc) (roots : List RootDepth) (total : ℕ) (b : StackBound)
       → AreStarts points starts → AreListed l starts depths 65536 procs
@@ -150,17 +127,17 @@ module _ (l : LayoutParts) (image : List ℕ) (points : List Point) (depths : Li
     procs = λ p k.
         let is = listed.each p (rw procs_are at k) in
         let start = noted_start starts ss p.at is.noted in
-        grind (arith, depth_is l image points depths nexts are s low n (At p.at) start.0 start.1);
+        grind (arith, depth_is _ _ _ _ _ are s low n (At p.at) start.0 start.1);
     all = λ at k.
         let noted = start_noted starts ss at k in
         rw procs_are (listed.all at (few_addresses starts ss.len at noted) noted);
     reset = rows.reset;
     interrupts = rows.interrupts;
     roots = roots_are ∙ rows.roots_are;
-    reset_is = row_is Reset 0 7 rows.reset reset_height rows.reset_is;
+    reset_is = row_is Reset 0 7 rows.reset (reset_height l image) rows.reset_is;
     interrupts_are = each_more (λ vector. IsRowAt l depths nexts (At vector) vector)
         (λ vector. IsRootDepth l image (At vector) vector) (handlers l) rows.interrupts
-        (λ v r k row. row_is (At v) v 0 r (handler_height v k) row) rows.interrupts_are;
+        (λ v r k row. row_is (At v) v 0 r (handler_height l image v k) row) rows.interrupts_are;
   }
 
 -- the bound of a program whose depths are not above 255
@@ -168,11 +145,65 @@ module _ (l : LayoutParts) (image : List ℕ) (points : List Point) (depths : Li
     (s : AreSettled l image points depths) (low : AreLow depths) where
   deep : (start : Start) (height : ℕ) → HasHeight l image start height → IsDepth l image start (depth_in depths start)
   deep start height h =
-      grind (arith, settled_says l image points depths are s start height h)
+      grind (arith, settled_says _ _ _ _ are s start height h)
+
+  reset_depth : IsDepth l image Reset (depth_in depths Reset)
+  reset_depth = deep Reset 7 (reset_height l image)
+
+  handler_depth : (v : ℕ) → Contains (handlers l) v → IsDepth l image (At v) (depth_in depths (At v))
+  handler_depth v h = deep (At v) 0 (handler_height l image v h)
+
+  one_adds : (b : ℕ) → OneAdds depths (handlers l) b → Adds l image b
+  one_adds b o =
+      let d = handler_depth o.vector o.listed in
+      grind (arith, One)
+
+  two_add : (a b : ℕ) → TwoAdd depths (handlers l) a b → Adds l image (a + b)
+  two_add a b t =
+      let d = handler_depth t.first.vector t.first.listed in
+      let e = handler_depth t.second.vector t.second.listed in
+      grind (
+        arith,
+        Two t.first.vector t.second.vector (depth_in depths (At t.first.vector))
+            (depth_in depths (At t.second.vector)) d.path e.path t.first.listed t.second.listed t.different d.takes
+            e.takes,
+      )
+
+  module _ (total : ℕ) (found : IsSum depths (handlers l) total) where
+    abbrev first : ℕ
+    first = found.greatest.first
+
+    abbrev second : ℕ
+    second = found.greatest.second
+
+    both_add : Adds l image (first + second)
+    both_add = elim found.are.two [
+      | inr t ↦ two_add first second t
+      | inl none ↦ elim found.are.one [
+        | inl nothing ↦ let sum : first + second ≡ 0 = omega (arith, none, nothing) in rw sum Nothing
+        | inr o ↦ grind (arith, one_adds)
+      ]
+    ]
+
+    comes_total : ComesTo l image total
+    comes_total = grind (arith, reset_depth.path, reset_depth.takes, both_add)
+
+    adds_most : (bytes : ℕ) → Adds l image bytes → bytes ≤ first + second
+    adds_most _ Nothing = omega arith
+    adds_most _ (One v d path h t) =
+        let deepest = (handler_depth v h).most path d t in
+        omega arith
+    adds_most _ (Two v w d e path other h k ne t u) =
+        let one = (handler_depth v h).most path d t in
+        let two = (handler_depth w k).most other e u in
+        omega (arith, found.are.sum v w h k ne)
+
+    is_total : IsTotal l image total
+    is_total = grind (arith, comes_total, reset_depth.most, adds_most)
 
   pub total_above : (total : ℕ) → IsSum depths (handlers l) total → 255 < total → IsTooDeep l image
-  total_above total sum high = inr (total, comes_total l image depths deep total sum, high)
+  total_above total sum high = inr (total, comes_total total sum, high)
 
   pub bound_is : (total : ℕ) (b : StackBound) → IsSum depths (handlers l) total → KeepsHeights l image
       → Keeps l image PushesAbove → HasLists l image total b → IsBound l image b
-  bound_is total b sum kept no_push h = grind (arith, is_total l image depths deep total sum)
+  bound_is total b sum kept no_push h = grind (arith, is_total total sum)

@@ -1,7 +1,7 @@
 -- The first reached address that two points have.
-use Rattle.m51_stackbound.proofs.Common.{◌≡◌, ◌<◌, ◌+◌, ℕ, Bool, true, false, not, List, [], ◌∷◌, ◌++◌, length, get_or}
-use Rattle.m51_stackbound.proofs.Common.{take, refl, sym, ap, subst, arith, ◌⊎◌, inl, inr, Option, Some}
-use Rattle.m51_stackbound.proofs.Common.{Contains, list_any, cases_lt, common_steps, Contains-push, Contains-push_cases}
+use Rattle.m51_stackbound.proofs.Common.{◌≡◌, ◌<◌, ◌+◌, ℕ, Bool, true, not, List, [], ◌∷◌, ◌++◌, length, get_or, take}
+use Rattle.m51_stackbound.proofs.Common.{ap, arith, ◌⊎◌, inl, inr, Option, Some, Contains, list_any, cases_Bool}
+use Rattle.m51_stackbound.proofs.Common.{cases_lt, common_steps, Contains-push, Contains-push_cases}
 use Rattle.m51_stackbound.proofs.Common.{Contains-append_left, Contains-from_any, list_any-from_Contains}
 use Rattle.m51_stackbound.proofs.Common.{ReachedAddress, Point, IsLeast, reached_address, HasTwo, NotesPlace}
 use Rattle.indexmap.specs.IndexSet.{insert_key}
@@ -16,12 +16,10 @@ same_place x y h = grind arith
 pub notes_place : (old : List ReachedAddress) (reached : ReachedAddress) (added : Bool)
     → added ≡ not (list_any (place_eq.it reached) old)
     → NotesPlace old reached (insert_key place_eq.it old reached) (not added)
-notes_place old reached added h = by (list_any (place_eq.it reached) old) refl
-  where
-    by : (b : Bool) → list_any (place_eq.it reached) old ≡ b
-        → NotesPlace old reached (insert_key place_eq.it old reached) (not added)
-    by true e = grind (arith, common_steps, Contains-from_any same_place reached old e)
-    by false e = grind (arith, common_steps, list_any-from_Contains laws-law reached old, laws-law)
+notes_place old reached added h = elim (cases_Bool (list_any (place_eq.it reached) old)) [
+  | inl e ↦ grind (arith, common_steps, Contains-from_any same_place reached old e)
+  | inr e ↦ grind (arith, common_steps, list_any-from_Contains laws-law reached old, laws-law)
+]
 
 -- one of the first points, of this number, has the reached address
 pub record HasPlace (points : List Point) (count : ℕ) (reached : ReachedAddress) : Type 0 where
@@ -44,7 +42,7 @@ module _ (points : List Point) (i : ℕ) (d : Point) (below : i < length points)
   wider reached h = grind (arith, common_steps)
 
   later : (reached : ReachedAddress) → HasPlace points i reached → HasPlace points (i + 1) reached
-  later reached h = grind (arith, common_steps, front_kept points i d h.point below h.before)
+  later reached h = grind (arith, front_kept)
 
   newest : HasPlace points (i + 1) here
   newest = grind (arith, common_steps, get_or points i d, front_next points i d below)
@@ -58,24 +56,12 @@ module _ (points : List Point) (i : ℕ) (d : Point) (below : i < length points)
   two_cases : (reached : ReachedAddress) → HasTwo points (i + 1) reached
       → HasTwo points i reached ⊎ ((here ≡ reached) × HasPlace points i reached)
   two_cases reached h = elim (cases_lt h.second i) [
-    | inl early ↦ inl (record {
-      second = h.second;
-      below = early;
-      inside = h.inside;
-      one = h.one;
-      before = h.before;
-      place_one = h.place_one;
-      place_two = h.place_two;
-    })
+    | inl early ↦ inl (grind arith)
     | inr late ↦
         let is : h.second ≡ i = omega (arith, late, h.below) in
         inr (
-          subst (λ k. reached_address (get_or points k d) ≡ reached) is (h.place_two d),
-          record {
-            point = h.one;
-            before = subst (λ k. Contains (take k points) h.one) is h.before;
-            is = h.place_one;
-          },
+          rw is at (h.place_two d),
+          record { point = h.one; before = rw is at h.before; is = h.place_one },
         )
   ]
 
@@ -87,29 +73,26 @@ module _ (points : List Point) (i : ℕ) (d : Point) (below : i < length points)
     one = h.point;
     before = h.before;
     place_one = h.is;
-    place_two = λ e. ap reached_address (same e);
+    place_two = λ e. grind (arith, common_steps, below);
   }
-    where
-      same : (e : Point) → get_or points i e ≡ get_or points i d
-      same e = grind (arith, common_steps, below)
 
   pub doubling_new : (addresses new : List ReachedAddress) (least : Option ReachedAddress)
       → new ≡ addresses ++ here ∷ []
       → (Contains addresses here → ⊥) → IsDoubling points i addresses least → IsDoubling points (i + 1) new least
   doubling_new addresses new least is absent h = record {
-    only = λ reached k. elim (Contains-push_cases addresses here reached (subst (λ ps. Contains ps reached) is k)) [
+    only = λ reached k. elim (Contains-push_cases addresses here reached (rw is at k)) [
       | inl old ↦ later reached (h.only reached old)
-      | inr e ↦ subst (λ p. HasPlace points (i + 1) p) e newest
+      | inr e ↦ rw (← e) newest
     ];
-    all = λ reached k. subst (λ ps. Contains ps reached) (sym is)
+    all = λ reached k. rw is
         (elim (places_cases reached k) [
           | inl old ↦ Contains-append_left addresses (here ∷ []) reached (h.all reached old)
-          | inr e ↦ subst (λ p. Contains (addresses ++ here ∷ []) p) e (Contains-push addresses here)
+          | inr e ↦ rw (← e) (Contains-push addresses here)
         ]);
     first = least_same (HasTwo points i) (HasTwo points (i + 1)) least h.first
         (λ reached k. elim (two_cases reached k) [
           | inl old ↦ old
-          | inr e ↦ absurd (absent (subst (λ p. Contains addresses p) (sym e.0) (h.all reached e.1)))
+          | inr e ↦ absurd (absent (rw e.0 (h.all reached e.1)))
         ])
         wider;
   }
@@ -122,8 +105,7 @@ module _ (points : List Point) (i : ℕ) (d : Point) (below : i < length points)
     all = λ reached k. rw is
         (elim (places_cases reached k) [
           | inl old ↦ h.all reached old
-          | inr e ↦ subst (λ p. Contains addresses p) e
-              there
+          | inr e ↦ rw (← e) there
         ]);
     first = least_more (HasTwo points i) (HasTwo points (i + 1)) least here h.first
         (grind (arith, common_steps, two_cases))

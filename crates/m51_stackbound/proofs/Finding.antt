@@ -1,32 +1,25 @@
 -- Units found by a test are those of the layout.
-use Rattle.m51_stackbound.proofs.Common.{◌≡◌, ◌≤◌, ◌<◌, ℕ, Bool, true, false, Option, Some, None, length}
-use Rattle.m51_stackbound.proofs.Common.{get_or, refl, arith, nat_eq, Contains}
-use Rattle.m51_stackbound.proofs.Common.{common_steps, LayoutParts, IsUnitAt, IsRootAt, vectors, IsSound}
+use Rattle.m51_stackbound.proofs.Common.{◌≡◌, ◌<◌, ℕ, Bool, true, false, Option, Some, None, length, get_or, refl}
+use Rattle.m51_stackbound.proofs.Common.{arith, Contains, LayoutParts, IsUnitAt, IsRootAt}
+use Rattle.m51_stackbound.proofs.Common.{vectors, IsSound}
 use Rattle.std.proofs.Common.{◌&&◌}
 use Rattle.std.specs.Prelude.{IfSome, List, position, slice_get}
-use Rattle.std.specs.List.{position_or_len}
 use Rattle.std.specs.Option.{option_map_or}
-use Rattle.std.proofs.lemmas.Bool.{eq-eqb}
 use Rattle.std.proofs.lemmas.List.Quantifiers.{position-Some}
 use Rattle.std.proofs.lemmas.List.Sums.{fails_before_first}
 use Rattle.std.proofs.lemmas.Option.{slice_get-get_or, slice_get_within, get_or_from_slice_get}
 use Rattle.m51_module.specs.declared.placed.Placed.{Placed}
 use Rattle.m51_module.specs.Plan.{IsUnit}
-use Rattle.m51_stackbound.specs.Units.{has_address, is_marked_absolute, begins_at, unit_where, unit_of, root_of}
+use Rattle.m51_stackbound.specs.Units.{has_address, begins_at, unit_where, unit_of, root_of}
 
 -- a conjunction that is true has true parts
 pub both : (a b : Bool) → (a && b) ≡ true → (a ≡ true) × (b ≡ true)
 both a b h = grind arith
 
-both_hold : (a b : Bool) → a ≡ true → b ≡ true → (a && b) ≡ true
-both_hold a b h k = cc
-
 -- no element before the end passes a test that has no position
 position_none : {X : Type 0} (p : X → Bool) (xs : List X) (k : ℕ) (d : X) → position p xs ≡ None → k < length xs
     → p (get_or xs k d) ≡ false
-position_none p xs k d e below =
-    let whole : length xs ≤ position_or_len p xs = grind (arith, common_steps) in
-    fails_before_first p xs k d (omega arith)
+position_none p xs k d e below = grind (arith, fails_before_first)
 
 -- what passes a test of an option
 record Passes {X : Type 0} (test : X → Bool) (o : Option X) : Type 0 where
@@ -83,13 +76,10 @@ module _ (l : LayoutParts) (sound : IsSound l) where
 
   begins : (vector u : ℕ) → Contains vectors vector → Tested (begins_at vector) l u → IsRootAt l vector u
   begins vector u is t =
-      let parts = both (is_marked_absolute t.extent.mark) (nat_eq t.extent.base vector) t.passes in
       grind arith
 
   begun : (vector u : ℕ) (h : IsRootAt l vector u) → begins_at vector h.is ≡ true
-  begun vector u h =
-      both_hold (is_marked_absolute h.is.mark) (nat_eq h.is.base vector) (cc)
-      (eq-eqb h.is.base vector h.base)
+  begun vector u h = grind arith
 
   pub root_is : (vector : ℕ) (r : Option ℕ) → Contains vectors vector → IfSome r (λ u. IsRootAt l vector u)
       → ((u : ℕ) → IsRootAt l vector u → r ≡ Some u) → r ≡ root_of l vector

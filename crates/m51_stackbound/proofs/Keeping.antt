@@ -1,7 +1,6 @@
 -- What a program with a bound keeps at each of its points.
-use Rattle.std.proofs.Common.{arith}
-use Rattle.m51_stackbound.proofs.Common.{◌≡◌, ℕ, Bool, true, false, List, Some, refl, Instr, LayoutParts, Rule}
-use Rattle.m51_stackbound.proofs.Common.{Point, Keeps, IsPoint, reached_address}
+use Rattle.m51_stackbound.proofs.Common.{◌≡◌, ℕ, Bool, false, List, Some, arith, inl, inr, cases_Bool, Instr}
+use Rattle.m51_stackbound.proofs.Common.{LayoutParts, Rule, Point, Keeps, IsPoint, reached_address}
 use Rattle.m51_stackbound.specs.declared.judging.Rule.TheVariants.{WritesSp, Computed, PopsBelow, PushesAbove}
 use Rattle.m51_stackbound.specs.Bounds.{KeepsRules}
 use Rattle.m51_stackbound.specs.Instructions.{is_computed}
@@ -12,12 +11,10 @@ module _ (l : LayoutParts) (image : List ℕ) (p : Point) (instr : Instr) (is : 
     (at : instruction l image p.address ≡ Some instr) where
   kept : (rule : Rule) → Keeps l image rule → breaks rule p instr ≡ false
   unfolding breaks_by
-  kept rule keeps = by (breaks rule p instr) refl
-    where
-      by : (b : Bool) → breaks rule p instr ≡ b → b ≡ false
-      by false e = refl
-      by true e = absurd (keeps (reached_address p)
-          (grind arith))
+  kept rule keeps = elim (cases_Bool (breaks rule p instr)) [
+    | inl e ↦ absurd (keeps (reached_address p) (grind arith))
+    | inr e ↦ e
+  ]
 
   pub stack_kept : KeepsRules l image → sets_stack p instr ≡ false
   stack_kept h = kept WritesSp h.writes

@@ -1,25 +1,20 @@
 -- The first of several reached addresses.
 use Rattle.m51_stackbound.proofs.Common.{◌≡◌, ◌<◌, ◌+◌, ℕ, Bool, true, false, List, [], ◌∷◌, length, get_or, take, refl}
-use Rattle.m51_stackbound.proofs.Common.{arith, ◌⊎◌, inl, inr, Option, Some, None, nat_lt}
-use Rattle.m51_stackbound.proofs.Common.{Contains, common_steps, take_more, Contains-push, Contains-push_cases}
-use Rattle.m51_stackbound.proofs.Common.{Contains-append_left, LayoutParts, Rule, ReachedAddress, Point, rank, IsLeast}
-use Rattle.m51_stackbound.proofs.Common.{reached_address, IsFirstBreach}
+use Rattle.m51_stackbound.proofs.Common.{arith, ◌⊎◌, inl, inr, Option, Some, None, Contains, cases_Bool, common_steps}
+use Rattle.m51_stackbound.proofs.Common.{take_more, Contains-push, Contains-push_cases, Contains-append_left}
+use Rattle.m51_stackbound.proofs.Common.{LayoutParts, Rule, ReachedAddress, Point, IsLeast, reached_address}
+use Rattle.m51_stackbound.proofs.Common.{IsFirstBreach}
+use Rattle.std.proofs.lemmas.Bool.Decides.{nat_tests}
 use Rattle.m51_stackbound.specs.Points.{instruction}
 use Rattle.m51_stackbound.specs.Rules.{NoLater, no_later, lesser, breaks_by, IsBroken}
 
 pub no_later_is : (p q : ReachedAddress) → no_later p q ≡ true → NoLater p q
 unfolding no_later
-no_later_is p q h = by (nat_lt (rank p.start) (rank q.start)) refl where
-  by : (b : Bool) → nat_lt (rank p.start) (rank q.start) ≡ b → NoLater p q
-  by true e = inl (grind (arith, common_steps, e))
-  by false e = inr (grind (arith, common_steps, e, h), grind (arith, common_steps, e, h))
+no_later_is p q h = grind (arith, nat_tests)
 
 pub later_is : (p q : ReachedAddress) → no_later p q ≡ false → NoLater q p
 unfolding no_later
-later_is p q h = by (nat_lt (rank q.start) (rank p.start)) refl where
-  by : (b : Bool) → nat_lt (rank q.start) (rank p.start) ≡ b → NoLater q p
-  by true e = inl (grind (arith, common_steps, e))
-  by false e = inr (grind (arith, common_steps, e, h), grind (arith, common_steps, e, h))
+later_is p q h = grind (arith, nat_tests)
 
 no_later_self : (p : ReachedAddress) → NoLater p p
 no_later_self p = inr (refl, omega arith)
@@ -39,11 +34,10 @@ pub least_more : (Is New : ReachedAddress → Type 0) (r : Option ReachedAddress
     → IsLeast New (Some (lesser r reached))
 unfolding lesser
 least_more Is New None reached h back on new = grind (arith, common_steps, no_later_self reached)
-least_more Is New (Some old) reached h back on new = by (no_later old reached) refl
-  where
-    by : (b : Bool) → no_later old reached ≡ b → IsLeast New (Some (lesser (Some old) reached))
-    by true e = grind (arith, common_steps, on old h.0, no_later_is old reached e)
-    by false e = grind (arith, common_steps, no_later_twice reached old, later_is old reached e, no_later_self reached)
+least_more Is New (Some old) reached h back on new = elim (cases_Bool (no_later old reached)) [
+  | inl e ↦ grind (arith, no_later_is)
+  | inr e ↦ grind (arith, common_steps, no_later_twice reached old, later_is old reached e, no_later_self reached)
+]
 
 -- an element of a longer prefix is one of the shorter prefix, or the next
 pub front_cases : {X : Type 0} (xs : List X) (i : ℕ) (d x : X) → i < length xs → Contains (take (i + 1) xs) x
@@ -80,4 +74,4 @@ module _ (l : LayoutParts) (image : List ℕ) (rule : Rule) (points : List Point
       (IsBroken l image rule (Contains (take (i + 1) points))) r at h
       (grind (arith, common_steps, front_cases points i d))
       (grind (arith, common_steps, front_kept points i d))
-      (grind (arith, common_steps, get_or points i d, front_next points i d below))
+      (grind (arith, front_next))

@@ -1,6 +1,5 @@
 pub mod Common
 pub mod Finding
-pub mod Heights
 pub mod Inside
 pub mod Noting
 pub mod Reaching
@@ -10,14 +9,12 @@ pub mod Lifting
 pub mod Raised
 pub mod Stepping
 pub mod Rooted
-pub mod Crowding
 pub mod CallRows
 pub mod Walks
 pub mod Ways
 pub mod Leading
 pub mod Adding
 pub mod Procs
-pub mod Summing
 pub mod Covering
 pub mod SumLaw
 pub mod Unique

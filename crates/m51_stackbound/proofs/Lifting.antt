@@ -1,41 +1,27 @@
 -- What holds of the listed points holds of the points of the program.
-use Rattle.m51_stackbound.proofs.Common.{◌≡◌, ◌≢◌, ◌<◌, ℕ, List, Option, length, get_or, ◌∙◌, arith}
-use Rattle.m51_stackbound.proofs.Common.{cases_lt, common_steps, Contains-get_or, Result, Contains}
-use Rattle.m51_stackbound.proofs.Common.{LayoutParts, Rule, ReachedAddress, Point, HasTwoHeights, IsFirstBreach}
-use Rattle.m51_stackbound.proofs.Common.{IsLeast, reached_address, ArePoints, HasTwo}
+use Rattle.m51_stackbound.proofs.Common.{◌≡◌, ◌≢◌, ◌<◌, ℕ, List, Option, length, get_or, arith, cases_lt}
+use Rattle.m51_stackbound.proofs.Common.{common_steps, Contains-get_or, Result, Contains, LayoutParts, Rule}
+use Rattle.m51_stackbound.proofs.Common.{ReachedAddress, Point, HasTwoHeights, IsFirstBreach, IsLeast, reached_address}
+use Rattle.m51_stackbound.proofs.Common.{ArePoints, HasTwo}
 use Rattle.std.proofs.lemmas.List.{length-take-le}
 use Rattle.std.specs.Prelude.{IfOk}
 use Rattle.m51_cells.specs.declared.memory.NoMemory.{NoMemory}
 use Rattle.m51_stackbound.specs.Bounds.{Breaks}
-use Rattle.m51_stackbound.specs.Rules.{IsBroken}
 use Rattle.m51_stackbound.proofs.Leasts.{least_same}
 
 pub first_of_points : (l : LayoutParts) (image : List ℕ) (rule : Rule) (points : List Point) (r : Option ReachedAddress)
     → ArePoints l image points → IsFirstBreach l image rule points r → IsLeast (Breaks l image rule) r
-first_of_points l image rule points r are h =
-    least_same (IsBroken l image rule (Contains points)) (Breaks l image rule) r h
-    (grind (arith, common_steps))
-    (grind (arith, common_steps))
+first_of_points l image rule points r are h = grind (arith, least_same)
 
 -- two of the listed points have the reached address exactly if two points of the program have it with different heights
 module _ (l : LayoutParts) (image : List ℕ) (points : List Point) (are : ArePoints l image points) where
-  apart_heights : (p q : Point) (reached : ReachedAddress) → p ≢ q → reached_address p ≡ reached → reached_address q
-      ≡ reached
-      → p.height ≢ q.height
-  apart_heights p q reached other h k e =
-      other (same p q (grind (arith, common_steps))
-      (grind (arith, common_steps)) e)
-    where
-      same : (p q : Point) → p.start ≡ q.start → p.address ≡ q.address → p.height ≡ q.height → p ≡ q
-      same p q a b c = grind (arith, common_steps)
-
   heights_from_two : (reached : ReachedAddress) → HasTwo points (length points) reached → HasTwoHeights l image reached
   heights_from_two reached h =
       let at = h.before.0 in
       let none = h.one in
-      let low : at < h.second = omega (arith, h.before.1, length-take-le h.second points (omega (arith, h.inside))) in
+      let low : at < h.second = grind (arith, length-take-le) in
       let first : get_or points at none ≡ h.one = grind (arith, common_steps, h.before.2, low, h.inside) in
-      let other : h.one ≢ get_or points h.second none = λ e. are.different at h.second none low h.inside (first ∙ e) in
+      let other : h.one ≢ get_or points h.second none = grind arith in
       record {
         one = h.one;
         two = get_or points h.second none;
@@ -43,7 +29,7 @@ module _ (l : LayoutParts) (image : List ℕ) (points : List Point) (are : ArePo
         two_is = are.only (get_or points h.second none) (Contains-get_or points h.second none h.inside);
         place_one = h.place_one;
         place_two = h.place_two none;
-        heights = apart_heights h.one (get_or points h.second none) reached other h.place_one (h.place_two none);
+        heights = grind arith;
       }
 
   -- of two different indices one comes first
@@ -61,9 +47,7 @@ module _ (l : LayoutParts) (image : List ℕ) (points : List Point) (are : ArePo
   }
 
   at_any : (p : Point) (h : Contains points p) (d : Point) → get_or points h.0 d ≡ p
-  at_any p h d = same ∙ h.2 where
-    same : get_or points h.0 d ≡ get_or points h.0 p
-    same = let below = h.1 in grind (arith, common_steps, below)
+  at_any p h d = let below = h.1 in grind (arith, common_steps, below, h.2)
 
   two_from_heights : (reached : ReachedAddress) → HasTwoHeights l image reached → HasTwo points (length points) reached
   two_from_heights reached h =

@@ -1,7 +1,6 @@
 -- What a set of points holds after one is added.
-use Rattle.m51_stackbound.proofs.Common.{◌≡◌, Bool, true, false, List, [], ◌∷◌, ◌++◌, refl, arith, inl, inr}
-use Rattle.m51_stackbound.proofs.Common.{list_any, Contains-from_any, list_any-from_Contains, Point}
-use Rattle.m51_stackbound.proofs.Common.{Notes, NotesAll}
+use Rattle.m51_stackbound.proofs.Common.{◌≡◌, true, List, [], ◌∷◌, ◌++◌, refl, arith, inl, inr, cases_Bool, list_any}
+use Rattle.m51_stackbound.proofs.Common.{Contains-from_any, list_any-from_Contains, Point, Notes, NotesAll}
 use Rattle.indexmap.specs.IndexSet.{insert_key}
 use Rattle.m51_stackbound.specs.contracts.point.PointPartialEq.TheImpl.{eq-value as point_eq}
 use Rattle.m51_stackbound.specs.contracts.point.PointEq.TheImpl.Laws.{laws-law}
@@ -10,11 +9,10 @@ pub same_point : (x y : Point) → point_eq.it x y ≡ true → x ≡ y
 same_point x y h = grind arith
 
 pub notes_key : (old : List Point) (p : Point) → Notes old p (insert_key point_eq.it old p)
-notes_key old p = by (list_any (point_eq.it p) old) refl
-  where
-    by : (b : Bool) → list_any (point_eq.it p) old ≡ b → Notes old p (insert_key point_eq.it old p)
-    by true e = rw e (inl (refl, Contains-from_any same_point p old e))
-    by false e = rw e (inr (refl, λ h. cc (list_any-from_Contains laws-law p old h)))
+notes_key old p = elim (cases_Bool (list_any (point_eq.it p) old)) [
+  | inl e ↦ rw e (inl (refl, Contains-from_any same_point p old e))
+  | inr e ↦ rw e (inr (refl, λ h. cc (list_any-from_Contains laws-law p old h)))
+]
 
 -- adding the points of one list and then those of another
 pub notes_both : (ps qs old middle new : List Point) → NotesAll old ps middle → NotesAll middle qs new

@@ -1,11 +1,11 @@
 -- The starts in a table by addresses, and their list.
 use Rattle.std.proofs.lemmas.Grind.{common_steps}
 use Rattle.m51_stackbound.proofs.Common.{◌≡◌, ◌<◌, ◌+◌, ℕ, zero, suc, Bool, true, false, List, [], ◌∷◌, ◌++◌, length}
-use Rattle.m51_stackbound.proofs.Common.{get_or, take, map, replicate, refl, sym, ap, subst, ◌∙◌, arith, ◌⊎◌, inl}
-use Rattle.m51_stackbound.proofs.Common.{inr, Contains, cases_lt, get_or-set_same, get_or-set_other, length-set}
+use Rattle.m51_stackbound.proofs.Common.{get_or, take, map, replicate, refl, sym, ap, ◌∙◌, arith, ◌⊎◌, inl, inr}
+use Rattle.m51_stackbound.proofs.Common.{Contains, cases_lt, get_or-set_same, get_or-set_other, length-set}
 use Rattle.m51_stackbound.proofs.Common.{length-replicate, Contains-append_left, Contains-push, Contains-push_cases}
-use Rattle.m51_stackbound.proofs.Common.{LayoutParts, Proc, Start, Reset, At, same_or_not, Rises, Point, is_noted}
-use Rattle.m51_stackbound.proofs.Common.{AreStarts, AreListed, none_in_empty}
+use Rattle.m51_stackbound.proofs.Common.{LayoutParts, Proc, Start, Reset, At, same_or_not, Point, is_noted, AreStarts}
+use Rattle.m51_stackbound.proofs.Common.{AreListed}
 use Rattle.std.proofs.lemmas.List.{map-append}
 use Rattle.std.proofs.lemmas.List.Quantifiers.{all_pairs_push}
 use Rattle.m51_stackbound.specs.Listing.{with_start, HasStart, IsListed}
@@ -17,8 +17,7 @@ blank_start n k = grind (arith, common_steps)
 
 pub starts_none : (count : ℕ) (starts : List Bool) → count ≡ 65536 → starts ≡ replicate count false
     → AreStarts [] starts
-starts_none count starts is e =
-    grind (arith, common_steps, length-replicate {A = Bool} count false, blank_start count, none_in_empty)
+starts_none count starts is e = grind (arith, length-replicate, blank_start)
 
 module _ (points : List Point) (i : ℕ) (d : Point) (below : i < length points) where
   abbrev here : Point
@@ -35,11 +34,7 @@ module _ (points : List Point) (i : ℕ) (d : Point) (below : i < length points)
 
   pub starts_more : (old : List Bool) (start : Start) → here.start ≡ start → ((at : ℕ) → start ≡ At at → at < 65536)
       → AreStarts (take i points) old → AreStarts (take (i + 1) points) (with_start old start)
-  starts_more old Reset s few h = record {
-    len = h.len;
-    only = λ at k. kept at (h.only at k);
-    all = λ at k. grind (arith, common_steps, start_cases at k, h.all at);
-  }
+  starts_more old Reset s few h = grind (arith, kept, start_cases)
   starts_more old (At a) s few h =
       let inside : a < length old = omega (arith, few a refl) in
       record {
@@ -81,23 +76,23 @@ module _ (l : LayoutParts) (starts : List Bool) (depths : List ℕ) where
   listed_more end procs p at_is is h =
       let more : map at_of (procs ++ p ∷ []) ≡ map at_of procs ++ p.at ∷ [] = map-append at_of procs (p ∷ []) in
       record {
-        rising = subst Rises (sym more)
+        rising = rw more
             (all_pairs_push (λ (one two : ℕ). one < two) (map at_of procs) p.at h.rising
-            (λ k d below. let less = below_all procs end h.below k d below in omega (arith, less, at_is)));
+            (omega (arith, below_all procs end h.below)));
         below = λ q k. elim (Contains-push_cases procs p q k) [
           | inl before ↦ let less = h.below q before in omega (arith, less)
           | inr e ↦ let same = ap at_of e in omega (arith, same, at_is)
         ];
         each = λ q k. elim (Contains-push_cases procs p q k) [
           | inl before ↦ h.each q before
-          | inr e ↦ subst (λ (r : Proc). IsListed l starts depths r) e is
+          | inr e ↦ rw e at is
         ];
-        all = λ at below k. subst (λ ns. Contains ns at) (sym more)
+        all = λ at below k. rw more
             (elim (cases_lt at end) [
               | inl early ↦ Contains-append_left (map at_of procs) (p.at ∷ []) at (h.all at early k)
               | inr late ↦
                   let same : p.at ≡ at = omega (arith, late, below, at_is) in
-                  subst (λ n. Contains (map at_of procs ++ p.at ∷ []) n) same (Contains-push (map at_of procs) p.at)
+                  rw (← same) (Contains-push (map at_of procs) p.at)
             ]);
       }
 

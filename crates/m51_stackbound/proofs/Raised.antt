@@ -1,22 +1,18 @@
 -- Depths that are raised until no call gives more.
-use Rattle.m51_stackbound.proofs.Common.{◌≡◌, ◌<◌, ◌≤◌, ◌+◌, ℕ, Bool, true, false, List, [], length, get_or}
-use Rattle.m51_stackbound.proofs.Common.{take, replicate, refl, sym, subst, ◌∙◌, arith, inl, inr, Option, Some}
-use Rattle.m51_stackbound.proofs.Common.{None, Contains, cases_lt, common_steps}
-use Rattle.m51_stackbound.proofs.Common.{get_or-set_same, get_or-set_other, length-set, Instr, LayoutParts, same_or_not}
-use Rattle.m51_stackbound.proofs.Common.{Point, Start, At, IsCyclic, cap, depth_in, IsClimbing, Raises, IsRaised}
-use Rattle.m51_stackbound.proofs.Common.{AreSettled, CallsAt, CallsThrough, HasHeight, Takes, Own, call_of, entry_at}
-use Rattle.m51_stackbound.proofs.Common.{IsPoint, After, rank, ArePoints}
-use Rattle.std.proofs.Common.{◌||◌}
-use Rattle.std.proofs.Common.{sum}
+use Rattle.m51_stackbound.proofs.Common.{◌≡◌, ◌<◌, ◌≤◌, ◌+◌, ℕ, Bool, true, false, List, [], length, get_or, take}
+use Rattle.m51_stackbound.proofs.Common.{replicate, refl, arith, inl, inr, Option, Some, Contains}
+use Rattle.m51_stackbound.proofs.Common.{common_steps, get_or-set_same, get_or-set_other}
+use Rattle.m51_stackbound.proofs.Common.{length-set, Instr, LayoutParts, Point, Start, At, IsCyclic, cap}
+use Rattle.m51_stackbound.proofs.Common.{depth_in, IsClimbing, Raises, IsRaised, AreSettled, CallsAt, CallsThrough}
+use Rattle.m51_stackbound.proofs.Common.{HasHeight, Takes, Own, call_of, entry_at, IsPoint, After, rank, ArePoints}
+use Rattle.std.proofs.Common.{◌||◌, sum}
 use Rattle.m51_cells.proofs.ListsAndOptions.{sum_most}
 use Rattle.m51_stackbound.specs.declared.calls.Call.{Call as StartCall}
 use Rattle.m51_stackbound.specs.Callers.{AreCallsOf}
-use Rattle.m51_stackbound.specs.Climb.{depth_by, TakesDepth, AreTaken, IsBlank}
-use Rattle.m51_stackbound.specs.Climb.{SaysDepth}
+use Rattle.m51_stackbound.specs.Climb.{depth_by, TakesDepth, AreTaken, IsBlank, SaysDepth}
 use Rattle.m51_stackbound.specs.Depths.{Calls, Direct, Through, Call}
 use Rattle.m51_stackbound.specs.Instructions.{is_call}
-use Rattle.m51_stackbound.specs.Points.{call_by, ends_at, follow_by, instruction}
-use Rattle.m51_stackbound.specs.Points.{pops_below, pushes_above, sets_stack}
+use Rattle.m51_stackbound.specs.Points.{call_by, ends_at, follow_by, instruction, pops_below, pushes_above, sets_stack}
 use Rattle.m51_stackbound.proofs.CallRows.{calls_all, calls_in}
 use Rattle.m51_stackbound.proofs.Leasts.{front_cases}
 
@@ -32,35 +28,16 @@ call_goes p instr h = grind arith
 pub call_enters : (l : LayoutParts) (p : Point) (to : ℕ) (o : Option Instr) → call_by l p o ≡ Some to
     → Contains (follow_by l p o) (entry_at to)
 unfolding call_by follow_by
-call_enters l p to None h = absurd (cc h)
-call_enters l p to (Some instr) h = by (is_call instr) refl
-  where
-    by : (b : Bool) → is_call instr ≡ b → Contains (follow_by l p (Some instr)) (entry_at to)
-    by false e = cc
-    by true e = grind (arith, call_goes)
+call_enters l p to o h = grind (arith, call_goes)
 
 pub rank_same : (s t : Start) → rank s ≡ rank t → s ≡ t
 rank_same s t e = grind arith
 
-cap_low : (n : ℕ) → n < 256 → cap n ≡ n
-cap_low n h = grind (arith, h)
-
-pub at_most : (depth n : ℕ) → depth ≤ 255 → cap n ≤ depth → n ≤ depth
+at_most : (depth n : ℕ) → depth ≤ 255 → cap n ≤ depth → n ≤ depth
 at_most depth n few h = grind (arith, few, h)
 
 at_zero : (n depth : ℕ) → cap n ≤ depth → depth ≡ 0 → n ≡ 0
 at_zero n depth h none = grind (arith, h, none)
-
-at_call : (depths : List ℕ) (c : StartCall) (bytes depth : ℕ) → cap bytes ≤ depth_in depths (At c.to)
-    → depth_by depths c ≤ depth → cap (c.height + 2 + bytes) ≤ depth
-at_call depths c bytes depth below h = grind (arith, below, h)
-
-call_less : (depths : List ℕ) (c : StartCall) (depth : ℕ) → depth ≤ 255 → depth_by depths c ≤ depth
-    → depth_in depths (At c.to) < depth
-call_less depths c depth few h = grind (arith, few, h)
-
-by_few : (depths : List ℕ) (c : StartCall) → depth_by depths c ≤ 256
-by_few depths c = grind arith
 
 module _ (l : LayoutParts) (image : List ℕ) where
   pub taken_first : (depths : List ℕ) → IsBlank depths → AreTaken l image depths
@@ -78,7 +55,7 @@ module _ (l : LayoutParts) (image : List ℕ) where
     path = [];
     bytes = p.height;
     takes = Own p.start p.height (grind arith);
-    depth_is = sym (cap_low p.height (omega (arith, few)));
+    depth_is = omega (arith, few);
   }
 
   -- what a start takes by a call
@@ -97,13 +74,8 @@ module _ (l : LayoutParts) (image : List ℕ) where
   -- one depth is raised
   raised : (old new : List ℕ) (start : Start) (depth : ℕ) (rose : Bool) → rank start < length old → depth ≤ 256
       → AreTaken l image old → TakesDepth l image start depth → Raises start depth old new rose → AreTaken l image new
-  raised old new start depth false below few are taken h = rw h.1 are
-  raised old new start depth true below few are taken h = subst (λ ds. AreTaken l image ds) (sym h.1) (record {
-    len = length-set old (rank start) depth ∙ are.len;
-    most =
-        λ i inside. grind (arith, common_steps, are.most i (omega (arith, inside, length-set old (rank start) depth)));
-    taken = λ s. grind (arith, same_or_not, rank_same, get_or-set_same, get_or-set_other, rank);
-  })
+  raised old new start depth rose below few are taken h =
+      grind (arith, length-set, rank_same, get_or-set_same, get_or-set_other, rank)
 
   -- no depth is less then, and that of the start is as much as this
   record HasRisen (old new : List ℕ) (start : Start) (depth : ℕ) (rose : Bool) : Type 0 where
@@ -151,18 +123,11 @@ module _ (l : LayoutParts) (image : List ℕ) where
       → IsRaised l image (take (i + 1) calls) old new (up || rose)
   raised_next calls i d old now new rose true below inside is h up =
       let c = get_or calls i d in
-      let r = has_risen now new c.from (depth_by now c) true inside (by_few now c) h.are (call_taken now c is h.are)
+      let r = has_risen now new c.from (depth_by now c) true inside (omega arith) h.are (call_taken now c is h.are)
       up in
-      let sums = r.more refl in
-      record {
-        are = r.are;
-        grown = λ s. omega arith;
-        high = λ e. absurd (cc e);
-        not_less = omega arith;
-        more = λ e. omega arith;
-      }
+      grind arith
   raised_next calls i d old now new rose false below inside is h up =
-      subst (λ ds. IsRaised l image (take (i + 1) calls) old ds rose) (sym up.1) (record {
+      rw up.1 (record {
         are = h.are;
         grown = h.grown;
         high = λ e q k. grind (arith, front_cases calls i d q below k);
@@ -196,52 +161,35 @@ module _ (l : LayoutParts) (image : List ℕ) where
     pub settled_call : (start : Start) (height to bytes : ℕ) → CallsAt l image start height to
         → cap bytes ≤ depth_in depths (At to) → cap (height + 2 + bytes) ≤ depth_in depths start
     settled_call start height to bytes c below =
-        at_call depths (record { from = start; height = height; to = to }) bytes (depth_in depths start) below
-        (of_call start height to c)
+        omega (arith, below, of_call start height to c)
 
     -- what a start takes is no more than its depth in a settled table, where that is at most 255
     pub takes_most : (start : Start) (path : List Start) (bytes : ℕ) → Takes l image start path bytes
         → cap bytes ≤ depth_in depths start
-    takes_most start _ bytes (Own _ _ h) = settled_own start bytes h
+    takes_most start _ bytes (Own _ _ h) = settled_own _ _ h
     takes_most start _ _ (Call _ height to more bytes c rest) =
-        settled_call start height to bytes c (takes_most (At to) more bytes rest)
+        settled_call _ _ _ _ c (takes_most (At to) more bytes rest)
 
     -- a settled table says the depth of each start, or that it is above 255
     pub settled_says : (start : Start) (height : ℕ) → HasHeight l image start height
         → SaysDepth l image start (depth_in depths start)
     settled_says start height h = elim (s.are.taken start) [
       | inl none ↦
-          let low = settled_own start height h in
           grind (arith, at_zero, Own, at_most, depth_in, takes_most)
-      | inr t ↦ elim (cases_lt t.bytes 256) [
-        | inl low ↦
-            let is : depth_in depths start ≡ t.bytes = t.depth_is ∙ cap_low t.bytes low in
-            inl (
-              omega (arith, is, low),
-              record {
-                path = t.path;
-                takes = rw is t.takes;
-                most = grind (arith, takes_most start);
-              },
-            )
-        | inr high ↦ grind arith
-      ]
+      | inr t ↦ grind (arith, takes_most)
     ]
 
     -- a start whose depth is not above 255 is deeper than each that it calls, directly or through others
     calls_less : (start : Start) (to : ℕ) → depth_in depths start ≤ 255 → Calls l image start to
         → depth_in depths (At to) < depth_in depths start
-    calls_less start to low (height, c) =
-        call_less depths (record { from = start; height = height; to = to }) (depth_in depths start) low
-        (of_call start height to c)
+    calls_less start to low (height, c) = omega (arith, low, of_call start height to c)
 
     through_less : (start : Start) (to : ℕ) → depth_in depths start ≤ 255 → CallsThrough l image start to
         → depth_in depths (At to) < depth_in depths start
-    through_less start _ low (Direct to h) = calls_less start to low h
+    through_less start _ low (Direct to h) = calls_less start _ low h
     through_less start _ low (Through via to h k) =
         let before = through_less start via low h in
-        let after = calls_less (At via) to (omega (arith, low, before)) k in
-        omega (arith, before, after)
+        omega (arith, calls_less (At via) _ (omega (arith, low, before)) k)
 
     -- so it does not call itself
     pub low_not_cyclic : (start : Start) → depth_in depths start ≤ 255 → IsCyclic l image start → ⊥

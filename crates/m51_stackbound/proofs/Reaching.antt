@@ -1,9 +1,9 @@
 -- The search for points finds those that are, and no others.
-use Rattle.m51_stackbound.proofs.Common.{◌≡◌, ◌≢◌, ◌<◌, ◌≤◌, ◌+◌, ℕ, List, [], ◌∷◌, ◌++◌, length, get_or, sym}
-use Rattle.m51_stackbound.proofs.Common.{subst, ◌∙◌, arith, ◌⊎◌, inl, inr, Contains, cases_lt, common_steps}
-use Rattle.m51_stackbound.proofs.Common.{Contains-get_or, Contains-push, Contains-push_cases}
-use Rattle.m51_stackbound.proofs.Common.{contains_after, first_or_after, none_in_empty, Result, LayoutParts}
-use Rattle.m51_stackbound.proofs.Common.{Point, successors, IsReached, First, After, Notes, NotesAll}
+use Rattle.m51_stackbound.proofs.Common.{◌≡◌, ◌≢◌, ◌<◌, ◌≤◌, ◌+◌, ℕ, List, [], ◌∷◌, ◌++◌, length, get_or, arith, ◌⊎◌}
+use Rattle.m51_stackbound.proofs.Common.{inl, inr, Contains, cases_lt, common_steps, Contains-append_left}
+use Rattle.m51_stackbound.proofs.Common.{Contains-get_or, Contains-push, Contains-push_cases, contains_after}
+use Rattle.m51_stackbound.proofs.Common.{first_or_after, none_in_empty, Result, LayoutParts, Point, successors}
+use Rattle.m51_stackbound.proofs.Common.{IsReached, First, After, Notes, NotesAll}
 use Rattle.std.proofs.lemmas.List.Quantifiers.{all_pairs_push}
 use Rattle.m51_cells.specs.declared.limits.TheConstants.{MOST_POINTS}
 use Rattle.std.specs.Prelude.{IfOk, Option}
@@ -26,51 +26,33 @@ new_differs old p new h =
     all_pairs_push (λ a b. a ≢ b) old p h
     (λ k d below e. new (k, below, grind (arith, common_steps)))
 
-pub note_grows : (old new : List Point) (p : Point) → Notes old p new → Grows old new (λ q. p ≡ q)
-note_grows old new p (inl (same, there)) = subst (λ l. Grows old l (λ q. p ≡ q)) (sym same) (grind arith)
-note_grows old new p (inr (is, absent)) = subst (λ l. Grows old l (λ q. p ≡ q)) (sym is) (record {
-  front = grind (arith, common_steps);
-  longer = grind (arith, common_steps);
-  from = λ q h. Contains-push_cases old p q h;
-  kept = grind (arith, common_steps);
-  all = λ q e. rw (← e) (Contains-push old p);
-  different = λ h. new_differs old p absent h;
-})
-
--- growing twice
-pub grows_twice : (old middle new : List Point) (one two : Point → Type 0) → Grows old middle one → Grows middle new two
-    → Grows old new (λ p. one p ⊎ two p)
-grows_twice old middle new one two g h = record {
-  front = λ i d below. h.front i d (omega arith) ∙ g.front i d below;
-  longer = omega arith;
-  from = grind (arith, common_steps);
-  kept = λ p k. h.kept p (g.kept p k);
-  all = grind arith;
-  different = λ k. h.different (g.different k);
-}
-
--- the first of a list is in it
-pub contains_first : (p : Point) (ps : List Point) (q : Point) → p ≡ q → Contains (p ∷ ps) q
-contains_first p ps q e = (0, omega arith, e)
-
 pub notes_grow : (ps old new : List Point) → NotesAll old ps new → Grows old new (λ q. Contains ps q)
-notes_grow [] old new same = subst (λ l. Grows old l (λ q. Contains [] q)) (sym same) (grind arith)
-notes_grow (p ∷ ps) old new (middle, first, rest) =
-    let g = grows_twice old middle new (λ q. p ≡ q) (λ q. Contains ps q) (note_grows old middle p first)
-    (notes_grow ps middle new rest) in
+notes_grow [] old new same = rw same (grind arith)
+notes_grow (p ∷ ps) old new (middle, inl (same, there), rest) =
+    let g = rw same at (notes_grow ps middle new rest) in
     record {
       front = g.front;
       longer = g.longer;
-      from = λ q h. elim (g.from q h) [
-        | inl before ↦ inl before
-        | inr added ↦ elim added [
-          | inl here ↦ inr (contains_first p ps q here)
-          | inr there ↦ inr (contains_after p ps q there)
-        ]
-      ];
+      from = λ q h. elim (g.from q h) [ inl before ↦ inl before | inr later ↦ inr (contains_after p ps q later) ];
       kept = g.kept;
-      all = λ q h. g.all q (first_or_after p ps q h);
+      all = grind arith;
       different = g.different;
+    }
+notes_grow (p ∷ ps) old new (middle, inr (is, absent), rest) =
+    let g = rw is at (notes_grow ps middle new rest) in
+    record {
+      front = λ i d below. grind (arith, common_steps, g.front i d);
+      longer = grind (arith, common_steps, g.longer);
+      from = λ q h. elim (g.from q h) [
+        | inl before ↦ elim (Contains-push_cases old p q before) [ inl k ↦ inl k | inr e ↦ inr (0, omega arith, e) ]
+        | inr later ↦ inr (contains_after p ps q later)
+      ];
+      kept = λ q k. g.kept q (Contains-append_left old (p ∷ []) q k);
+      all = λ q h. elim (first_or_after p ps q h) [
+        | inl e ↦ g.kept q (rw (← e) (Contains-push old p))
+        | inr later ↦ g.all q later
+      ];
+      different = λ h. g.different (new_differs old p absent h);
     }
 
 -- the search: what is found are points, the first ones are found, and so are the successors of those that were looked
@@ -125,7 +107,7 @@ module _ (l : LayoutParts) (image : List ℕ) (firsts : List Point) where
   all_found points next s done _ (First p first) = s.begun p first
   all_found points next s done _ (After p q is after) =
       let h = all_found points next s done p is in
-      s.looked h.0 p q (omega (arith, h.1, done)) h.1 (subst (λ r. Contains (successors l image r) q) (sym h.2) after)
+      s.looked h.0 p q (omega (arith, h.1, done)) h.1 (rw h.2 after)
 
   pub search_done : (points : List Point) (next : ℕ) → IsSearching l image firsts points next → length points ≤ next
       → AreReached l image firsts points

@@ -1,12 +1,11 @@
 -- Points and the starts that they are of: what is entered, what covers it, and which root leads to it.
 use Rattle.std.proofs.lemmas.Grind.{common_steps}
-use Rattle.m51_stackbound.proofs.Common.{◌≡◌, ◌≤◌, ◌+◌, ℕ, suc, List, [], ◌∷◌, map, refl, sym, ap, ◌∙◌}
-use Rattle.m51_stackbound.proofs.Common.{arith, ◌⊎◌, inl, inr, Contains, LayoutParts, Start, Reset, At, Point, Nothing}
-use Rattle.m51_stackbound.proofs.Common.{One, ComesTo, CallsAt, HasHeight, Takes, Own, entry_at, first_points, point_at}
-use Rattle.m51_stackbound.proofs.Common.{IsPoint, IsReached, First, After, handlers, contains_after, first_or_after}
-use Rattle.m51_stackbound.proofs.Common.{none_in_empty}
+use Rattle.m51_stackbound.proofs.Common.{◌≡◌, ◌≤◌, ◌+◌, ℕ, List, [], ◌∷◌, map, refl, sym, ap, ◌∙◌, arith, ◌⊎◌, inl, inr}
+use Rattle.m51_stackbound.proofs.Common.{Contains, LayoutParts, Start, Reset, At, Point, Nothing, One, ComesTo, CallsAt}
+use Rattle.m51_stackbound.proofs.Common.{HasHeight, Takes, Own, entry_at, first_points, point_at, IsPoint, IsReached}
+use Rattle.m51_stackbound.proofs.Common.{First, After, handlers, contains_after, first_or_after}
+use Rattle.m51_cells.proofs.Members.{contains_in, in_contains, in_map}
 use Rattle.m51_stackbound.specs.Depths.{Call}
-use Rattle.m51_stackbound.proofs.Reaching.{contains_first}
 use Rattle.m51_stackbound.proofs.Stepping.{steps_to}
 
 -- an element of a list of entries is the entry of an element
@@ -16,12 +15,9 @@ pub record IsEntryOf (vs : List ℕ) (p : Point) : Type 0 where
   pub is : p ≡ entry_at vector
 
 entry_of : (vs : List ℕ) (p : Point) → Contains (map entry_at vs) p → IsEntryOf vs p
-entry_of [] p h = absurd (none_in_empty p h)
-entry_of (v ∷ vs) p h = elim (first_or_after (entry_at v) (map entry_at vs) p h) [
-  | inl e ↦ record { vector = v; listed = (0, omega arith, refl); is = sym e }
-  | inr more ↦ let r = entry_of vs p more in
-      record { vector = r.vector; listed = (suc r.listed.0, omega (arith, r.listed.1), r.listed.2); is = r.is }
-]
+entry_of vs p h =
+    let r = in_map entry_at vs p (in_contains (map entry_at vs) p h) in
+    grind (arith, contains_in)
 
 entry_listed : (vs : List ℕ) (v : ℕ) → Contains vs v → Contains (map entry_at vs) (entry_at v)
 entry_listed vs v h = grind (arith, common_steps)
@@ -29,9 +25,6 @@ entry_listed vs v h = grind (arith, common_steps)
 -- starts at one address
 pub same_address : (a b : ℕ) → At a ≡ At b → a ≡ b
 same_address a b e = cc e
-
-not_reset : (a : ℕ) → Reset ≡ At a → ⊥
-not_reset a e = absurd (cc e)
 
 module _ (l : LayoutParts) (image : List ℕ) where
   -- the first points are the reset's, and the entries of the interrupts that have handlers
@@ -42,12 +35,18 @@ module _ (l : LayoutParts) (image : List ℕ) where
   ]
 
   pub reset_first : IsPoint l image (point_at Reset 0 7)
-  reset_first = First (point_at Reset 0 7)
-      (contains_first (point_at Reset 0 7) (map entry_at (handlers l)) (point_at Reset 0 7) refl)
+  reset_first = First (point_at Reset 0 7) (0, omega arith, refl)
 
   pub handler_first : (v : ℕ) → Contains (handlers l) v → IsPoint l image (entry_at v)
   handler_first v h = First (entry_at v)
       (contains_after (point_at Reset 0 7) (map entry_at (handlers l)) (entry_at v) (entry_listed (handlers l) v h))
+
+  -- heights where roots begin
+  pub reset_height : HasHeight l image Reset 7
+  reset_height = grind (arith, reset_first)
+
+  pub handler_height : (v : ℕ) → Contains (handlers l) v → HasHeight l image (At v) 0
+  handler_height v h = grind (arith, handler_first v h)
 
   -- a point of the start at an address
   pub record IsUnder (a : ℕ) (p : Point) : Type 0 where
@@ -55,23 +54,22 @@ module _ (l : LayoutParts) (image : List ℕ) where
     pub reached : IsReached l image (entry_at a ∷ []) p
 
   itself : (a : ℕ) → IsPoint l image (entry_at a) → IsUnder a (entry_at a)
-  itself a is = record { entered = is; reached = First (entry_at a) (contains_first (entry_at a) [] (entry_at a) refl) }
+  itself a is = grind (arith, First)
 
   entry_under : (a to : ℕ) (p : Point) → p ≡ entry_at to → p.start ≡ At a → IsPoint l image p → IsUnder a p
   entry_under a to p e s is =
-      let same : to ≡ a = same_address to a (cc) in
       grind (arith, itself)
 
   -- each point of a start is reached from the start's entry
   pub under : (a : ℕ) (p : Point) → IsPoint l image p → p.start ≡ At a → IsUnder a p
   under a _ (First p first) s = elim (first_cases p first) [
-    | inl e ↦ absurd (not_reset a (sym (ap (λ (q : Point). q.start) e) ∙ s))
+    | inl e ↦ grind arith
     | inr h ↦ entry_under a h.vector p h.is s (First p first)
   ]
   under a _ (After p q is after) s = elim (steps_to l image p q after) [
     | inl within ↦
         let before = under a p is (sym within.start_is ∙ s) in
-        record { entered = before.entered; reached = After p q before.reached after }
+        grind (arith, After)
     | inr entry ↦ entry_under a entry.to q entry.is s (After p q is after)
   ]
 
@@ -82,8 +80,7 @@ module _ (l : LayoutParts) (image : List ℕ) where
     pub high : bytes ≤ value
 
   reset_takes : Takes l image Reset [] 7
-  reset_takes = Own Reset 7
-      (grind (arith, reset_first))
+  reset_takes = Own Reset 7 reset_height
 
   reset_above : (path : List Start) (bytes : ℕ) → Takes l image Reset path bytes → ComesAbove bytes
   reset_above path bytes t = record {

@@ -1,14 +1,13 @@
 -- Where the successors of a point are: under its own start, or at the entry of a start that it calls.
 use Rattle.std.proofs.Common.{arith}
-use Rattle.m51_stackbound.proofs.Common.{◌≡◌, ℕ, Bool, true, false, List, [], ◌∷◌, ◌++◌, refl, ◌⊎◌, inl}
-use Rattle.m51_stackbound.proofs.Common.{inr, Option, Some, None, if◌then◌else◌, is_some, Contains, Instr, LayoutParts}
-use Rattle.m51_stackbound.proofs.Common.{Point, call_of, entry_at, successors, none_in_empty}
+use Rattle.m51_stackbound.proofs.Common.{◌≡◌, ℕ, Bool, true, List, [], ◌∷◌, ◌⊎◌, inl, inr, Option, Some, None, is_some}
+use Rattle.m51_stackbound.proofs.Common.{Contains, Instr, LayoutParts, Point, call_of, cases_Bool, entry_at, successors}
+use Rattle.m51_stackbound.proofs.Common.{none_in_empty}
 use Rattle.std.proofs.lemmas.List.Elements.{Contains-append_cases}
-use Rattle.m51_module.specs.Walks.{Edges}
 use Rattle.m51_stackbound.specs.Instructions.{is_call, is_jump, next_of, target_of}
-use Rattle.m51_stackbound.specs.Points.{after_call, after_instr, at_next, at_target, call_by, called, ends_at}
-use Rattle.m51_stackbound.specs.Points.{follow, follow_by, height_after, instruction}
-use Rattle.m51_stackbound.specs.Units.{counts, in_one_unit, same_or_edge, same, unit_of}
+use Rattle.m51_stackbound.specs.Points.{after_call, after_instr, at_next, at_target, call_by, called, ends_at, follow}
+use Rattle.m51_stackbound.specs.Points.{follow_by, height_after, instruction}
+use Rattle.m51_stackbound.specs.Units.{counts, in_one_unit, same, unit_of}
 
 -- a unit covers the address
 abbrev pub is_covered : LayoutParts → ℕ → Bool
@@ -29,18 +28,11 @@ pub record IsEntry (l : LayoutParts) (call : Option ℕ) (q : Point) : Type 0 wh
 abbrev pub StepsTo : LayoutParts → Point → Option ℕ → Point → Type 0
 StepsTo l p call q = IsWithin l p q ⊎ IsEntry l call q
 
-from_cond : {X : Type 0} (b : Bool) (xs ys : List X) (q : X) → Contains (if b then xs else ys) q
-    → ((b ≡ true) × Contains xs q) ⊎ ((b ≡ false) × Contains ys q)
-from_cond b xs ys q h = grind arith
-
 pub only_one : (p q : Point) → Contains (p ∷ []) q → p ≡ q
 only_one p q h = grind arith
 
 same_right : (one two : Option ℕ) → same one two ≡ true → is_some two ≡ true
 same_right one two h = grind arith
-
-joined_right : (edges : Edges) (one two : Option ℕ) → same_or_edge edges one two ≡ true → is_some two ≡ true
-joined_right edges one two h = grind arith
 
 module _ (l : LayoutParts) (p : Point) where
   next_covered : (next : ℕ) → in_one_unit l p.address next ≡ true → is_covered l next ≡ true
@@ -49,7 +41,7 @@ module _ (l : LayoutParts) (p : Point) where
 
   target_covered : (target : ℕ) → counts l p.address target ≡ true → is_covered l target ≡ true
   unfolding counts
-  target_covered target h = joined_right l.edges (unit_of l p.address) (unit_of l target) h
+  target_covered target h = grind arith
 
   next_within : (next height : ℕ) (q : Point) → Contains (at_next l p next height) q → IsWithin l p q
   unfolding at_next
@@ -59,19 +51,11 @@ module _ (l : LayoutParts) (p : Point) where
   target_within : (target : Option ℕ) (height : ℕ) (q : Point) → Contains (at_target l p target height) q
       → IsWithin l p q
   unfolding at_target
-  target_within None height q h = absurd (none_in_empty q h)
-  target_within (Some target) height q h =
-      grind (arith, target_covered target)
+  target_within target height q h = grind (arith, target_covered)
 
   called_covered : (target : Option ℕ) (to : ℕ) → called l p target ≡ Some to → is_covered l to ≡ true
   unfolding called
-  called_covered None to h = absurd (cc h)
-  called_covered (Some target) to h = by (counts l p.address target) refl
-    where
-      by : (b : Bool) → counts l p.address target ≡ b → is_covered l to ≡ true
-      by true e =
-          cc (target_covered target e)
-      by false e = cc
+  called_covered target to h = grind (arith, target_covered)
 
   call_steps : (next : ℕ) (call : Option ℕ) (q : Point) → ((to : ℕ) → call ≡ Some to → is_covered l to ≡ true)
       → Contains (after_call l p next call) q → StepsTo l p call q
@@ -80,35 +64,27 @@ module _ (l : LayoutParts) (p : Point) where
       grind (arith, next_within next p.height q)
 
   instr_within : (instr : Instr) (next : ℕ) (q : Point) → Contains (after_instr l p instr next) q → IsWithin l p q
-  instr_within instr next q h =
-      elim (from_cond (is_jump instr) (at_target l p (target_of instr next) p.height)
-      (at_next l p next (height_after p.height instr)
-      ++ at_target l p (target_of instr next) (height_after p.height instr)) q h) [
-        | inl t ↦ target_within (target_of instr next) p.height q t.1
-        | inr t ↦ elim (Contains-append_cases (at_next l p next (height_after p.height instr))
-            (at_target l p (target_of instr next) (height_after p.height instr)) q t.1) [
-              | inl one ↦ next_within next (height_after p.height instr) q one
-              | inr two ↦ target_within (target_of instr next) (height_after p.height instr) q two
-            ]
-      ]
+  instr_within instr next q h = elim (cases_Bool (is_jump instr)) [
+    | inl jumps ↦ target_within (target_of instr next) p.height q (rw jumps at h)
+    | inr goes ↦ elim (Contains-append_cases (at_next l p next (height_after p.height instr))
+        (at_target l p (target_of instr next) (height_after p.height instr)) q (rw goes at h)) [
+          | inl one ↦ next_within next (height_after p.height instr) q one
+          | inr two ↦ target_within (target_of instr next) (height_after p.height instr) q two
+        ]
+  ]
 
   steps_by : (o : Option Instr) (q : Point) → Contains (follow_by l p o) q → StepsTo l p (call_by l p o) q
   unfolding follow_by call_by
   steps_by None q h = absurd (none_in_empty q h)
-  steps_by (Some instr) q h = elim (from_cond (ends_at p instr) [] (follow l p instr (next_of instr p.address)) q h) [
-    | inl none ↦ absurd (none_in_empty q none.1)
-    | inr goes ↦ elim (from_cond (is_call instr)
-        (after_call l p (next_of instr p.address) (called l p (target_of instr (next_of instr p.address))))
-        (after_instr l p instr (next_of instr p.address)) q goes.1) [
-          | inl call ↦
-              let at = target_of instr (next_of instr p.address) in
-              grind (
-                arith,
-                call_steps (next_of instr p.address) (called l p at) q (λ to e. called_covered at to e)
-                    call.1,
-              )
-          | inr other ↦ inl (instr_within instr (next_of instr p.address) q other.1)
-        ]
+  steps_by (Some instr) q h = elim (cases_Bool (ends_at p instr)) [
+    | inl ends ↦ absurd (none_in_empty q (rw ends at h))
+    | inr goes ↦ elim (cases_Bool (is_call instr)) [
+      | inl call ↦
+          let at = target_of instr (next_of instr p.address) in
+          rw call
+          (call_steps (next_of instr p.address) (called l p at) q (called_covered at) (rw (goes, call) at h))
+      | inr other ↦ inl (instr_within instr (next_of instr p.address) q (rw (goes, other) at h))
+    ]
   ]
 
 -- each successor is of the same start, or the entry of a start that the point calls

@@ -1,6 +1,6 @@
 -- The total is the sum of depths, where the roots have depths.
-use Rattle.m51_stackbound.proofs.Common.{◌≤◌, ◌+◌, ℕ, List, arith, LayoutParts, Reset, Nothing, One}
-use Rattle.m51_stackbound.proofs.Common.{ComesTo, IsTotal, IsDepth}
+use Rattle.m51_stackbound.proofs.Common.{◌≤◌, ◌+◌, ℕ, List, arith, LayoutParts, Reset, Nothing, One, ComesTo, IsTotal}
+use Rattle.m51_stackbound.proofs.Common.{IsDepth}
 use Rattle.m51_stackbound.specs.Bounds.{Adds, Two}
 use Rattle.m51_stackbound.specs.Laws.{DepthsAdd, NoHandler, OneHandler, TwoHandlers, IsSumOfDepths, HaveDepths}
 use Rattle.m51_stackbound.specs.Laws.{TotalIsSumOfDepths}

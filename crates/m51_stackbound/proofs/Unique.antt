@@ -1,21 +1,22 @@
 -- The answer is unique: two answers that are tied, are the same.
-use Rattle.std.proofs.lemmas.Grind.{common_steps}
-use Rattle.m51_stackbound.proofs.Common.{◌≡◌, ◌<◌, ◌≤◌, ℕ, zero, suc, List, [], ◌∷◌, length, get_or, map, refl, sym, ap}
-use Rattle.m51_stackbound.proofs.Common.{subst, ◌∙◌, arith, inl, inr, Result, Ok, Err, Contains, cases_lt, LayoutParts}
-use Rattle.m51_stackbound.proofs.Common.{Proc, RootDepth, StackBound, Start, Reset, At, Rises, IsSound}
-use Rattle.m51_stackbound.proofs.Common.{ReachedAddress, HasTwoHeights, IsCyclic, IsTotal, Keeps, IsDepth}
-use Rattle.m51_stackbound.proofs.Common.{IsLeast, handlers, first_or_after, none_in_empty, First, first_points}
+use Rattle.std.proofs.lemmas.Map.Made.{IsDistinct-from_AllPairs, length-le_from_is_member}
+use Rattle.m51_stackbound.proofs.Common.{◌≡◌, ◌<◌, ◌≤◌, ℕ, zero, suc, List, [], ◌∷◌, length, map, refl, sym, ap, ◌∙◌}
+use Rattle.m51_stackbound.proofs.Common.{arith, inl, inr, Result, Ok, Err, Contains, Contains-from_any, cases_lt}
+use Rattle.m51_stackbound.proofs.Common.{list_any-from_Contains, LayoutParts, Point, Proc, RootDepth, StackBound, Start}
+use Rattle.m51_stackbound.proofs.Common.{Reset, At, IsSound, ReachedAddress, HasTwoHeights, IsCyclic, IsTotal, Keeps}
+use Rattle.m51_stackbound.proofs.Common.{IsLeast}
+use Rattle.m51_cells.proofs.Members.{Every, In, Pairs, all_pairs, contains_in, every_in, in_contains, in_map, map_in}
 use Rattle.std.specs.Prelude.{Some}
 use Rattle.m51_module.specs.declared.stack_bound.StackError.{StackError}
 use Rattle.m51_module.specs.declared.stack_bound.StackError.TheVariants.{K1, K2, K3, K4, K5, K6, Limit, Memory}
-use Rattle.m51_module.proofs.Units.{one_root, one_unit}
+use Rattle.m51_module.proofs.Units.{one_root}
 use Rattle.m51_stackbound.specs.declared.judging.Rule.TheVariants.{WritesSp, Computed, PopsBelow}
-use Rattle.m51_stackbound.specs.Bounds.{AreEach, AreFew, Answers, Breaks, IsBound, IsProc}
-use Rattle.m51_stackbound.specs.Bounds.{IsRootDepth, IsTooDeep}
+use Rattle.m51_stackbound.specs.Bounds.{AreEach, AreFew, Answers, Breaks, IsBound, IsProc, IsRootDepth, IsTooDeep}
 use Rattle.m51_stackbound.specs.Depths.{ComesFirst, IsPath}
 use Rattle.m51_stackbound.specs.Laws.{IsTied, AnswerIsUnique}
-use Rattle.m51_stackbound.proofs.Crowding.{few_reached}
-use Rattle.m51_stackbound.proofs.Raised.{rank_same}
+use Rattle.m51_stackbound.specs.Search.{AreDifferent}
+use Rattle.m51_stackbound.specs.contracts.point.PointEq.TheImpl.Laws.{laws-law}
+use Rattle.m51_stackbound.proofs.Noting.{same_point}
 
 -- how far the program passes before this answer comes
 stage : Result StackBound StackError → ℕ
@@ -37,75 +38,54 @@ first_same (s ∷ a) b h k = grind (arith, first_same a)
 abbrev at_of : Proc → ℕ
 at_of p = p.at
 
--- a procedure of a list that has the address
-record HasAt (ps : List Proc) (at : ℕ) : Type 0 where
-  pub proc : Proc
-  pub listed : Contains ps proc
-  pub is : proc.at ≡ at
-
-has_at : (ps : List Proc) (at : ℕ) → Contains (map at_of ps) at → HasAt ps at
-has_at [] at h = absurd (omega (arith, h.1))
-has_at (p ∷ ps) at (zero, below, is) = grind arith
-has_at (p ∷ ps) at (suc k, below, is) = let r = has_at ps at (k, omega (arith, below), is) in
-    record { proc = r.proc; listed = (suc r.listed.0, omega (arith, r.listed.1), r.listed.2); is = r.is }
-
-at_index : (ps : List Proc) (k : ℕ) (p : Proc) (d : ℕ) → k < length ps → get_or ps k p ≡ p
-    → get_or (map at_of ps) k d ≡ p.at
-at_index ps k p d below is = grind (arith, common_steps)
-
-at_length : (ps : List Proc) → length (map at_of ps) ≡ length ps
-at_length ps = grind (arith, common_steps)
-
 -- in a rising list the first is below the others
-rest_above : (p q : Proc) (ps : List Proc) → Rises (map at_of (p ∷ ps)) → Contains ps q → p.at < q.at
-rest_above p q ps rises k =
-    omega (arith, rises 0 (suc k.0) 0 (omega arith) (omega (arith, k.1, at_length ps)), at_index ps k.0 q 0 k.1 k.2)
+above : (p q : Proc) (ps : List Proc) → Every (λ at. p.at < at) (map at_of ps) → In q ps → p.at < q.at
+above p q ps h k = every_in (λ at. p.at < at) (map at_of ps) q.at h (map_in at_of ps q k)
 
-rest_rises : (p : Proc) (ps : List Proc) → Rises (map at_of (p ∷ ps)) → Rises (map at_of ps)
-rest_rises p ps rises i j d less within = rises (suc i) (suc j) d (omega (arith, less)) (omega (arith, within))
+abbrev Rise : List Proc → Type 0
+Rise ps = Pairs (λ (a b : ℕ). a < b) (map at_of ps)
 
-same_lists : (ps qs : List Proc) → Rises (map at_of ps) → Rises (map at_of qs)
-    → ((p : Proc) → Contains ps p → Contains qs p) → ((p : Proc) → Contains qs p → Contains ps p) → ps ≡ qs
+same_lists : (ps qs : List Proc) → Rise ps → Rise qs → ((p : Proc) → In p ps → In p qs)
+    → ((p : Proc) → In p qs → In p ps) → ps ≡ qs
 same_lists [] [] a b on back = refl
-same_lists [] (q ∷ qs) a b on back = absurd (none_in_empty q (back q (0, omega arith, refl)))
-same_lists (p ∷ ps) [] a b on back = absurd (none_in_empty p (on p (0, omega arith, refl)))
+same_lists [] (q ∷ qs) a b on back = absurd (back q (inl refl))
+same_lists (p ∷ ps) [] a b on back = absurd (on p (inl refl))
 same_lists (p ∷ ps) (q ∷ qs) a b on back =
-    let tails = same_lists ps qs (rest_rises p ps a) (rest_rises q qs b) on_rest back_rest in
+    let tails = same_lists ps qs a.1 b.1 on_rest back_rest in
     λ i. heads i ∷ tails i
   where
     heads : p ≡ q
-    heads = grind (
-      arith,
-      first_or_after q qs p (on p (0, omega arith, refl)),
-      first_or_after p ps q (back q (0, omega arith, refl)),
-      rest_above q p qs b,
-      rest_above p q ps a,
-    )
+    heads = elim (on p (inl refl)) [
+      | inl e ↦ sym e
+      | inr h ↦ elim (back q (inl refl)) [
+        | inl e ↦ e
+        | inr k ↦ absurd (omega (arith, above q p qs b.0 h, above p q ps a.0 k))
+      ]
+    ]
 
-    on_rest : (r : Proc) → Contains ps r → Contains qs r
-    on_rest r k = elim (first_or_after q qs r (on r (suc k.0, omega (arith, k.1), k.2))) [
-      | inl e ↦ let same = ap at_of (heads ∙ e) in absurd (omega (arith, rest_above p r ps a k, same))
+    on_rest : (r : Proc) → In r ps → In r qs
+    on_rest r k = elim (on r (inr k)) [
+      | inl e ↦ absurd (omega (arith, above p r ps a.0 k, ap at_of (heads ∙ e)))
       | inr h ↦ h
     ]
 
-    back_rest : (r : Proc) → Contains qs r → Contains ps r
-    back_rest r k = elim (first_or_after p ps r (back r (suc k.0, omega (arith, k.1), k.2))) [
-      | inl e ↦ let same = ap at_of (sym heads ∙ e) in absurd (omega (arith, rest_above q r qs b k, same))
+    back_rest : (r : Proc) → In r qs → In r ps
+    back_rest r k = elim (back r (inr k)) [
+      | inl e ↦ absurd (omega (arith, above q r qs b.0 k, ap at_of (sym heads ∙ e)))
       | inr h ↦ h
     ]
+
+-- different points that are among others are not more than these
+no_more : (xs ys : List Point) → AreDifferent xs → ((p : Point) → Contains xs p → Contains ys p) → length xs ≤ length ys
+no_more xs ys different among =
+    length-le_from_is_member laws-law xs ys
+    (IsDistinct-from_AllPairs
+    (λ a b. (same_point a b, λ e. cc (laws-law.refl a))) xs different)
+    (λ q h. list_any-from_Contains laws-law q ys (among q (Contains-from_any same_point q xs h)))
 
 module _ (l : LayoutParts) (image : List ℕ) where
-  depth_same : (start : Start) (d e : ℕ) → IsDepth l image start d → IsDepth l image start e → d ≡ e
-  depth_same start d e h k =
-      omega (arith, h.most k.path e k.takes, k.most h.path d h.takes)
-
   path_same : (start : Start) (p q : List Start) → IsPath l image start p → IsPath l image start q → p ≡ q
-  path_same start p q h k =
-      let deep = depth_same start h.depth k.depth h.is_depth k.is_depth in
-      let more : h.more ≡ k.more = first_same h.more k.more
-      (h.first k.more (rw deep k.takes))
-      (k.first h.more (rw deep at h.takes)) in
-      cc
+  path_same start p q h k = grind (arith, first_same)
 
   total_same : (a b : ℕ) → IsTotal l image a → IsTotal l image b → a ≡ b
   total_same a b h k =
@@ -113,25 +93,15 @@ module _ (l : LayoutParts) (image : List ℕ) where
 
   module _ (sound : IsSound l) where
     proc_same : (p q : Proc) → p.at ≡ q.at → IsProc l image p → IsProc l image q → p ≡ q
-    proc_same p q e h k = same e unit depth
-      where
-        same : p.at ≡ q.at → p.unit ≡ q.unit → p.depth ≡ q.depth → p ≡ q
-        same a b c = grind arith
-
-        unit : p.unit ≡ q.unit
-        unit = one_unit l sound q.at p.unit q.unit (rw e at h.unit) k.unit
-
-        depth : p.depth ≡ q.depth
-        depth = depth_same (At q.at) p.depth q.depth (rw e at h.depth) k.depth
+    proc_same p q e h k =
+        grind arith
 
     row_same : (start : Start) (vector : ℕ) (r s : RootDepth) → IsRootDepth l image start vector r
         → IsRootDepth l image start vector s → r ≡ s
     row_same start vector r s h k =
-        same (one_root l sound vector r.root s.root h.root k.root) (depth_same start r.depth s.depth h.depth k.depth)
-        (path_same start r.path s.path h.path k.path)
-      where
-        same : r.root ≡ s.root → r.depth ≡ s.depth → r.path ≡ s.path → r ≡ s
-        same a b c = grind arith
+        let root = one_root l sound vector r.root s.root h.root k.root in
+        let path = path_same start r.path s.path h.path k.path in
+        grind arith
 
     rows_same : (vs : List ℕ) (rs ss : List RootDepth)
         → AreEach (λ vector. IsRootDepth l image (At vector) vector) vs rs
@@ -142,30 +112,19 @@ module _ (l : LayoutParts) (image : List ℕ) where
     rows_same (v ∷ vs) (r ∷ rs) (s ∷ ss) h k = λ i. row_same (At v) v r s h.0 k.0 i ∷ rows_same vs rs ss h.1 k.1 i
     rows_same vs rs ss h k = absurd k
 
-    listed_in : (b c : StackBound) → IsBound l image b → IsBound l image c → (p : Proc) → Contains b.procs p
-        → Contains c.procs p
+    listed_in : (b c : StackBound) → IsBound l image b → IsBound l image c → (p : Proc) → In p b.procs → In p c.procs
     listed_in b c h k p listed =
-        let is = h.procs p listed in
-        let other = has_at c.procs p.at (k.all p.at is.is_start) in
-        rw (proc_same other.proc p other.is (k.procs other.proc other.listed) is) at other.listed
+        let is = h.procs p (contains_in b.procs p listed) in
+        let other = in_map at_of c.procs p.at (grind (arith, in_contains)) in
+        rw (proc_same other.0 p other.2 (k.procs other.0 (contains_in c.procs other.0 other.1)) is) at other.1
 
     bound_same : (b c : StackBound) → IsBound l image b → IsBound l image c → b ≡ c
-    bound_same b c h k = same procs roots (total_same b.total c.total h.total k.total)
-      where
-        same : b.procs ≡ c.procs → b.roots ≡ c.roots → b.total ≡ c.total → b ≡ c
-        same x y z = grind arith
-
-        procs : b.procs ≡ c.procs
-        procs = same_lists b.procs c.procs h.rising k.rising (listed_in b c h k) (listed_in c b k h)
-
-        heads : h.reset ≡ k.reset
-        heads = row_same Reset 0 h.reset k.reset h.reset_is k.reset_is
-
-        tails : h.interrupts ≡ k.interrupts
-        tails = rows_same (handlers l) h.interrupts k.interrupts h.interrupts_are k.interrupts_are
-
-        roots : b.roots ≡ c.roots
-        roots = h.roots ∙ ((λ i. heads i ∷ tails i) ∙ sym k.roots)
+    bound_same b c h k =
+        let total = total_same b.total c.total h.total k.total in
+        let procs = same_lists b.procs c.procs (all_pairs (λ (m n : ℕ). m < n) (map at_of b.procs) h.rising)
+        (all_pairs (λ (m n : ℕ). m < n) (map at_of c.procs) k.rising) (listed_in b c h k) (listed_in c b k h) in
+        let heads = row_same Reset 0 h.reset k.reset h.reset_is k.reset_is in
+        grind (arith, rows_same)
 
     -- what the program passes, one after another
     Rung : ℕ → Type 0
@@ -200,7 +159,8 @@ module _ (l : LayoutParts) (image : List ℕ) where
 
     fails : (r : Result StackBound StackError) → IsTied r → Answers l image r → stage r < 7 → Rung (stage r) → ⊥
     unfolding stage Rung
-    fails (Err Limit) tied h low k = few_reached l image k.0 k.1 (first_points l) (λ p is. First p is) h
+    fails (Err Limit) tied h low k =
+        omega (arith, no_more h.points k.0 h.different (λ p m. k.1.all p (h.only p m)), h.many, k.1.few)
     fails (Err (K1 start at)) tied h low k = k (record { start = start; address = at }) h.1.0
     fails (Err (K2 start at)) tied h low k = k (record { start = start; address = at }) h.2.0
     fails (Err (K3 start at)) tied h low k = k (record { start = start; address = at }) h.3.0
@@ -215,7 +175,7 @@ module _ (l : LayoutParts) (image : List ℕ) where
     rung_below n zero low h = absurd (omega (arith, low))
     rung_below n (suc m) low h = elim (cases_lt n m) [
       | inl less ↦ rung_below n m less h.0
-      | inr not_less ↦ let same : m ≡ n = omega (arith, low, not_less) in subst Rung same h.1
+      | inr not_less ↦ let same : m ≡ n = omega (arith, low, not_less) in rw same at h.1
     ]
 
     few_stages : (r : Result StackBound StackError) → IsTied r → stage r ≤ 7
@@ -245,10 +205,7 @@ module _ (l : LayoutParts) (image : List ℕ) where
         ap Err (at_place K2 (Breaks l image Computed) s t a b h.2 k.2)
     same_stage (Err (K3 s a)) (Err (K3 t b)) one two h k e =
         ap Err (at_place K3 (Breaks l image PopsBelow) s t a b h.3 k.3)
-    same_stage (Err (K4 s)) (Err (K4 t)) one two h k e =
-        let low = h.1.first t k.1.cyclic in
-        let high = k.1.first s h.1.cyclic in
-        cc (rank_same s t (omega (arith, low, high)))
+    same_stage (Err (K4 s)) (Err (K4 t)) one two h k e = grind arith
     same_stage (Err (K5 s a)) (Err (K5 t b)) one two h k e =
         ap Err (at_place K5 (HasTwoHeights l image) s t a b h.1 k.1)
     same_stage (Err K6) (Err K6) one two h k e = refl

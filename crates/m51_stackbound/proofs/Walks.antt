@@ -1,20 +1,17 @@
 -- What walks over rows find, and which starts do not call themselves.
 use Rattle.m51_stackbound.proofs.Common.{◌≡◌, ◌<◌, ◌≤◌, ◌+◌, ◌-◌, ℕ, Bool, true, false, List, [], ◌∷◌, ◌++◌, length}
-use Rattle.m51_stackbound.proofs.Common.{get_or, set, replicate, refl, sym, ap, subst, ◌∙◌, arith, ◌⊎◌, inl, inr}
-use Rattle.m51_stackbound.proofs.Common.{Contains, nat_eq, cases_lt, common_steps, get_or-set_other}
-use Rattle.m51_stackbound.proofs.Common.{length-set, length-replicate, Contains-append_left, Contains-get_or}
-use Rattle.m51_stackbound.proofs.Common.{Contains-push, Contains-push_cases, first_or_after, none_in_empty, LayoutParts}
-use Rattle.m51_stackbound.proofs.Common.{At, same_or_not, AreCallRows, AreCleared, GoesOn, IsClosed, callee_row}
+use Rattle.m51_stackbound.proofs.Common.{get_or, set, replicate, sym, ap, ◌∙◌, arith, ◌⊎◌, inl, inr, Contains, nat_eq}
+use Rattle.m51_stackbound.proofs.Common.{cases_lt, common_steps, get_or-set_other, length-set}
+use Rattle.m51_stackbound.proofs.Common.{length-replicate, Contains-append_left, Contains-get_or, Contains-push}
+use Rattle.m51_stackbound.proofs.Common.{Contains-push_cases, first_or_after, none_in_empty, LayoutParts, At}
+use Rattle.m51_stackbound.proofs.Common.{same_or_not, AreCallRows, AreCleared, GoesOn, IsClosed, callee_row}
 use Rattle.m51_stackbound.proofs.Common.{CallsThrough}
-use Rattle.std.proofs.Common.{◌↔◌}
-use Rattle.std.proofs.Common.{append_assoc}
-use Rattle.std.proofs.Common.{length-append}
+use Rattle.std.proofs.Common.{◌↔◌, append_assoc, length-append}
 use Rattle.std.specs.List.{sum_by}
 use Rattle.std.proofs.lemmas.List.{get_or_append_left}
 use Rattle.std.proofs.lemmas.List.Elements.{Contains-append_cases}
 use Rattle.std.proofs.lemmas.List.Sums.{sum_by-set}
-use Rattle.m51_stackbound.specs.Callers.{AreMarked, HasCallees, Leads, Once}
-use Rattle.m51_stackbound.specs.Callers.{one_unmarked, Over, Walks, with_clear}
+use Rattle.m51_stackbound.specs.Callers.{AreMarked, HasCallees, Leads, Once, one_unmarked, Over, Walks, with_clear}
 use Rattle.m51_stackbound.specs.Depths.{Direct, Through}
 
 pub marks_len : (count : ℕ) (marks : List Bool) → marks ≡ replicate count false → length marks ≡ count
@@ -34,19 +31,12 @@ goes_nowhere old a there = grind (arith, common_steps)
 pub goes_one : (old : List ℕ) (a : ℕ) → GoesOn old (a ∷ []) (old ++ a ∷ [])
 goes_one old a = grind (arith, Contains-push old a)
 
-unmarked : (starts : List ℕ) (a : ℕ) (mark : Bool) → (Contains starts a → ⊥) → (mark ≡ true → Contains starts a)
-    → mark ≡ false
-unmarked starts a false absent only = refl
-unmarked starts a true absent only = absurd (absent (only refl))
-
 pub marked_more : (starts : List ℕ) (marks : List Bool) (a : ℕ) → a < 65536 → (Contains starts a → ⊥)
     → AreMarked starts marks → AreMarked (starts ++ a ∷ []) (set marks a true)
 marked_more starts marks a few absent h =
     let inside : a < length marks = omega (arith, few, h.len) in
-    let none : get_or marks a false ≡ false = unmarked starts a (get_or marks a false) absent (h.only a) in
-    let was : one_unmarked (get_or marks a false) ≡ 1 = ap one_unmarked none in
-    let sums : sum_by one_unmarked (set marks a true) + one_unmarked (get_or marks a false)
-    ≡ sum_by one_unmarked marks + 0 = sum_by-set one_unmarked marks a true false inside in
+    let none : get_or marks a false ≡ false = grind arith in
+    let sums = rw none at (sum_by-set one_unmarked marks a true false inside) in
     record {
       len = length-set marks a true ∙ h.len;
       count = omega (arith, length-append starts (a ∷ []));
@@ -132,7 +122,7 @@ module _ (rows : List (List ℕ)) (from : ℕ) (old : List ℕ) where
       let via : ℕ = get_or now next 0 in
       record {
         more = w.more ++ g.more;
-        is = g.is ∙ ap (λ (l : List ℕ). l ++ g.more) w.is ∙ append_assoc old w.more g.more;
+        is = cc (append_assoc old w.more g.more);
         only = λ a k. elim (Contains-append_cases w.more g.more a k) [
           | inl before ↦ w.only a before
           | inr later ↦ Over via a (w.only via (added old w.more now next w.is high below)) (g.from a later)
@@ -141,9 +131,8 @@ module _ (rows : List (List ℕ)) (from : ℕ) (old : List ℕ) where
         looked = λ i up low inside a k. elim (cases_lt i next) [
           | inl early ↦
               let within : i < length now = omega (arith, early, below) in
-              went_kept now (callee_row rows via) new g a
-              (w.looked i up early within a
-              (subst (λ n. Contains (callee_row rows n) a) (went_front now (callee_row rows via) new g i 0 within) k))
+              went_kept _ _ _ g a
+              (w.looked i up early within a (rw (went_front _ _ _ g i 0 within) at k))
           | inr late ↦
               grind (arith, common_steps)
         ];
@@ -157,14 +146,12 @@ module _ (rows : List (List ℕ)) (from : ℕ) (old : List ℕ) where
     only = w.only;
     begun = w.begun;
     closed = λ a k.
-        let at : get_or starts k.0 0 ≡ a = grind (arith, common_steps, k.1, k.2) in
+        let here : get_or starts k.0 0 ≡ a = grind (arith, common_steps, k.1, k.2) in
         elim (cases_lt k.0 (length old)) [
           | inl early ↦
-              let was : get_or starts k.0 0 ≡ get_or old k.0 0 = ap (λ (l : List ℕ). get_or l k.0 0) w.is
-              ∙ get_or_append_left old w.more 0 k.0 early in
-              inl (subst (λ x. Contains old x) (sym was ∙ at) (Contains-get_or old k.0 0 early))
-          | inr late ↦ inr (subst (λ x. HasCallees rows starts x) at
-              (w.looked k.0 (omega (arith, late)) (omega (arith, k.1, done)) k.1))
+              let was : get_or old k.0 0 ≡ a = cc (get_or_append_left old w.more 0 k.0 early) in
+              inl (rw was at (Contains-get_or old k.0 0 early))
+          | inr late ↦ inr (rw here at (w.looked k.0 (omega (arith, late)) (omega (arith, k.1, done)) k.1))
         ];
   }
 
@@ -185,21 +172,18 @@ module _ (rows : List (List ℕ)) (from : ℕ) (old : List ℕ) where
           arith,
           common_steps,
           Contains-append_cases old w.more from
-              (subst (λ (l : List ℕ). Contains l from) w.is (led_found closed from h)),
+              (rw w.is at (led_found closed from h)),
         )
 
     -- and with the start itself it is closed again
     pub closed_again : (after : List ℕ) → IsClosed rows old → GoesOn new (from ∷ []) after → IsClosed rows after
     closed_again after closed g a k b called =
-        went_kept new (from ∷ []) after g b (elim (went_from new (from ∷ []) after g a k) [
+        went_kept _ _ _ g b (elim (went_from _ _ _ g a k) [
           | inl before ↦ elim (w.closed a before) [
             | inl early ↦ rw w.is (Contains-append_left old w.more b (closed a early b called))
             | inr here ↦ here b called
           ]
-          | inr last ↦ elim (first_or_after from [] a last) [
-            | inl here ↦ w.begun b (rw here called)
-            | inr none ↦ absurd (none_in_empty a none)
-          ]
+          | inr last ↦ grind (arith, none_in_empty)
         ])
 
 -- a walk from nothing finds what the rows lead to

@@ -1,26 +1,19 @@
 -- The table of how paths continue: of the ways in which points give a depth it keeps the one that comes first.
-use Rattle.m51_stackbound.proofs.Common.{◌≡◌, ◌≢◌, ◌<◌, ◌+◌, ℕ, Bool, true, false, List, [], length}
-use Rattle.m51_stackbound.proofs.Common.{get_or, set, take, replicate, refl, sym, ap, subst, ◌∙◌, arith, ◌⊎◌, inl, inr}
-use Rattle.m51_stackbound.proofs.Common.{Option, Some, None, if◌then◌else◌, nat_eq, common_steps}
-use Rattle.m51_stackbound.proofs.Common.{get_or-set_other, length-set, LayoutParts, Start, At}
+use Rattle.m51_stackbound.proofs.Common.{◌≡◌, ◌≢◌, ◌<◌, ◌+◌, ℕ, List, [], length, get_or, set, take, replicate, refl}
+use Rattle.m51_stackbound.proofs.Common.{sym, ap, arith, ◌⊎◌, inl, inr, Option, Some}
+use Rattle.m51_stackbound.proofs.Common.{common_steps, get_or-set_other, length-set, LayoutParts, Start, At}
 use Rattle.m51_stackbound.proofs.Common.{same_or_not, Next, Point, depth_in, next_in, AreNexts, call_of, rank}
-use Rattle.std.proofs.lemmas.Bool.{eq-eqb, eqb-true}
+use Rattle.std.proofs.lemmas.Bool.{eq-eqb}
 use Rattle.m51_stackbound.specs.declared.paths.Next.TheVariants.{Unknown, Ends, Calls}
-use Rattle.m51_stackbound.specs.Nexts.{next_by, next_called, earlier, IsNoLater, Gives, IsEarliest}
+use Rattle.m51_stackbound.specs.Nexts.{next_by, earlier, IsNoLater, Gives, IsEarliest}
 use Rattle.m51_stackbound.proofs.Leasts.{front_cases, front_kept, front_next}
 use Rattle.m51_stackbound.proofs.Raised.{rank_same}
-
-earlier_first : (a b : Next) → IsNoLater (earlier a b) a
-earlier_first a b = grind arith
 
 earlier_second : (a b : Next) → IsNoLater (earlier a b) b
 earlier_second a b = grind arith
 
 earlier_cases : (a b : Next) → (earlier a b ≡ a) ⊎ (earlier a b ≡ b)
 earlier_cases a b = grind arith
-
-no_later_twice : (a b c : Next) → IsNoLater a b → IsNoLater b c → IsNoLater a c
-no_later_twice a b c h k = grind arith
 
 pub blank_next : (n k : ℕ) → get_or (replicate n Unknown) k Unknown ≡ Unknown
 blank_next n k = grind (arith, common_steps)
@@ -38,48 +31,22 @@ unfolding next_by
 calls_from depths p o to e h =
     grind arith
 
-pub ends_height : (depths : List ℕ) (p : Point) (o : Option ℕ) → next_by depths p o ≡ Ends
-    → p.height ≡ depth_in depths p.start
-unfolding next_by
-ends_height depths p o h = by (nat_eq p.height (depth_in depths p.start)) refl h
-  where
-    called : (o : Option ℕ) → next_called depths p o ≡ Ends → p.height ≡ depth_in depths p.start
-    called None k = absurd (cc k)
-    called (Some to) k = test (nat_eq (p.height + 2 + depth_in depths (At to)) (depth_in depths p.start)) k where
-      test : (b : Bool) → (if b then Calls to else Unknown) ≡ Ends → p.height ≡ depth_in depths p.start
-      test true k = absurd (cc k)
-      test false k = absurd (cc k)
-
-    by : (b : Bool) → nat_eq p.height (depth_in depths p.start) ≡ b
-        → (if b then Ends else next_called depths p o) ≡ Ends → p.height ≡ depth_in depths p.start
-    by true e k = eqb-true p.height (depth_in depths p.start) e
-    by false e k = called o k
-
 -- a call that gives the depth
 pub record IsGiving (depths : List ℕ) (p : Point) (o : Option ℕ) (to : ℕ) : Type 0 where
   pub calls : o ≡ Some to
   pub sum : p.height + 2 + depth_in depths (At to) ≡ depth_in depths p.start
 
-giving_called : (depths : List ℕ) (p : Point) (o : Option ℕ) (to : ℕ) → next_called depths p o ≡ Calls to
-    → IsGiving depths p o to
-giving_called depths p None to k = absurd (cc k)
-giving_called depths p (Some t) to k =
-    by (nat_eq (p.height + 2 + depth_in depths (At t)) (depth_in depths p.start)) refl k
-  where
-    by : (b : Bool) → nat_eq (p.height + 2 + depth_in depths (At t)) (depth_in depths p.start) ≡ b
-        → (if b then Calls t else Unknown) ≡ Calls to → IsGiving depths p (Some t) to
-    by true e k =
-        grind arith
-    by false e k = absurd (cc k)
+abbrev pub Says : List ℕ → Point → Option ℕ → Next → Type 0
+Says depths p o Unknown = Unit {0}
+Says depths p o Ends = p.height ≡ depth_in depths p.start
+Says depths p o (Calls to) = IsGiving depths p o to
 
-pub calls_giving : (depths : List ℕ) (p : Point) (o : Option ℕ) (to : ℕ) → next_by depths p o ≡ Calls to
-    → IsGiving depths p o to
+way_says : (depths : List ℕ) (p : Point) (o : Option ℕ) → Says depths p o (next_by depths p o)
 unfolding next_by
-calls_giving depths p o to h = by (nat_eq p.height (depth_in depths p.start)) h
-  where
-    by : (b : Bool) → (if b then Ends else next_called depths p o) ≡ Calls to → IsGiving depths p o to
-    by true k = absurd (cc k)
-    by false k = giving_called depths p o to k
+way_says depths p o = grind arith
+
+pub says : (depths : List ℕ) (p : Point) (o : Option ℕ) (n : Next) → next_by depths p o ≡ n → Says depths p o n
+says depths p o n h = rw h at (way_says depths p o)
 
 module _ (l : LayoutParts) (image : List ℕ) (points : List Point) (depths : List ℕ) where
   pub nexts_none : (count : ℕ) (nexts : List Next) → count ≡ 65537 → nexts ≡ replicate count Unknown
@@ -105,16 +72,11 @@ module _ (l : LayoutParts) (image : List ℕ) (points : List Point) (depths : Li
         → IsEarliest l image (take (i + 1) points) depths start (earlier old way)
     one_more start o s h = record {
       given = elim (earlier_cases o way) [
-        | inl e ↦ elim h.given [
-          | inl none ↦ inl (e ∙ none)
-          | inr g ↦ inr
-              (subst (λ n. Gives l image (take (i + 1) points) depths start n) (sym e) (kept start o g))
-        ]
-        | inr e ↦ inr (subst (λ n. Gives l image (take (i + 1) points) depths start n) (sym e) (newest start s))
+        | inl e ↦ rw e (elim h.given [ inl none ↦ inl none | inr g ↦ inr (kept start o g) ])
+        | inr e ↦ inr (rw e (newest start s))
       ];
       earliest = λ p k q. elim (front_cases points i d p below k) [
-        | inl before ↦ no_later_twice (earlier o way) o (next_by depths p (call_of l image p))
-            (earlier_first o way) (h.earliest p before q)
+        | inl before ↦ grind arith
         | inr is ↦ rw (← is) (earlier_second o way)
       ];
     }
@@ -132,8 +94,8 @@ module _ (l : LayoutParts) (image : List ℕ) (points : List Point) (depths : Li
         → new ≡ set old (rank here.start) (earlier (next_in old here.start) way)
         → AreNexts l image (take i points) depths old
         → AreNexts l image (take (i + 1) points) depths new
-    nexts_more old new inside is h = subst (λ ns. AreNexts l image (take (i + 1) points) depths ns) (sym is) (record {
-      len = length-set old (rank here.start) (earlier (next_in old here.start) way) ∙ h.len;
+    nexts_more old new inside is h = rw is (record {
+      len = grind (arith, length-set);
       each = λ start. elim (same_or_not (rank start) (rank here.start)) [
         | inl e ↦
             grind (

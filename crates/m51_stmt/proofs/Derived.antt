@@ -1,9 +1,10 @@
 -- What is read is in the grammar.
+use Rattle.std.proofs.Common.{arith}
 use Rattle.std.proofs.Common.{◌≡◌, ℕ, ◌==◌, Bool, true, false, cond, List, [], ◌∷◌, ◌++◌, length, Option, Some, None}
-use Rattle.std.proofs.Common.{refl, sym, ap, ◌∙◌, subst}
+use Rattle.std.proofs.Common.{refl, ap, inl, inr}
 use Rattle.std.specs.Prelude.{codes, option_and_then, option_map}
 use Rattle.std.specs.Str.{bytes_eq}
-use Rattle.std.proofs.lemmas.Bool.{eqb-true}
+use Rattle.std.proofs.lemmas.Bool.{cases_Bool, eqb-true}
 use Rattle.std.proofs.lemmas.Option.{same_Some}
 use Rattle.std.proofs.lemmas.Slice.Eq.{bytes_eq-Decides}
 use Rattle.m51_cells.specs.declared.kind.Kind.{Kind}
@@ -15,9 +16,7 @@ use Rattle.m51_expr.specs.declared.symbol.Symbol.{Symbol}
 use Rattle.m51_expr.specs.declared.symbol.Symbol.TheVariants as symbols
 use Rattle.m51_expr.specs.Words.{is_reserved}
 use Rattle.m51_expr.specs.Tree.{Tree}
-use Rattle.m51_expr.specs.Looks.{has_form}
 use Rattle.m51_expr.specs.Reading.{ParsedTree, line_of_symbols, expression_in, enough}
-use Rattle.m51_expr.specs.Grammar.{Writes}
 use Rattle.m51_expr.proofs.Sound.{sound}
 use Rattle.m51_stmt.specs.declared.definitions.DefinitionWord.{DefinitionWord}
 use Rattle.m51_stmt.specs.declared.definitions.DefinitionWord.TheVariants as definition
@@ -26,21 +25,20 @@ use Rattle.m51_stmt.specs.declared.directives.Directive.TheVariants as directive
 use Rattle.m51_stmt.specs.declared.externs.Awaited.{Awaited}
 use Rattle.m51_stmt.specs.declared.externs.Awaited.TheVariants as awaited
 use Rattle.m51_stmt.specs.Statement as body
-use Rattle.m51_stmt.specs.Statement.{BodyTree, Imm, Plain, NotBit}
+use Rattle.m51_stmt.specs.Statement.{BodyTree, Imm}
 use Rattle.m51_stmt.specs.Words.{is_comma}
 use Rattle.m51_stmt.specs.Kinds.{kind_of, reloc_of, extern_kind_of}
 use Rattle.m51_stmt.specs.Lists.{parts, each_of, list_of, name_alone, all_read, expression, value, item}
-use Rattle.m51_stmt.specs.Operands.{sum, indirect, alone, operand_by, operand, operands, if_form, instruction}
+use Rattle.m51_stmt.specs.Operands.{indirect, alone, operand_by, operand, operands, instruction}
 use Rattle.m51_stmt.specs.Externs.{next, names_added, names_at_end, externs_from, externs}
-use Rattle.m51_stmt.specs.Definitions.{definition_word, is_allowed, is_overlayable, segment_body, segment}
-use Rattle.m51_stmt.specs.Definitions.{definition_form}
+use Rattle.m51_stmt.specs.Definitions.{is_allowed, is_overlayable, segment_body, segment, definition_form}
 use Rattle.m51_stmt.specs.Directives.{directive_of, is_at, select, end_form, directive_form}
 use Rattle.m51_stmt.specs.Lines.{defined, said, with_label, statement}
 use Rattle.m51_stmt.specs.Lines as lines
 use Rattle.m51_stmt.specs.Grammar as grammar
 use Rattle.m51_stmt.specs.Grammar.{IsExpr, IsList, IsOperand, AreOperands, IsName, IsValue, IsItem, is_text_alone}
 use Rattle.m51_stmt.specs.Grammar.{AreExterns, HasType, HasOverlay, IsDefinition, IsDirective, IsSaid, IsStatement}
-use Rattle.m51_stmt.proofs.IfRead.{IfSome, some_is, none_is, some_map, some_then}
+use Rattle.m51_stmt.proofs.IfRead.{IfSome, some_is, none_is, some_then}
 
 -- a test that lets something through only where it holds, or does not
 pub some_if : {A : Type 0} {x : Option A} {P : A → Type 0} (b : Bool) → (b ≡ true → IfSome x P)
@@ -59,27 +57,26 @@ expr_by : (l : List Symbol) (n : ℕ) (r : ParsedTree) → n ≡ length l → ex
 expr_by l n None is read = none_is
 expr_by l n (Some (e, at)) is read = some_if (at == n) (λ all.
     some_is (record {
-      writes =
-          subst (Writes (line_of_symbols l) 0 0 e) (eqb-true at n all ∙ is)
-          (sound (enough (length l) 0) (line_of_symbols l) 0 e at read).writes;
+      writes = rw (eqb-true at n all, is) at (sound (enough (length l) 0) (line_of_symbols l) 0 e at read).writes;
     }))
 
 expr_derived : (l : List Symbol) → IfSome (expression l) (IsExpr l)
 expr_derived l = expr_by l (length l) (expression_in l) refl refl
 
+-- what a part makes
+mapped : {A B : Type 0} (make : A → B) (Q : A → Type 0) (P : B → Type 0) (o : Option A) → IfSome o Q
+    → ((a : A) → Q a → P (make a)) → IfSome (option_map make o) P
+mapped make Q P o h is = grind arith
+
 -- what an expression makes
 made : {B : Type 0} (make : Tree → B) (P : B → Type 0) (l : List Symbol) → ((e : Tree) → IsExpr l e → P (make e))
     → IfSome (option_map make (expression l)) P
-made make P l is = some_map make P (expression l) (record { holds = λ e read. is e ((expr_derived l).holds e read) })
+made make P l is = mapped make (IsExpr l) P (expression l) (expr_derived l) is
 
 -- lists
 abbrev joined : List Symbol → List (List Symbol) → List Symbol
 joined part [] = part
 joined part (other ∷ more) = part ++ symbols.Comma ∷ joined other more
-
-is_the_comma : (s : Symbol) → is_comma s ≡ true → s ≡ symbols.Comma
-is_the_comma symbols.Comma h = refl
-is_the_comma s h = absurd (cc h)
 
 abbrev joined_parts : List Symbol × List (List Symbol) → List Symbol
 joined_parts p = joined p.0 p.1
@@ -91,39 +88,33 @@ front_joined s part (other ∷ more) = refl
 
 join_symbol : (s : Symbol) (p : List Symbol × List (List Symbol)) (b : Bool) → is_comma s ≡ b
     → joined_parts (cond b ([], p.0 ∷ p.1) (s ∷ p.0, p.1)) ≡ s ∷ joined_parts p
-join_symbol s p true is = ap (λ c. c ∷ joined_parts p) (sym (is_the_comma s is))
-join_symbol s p false is = front_joined s p.0 p.1
+join_symbol s p b is = grind (arith, front_joined)
 
 join_parts : (l : List Symbol) → joined_parts (parts l) ≡ l
 join_parts [] = refl
-join_parts (s ∷ l) = join_symbol s (parts l) (is_comma s) refl ∙ ap (λ r. s ∷ r) (join_parts l)
+join_parts (s ∷ l) = cc (join_symbol s (parts l) (is_comma s) refl, join_parts l)
 
 each_derived : {A : Type 0} (item : List Symbol → Option A) (P : List Symbol → A → Type 0)
     → ((l : List Symbol) → IfSome (item l) (P l)) → (part : List Symbol) (more : List (List Symbol))
     → IfSome (each_of item (part ∷ more)) (IsList P (joined part more))
 each_derived item P is part [] =
-    some_then _ (IsList P part) (item part) (λ a read. some_is (grammar.Last ((is part).holds a read)))
+    some_then _ _ _ (λ a read. some_is (grammar.Last ((is part).holds a read)))
 each_derived item P is part (other ∷ more) =
-    some_then _ (IsList P (part ++ symbols.Comma ∷ joined other more)) (item part) (λ a read.
-    some_map _ (IsList P (part ++ symbols.Comma ∷ joined other more)) (each_of item (other ∷ more))
-    (record {
-      holds = λ xs goes. grammar.Comma ((is part).holds a read)
-          ((each_derived item P is other more).holds xs goes);
-    }))
+    some_then _ _ _ (λ a read.
+    mapped _ _ _ _ (each_derived item P is other more) (λ xs goes. grammar.Comma ((is part).holds a read) goes))
 
 list_derived : {A : Type 0} (item : List Symbol → Option A) (P : List Symbol → A → Type 0)
     → ((l : List Symbol) → IfSome (item l) (P l)) → (l : List Symbol) → IfSome (list_of item l) (IsList P l)
 list_derived item P is l =
-    subst (λ r. IfSome (list_of item l) (IsList P r)) (join_parts l) (each_derived item P is (parts l).0 (parts l).1)
+    record {
+      holds = λ xs read. rw (join_parts l) at ((each_derived item P is (parts l).0 (parts l).1).holds xs read);
+    }
 
 -- operands
 indirect_derived : (l : List Symbol) → IfSome (indirect l) (IsOperand (symbols.At ∷ l))
 indirect_derived (symbols.Word word ∷ []) = record { holds = λ o is. grammar.Pointer is }
 indirect_derived (symbols.Word word ∷ symbols.Plus ∷ symbols.Word last ∷ []) =
-    some_if (bytes_eq word (codes "A")) (λ is.
-    let P : List ℕ → Type 0 =
-    λ w. IfSome (sum last) (IsOperand (symbols.At ∷ symbols.Word w ∷ symbols.Plus ∷ symbols.Word last ∷ [])) in
-    subst P (sym ((bytes_eq-Decides word (codes "A")).0 is)) (record { holds = λ o is. grammar.Sum is }))
+    some_if _ (λ is. record { holds = λ o read. rw ((bytes_eq-Decides word (codes "A")).0 is) (grammar.Sum read) })
 indirect_derived l = none_is
 
 alone_derived : (word : List ℕ) (rest : List Symbol) → IfSome (alone word rest) (IsOperand (symbols.Word word ∷ rest))
@@ -133,10 +124,9 @@ alone_derived word (s ∷ rest) = none_is
 by_derived : (s : Symbol) (rest : List Symbol) → IfSome (operand_by s rest) (IsOperand (s ∷ rest))
 by_derived (symbols.Word word) rest = alone_derived word rest
 by_derived symbols.At rest = indirect_derived rest
-by_derived symbols.Hash rest = made Imm (IsOperand (symbols.Hash ∷ rest)) rest (λ e is. grammar.Immediate is)
-by_derived (symbols.Infix binary.Div) rest =
-    made NotBit (IsOperand (symbols.Infix binary.Div ∷ rest)) rest (λ e is. grammar.Inverted is)
-by_derived s rest = made Plain (IsOperand (s ∷ rest)) (s ∷ rest) (λ e is. grammar.Address is)
+by_derived symbols.Hash rest = made _ _ _ (λ e is. grammar.Immediate is)
+by_derived (symbols.Infix binary.Div) rest = made _ _ _ (λ e is. grammar.Inverted is)
+by_derived s rest = made _ _ _ (λ e is. grammar.Address is)
 
 operand_derived : (l : List Symbol) → IfSome (operand l) (IsOperand l)
 unfolding operand
@@ -146,9 +136,7 @@ operand_derived (s ∷ rest) = by_derived s rest
 operands_derived : (l : List Symbol) → IfSome (operands l) (AreOperands l)
 operands_derived [] = some_is grammar.Without
 operands_derived (s ∷ rest) =
-    record {
-      holds = λ os read. grammar.With ((list_derived operand IsOperand operand_derived (s ∷ rest)).holds os read);
-    }
+    record { holds = λ os read. grammar.With ((list_derived _ _ operand_derived _).holds os read) }
 
 -- names and items
 name_derived : (l : List Symbol) → IfSome (name_alone l) (IsName l)
@@ -156,10 +144,10 @@ name_derived (symbols.Name name ∷ []) = some_is grammar.Name
 name_derived l = none_is
 
 value_derived : (l : List Symbol) → IfSome (value l) (IsValue l)
-value_derived l = made body.Value (IsValue l) l (λ e is. grammar.Data is)
+value_derived l = made _ _ _ (λ e is. grammar.Data is)
 
 item_by : (l : List Symbol) → is_text_alone l ≡ false → IfSome (value l) (IsItem l)
-item_by l other = made body.Value (IsItem l) l (λ e is. grammar.Value other is)
+item_by l other = made _ _ _ (λ e is. grammar.Value other is)
 
 item_derived : (l : List Symbol) → IfSome (item l) (IsItem l)
 item_derived (symbols.Text cs ∷ []) = some_is grammar.Text
@@ -186,21 +174,15 @@ Derives rest = (later : Awaited) → IfSome (externs_from later rest) (Rest late
 
 goes_on : (here later : Awaited) (s : Symbol) (rest : List Symbol) → Derives rest
     → ((xs : List (List ℕ × Kind)) → Rest later rest xs → Rest here (s ∷ rest) xs) → Later [] here (Some later) s rest
-goes_on here later s rest h is =
-    some_map _ (Rest here (s ∷ rest)) (externs_from later rest)
-    (record { holds = λ xs read. is xs ((h later).holds xs read) })
+goes_on here later s rest h is = mapped _ _ _ _ (h later) is
 
 opens : (word : List ℕ) (o : Option Kind) (rest : List Symbol) → extern_kind_of word ≡ o → Derives rest
     → Later [] awaited.Kind (option_map awaited.Open o) (symbols.Word word) rest
-opens word None rest is h = none_is
-opens word (Some k) rest is h = goes_on awaited.Kind (awaited.Open k) (symbols.Word word) rest h (λ xs d. d word is)
+opens word o rest is h = grind arith
 
 adds : (name : List ℕ) (k : Kind) (b : Bool) (rest : List Symbol) → is_reserved name ≡ b → Derives rest
     → Later ((name, k) ∷ []) (awaited.Name k) (cond b None (Some (awaited.Sign k))) (symbols.Name name) rest
-adds name k true rest is h = none_is
-adds name k false rest is h =
-    some_map _ (Rest (awaited.Name k) (symbols.Name name ∷ rest)) (externs_from (awaited.Sign k) rest)
-    (record { holds = λ xs read. (h (awaited.Sign k)).holds xs read name is })
+adds name k b rest is h = grind arith
 
 next_derived : (here : Awaited) (s : Symbol) (rest : List Symbol) → Derives rest
     → Later (names_added here s) here (next here s) s rest
@@ -210,8 +192,7 @@ next_derived (awaited.Open k) symbols.Open rest h =
 next_derived (awaited.Name k) (symbols.Name name) rest h = adds name k (is_reserved name) rest refl h
 next_derived (awaited.Sign k) symbols.Comma rest h =
     goes_on (awaited.Sign k) (awaited.Name k) symbols.Comma rest h (λ xs d name free. grammar.More free d)
-next_derived (awaited.Sign k) symbols.Close rest h =
-    goes_on (awaited.Sign k) awaited.End symbols.Close rest h (λ xs d name free. d k name free)
+next_derived (awaited.Sign k) symbols.Close rest h = grind arith
 next_derived awaited.End symbols.Comma rest h =
     goes_on awaited.End awaited.Kind symbols.Comma rest h (λ xs d k name free. grammar.Next free d)
 next_derived here s rest h = none_is
@@ -234,27 +215,23 @@ segment_by name word type last (Some k) (Some r) b kinds types over =
     some_if (is_allowed k r b) (λ allowed. some_is (grammar.Segment kinds (types r refl) over allowed))
 
 unit_type : (x : Reloc) → Some reloc.Unit ≡ Some x → HasType [] x
-unit_type x is = subst (HasType []) (same_Some reloc.Unit x is) grammar.Unit
+unit_type x is = rw (same_Some reloc.Unit x is) at grammar.Unit
 
 overlaid : (word : List ℕ) → is_overlayable word ≡ true → HasOverlay (symbols.Word word ∷ []) true
-overlaid word is = let P : List ℕ → Type 0 = λ w. HasOverlay (symbols.Word w ∷ []) true in
-    subst P (sym ((bytes_eq-Decides word (codes "OVERLAYABLE")).0 is)) grammar.Overlay
+overlaid word is = rw ((bytes_eq-Decides word (codes "OVERLAYABLE")).0 is) grammar.Overlay
 
 segment_derived : (name : List ℕ) (l : List Symbol) → IfSome (segment name l) (IsDefinition name definition.Segment l)
 segment_derived name (symbols.Word word ∷ []) =
     segment_by name word [] [] (kind_of word) (Some reloc.Unit) false refl unit_type grammar.Nothing
-segment_derived name (symbols.Word word ∷ symbols.Word last ∷ []) = two (is_overlayable last) refl
-  where
-    two : (b : Bool) → is_overlayable last ≡ b
-        → IfSome (cond b (segment_body name (kind_of word) (Some reloc.Unit) true)
-        (segment_body name (kind_of word) (reloc_of last) false))
-        (IsDefinition name definition.Segment (symbols.Word word ∷ symbols.Word last ∷ []))
-    two true is = segment_by name word [] (symbols.Word last ∷ []) (kind_of word) (Some reloc.Unit) true refl unit_type
-        (overlaid last is)
-    two false is = segment_by name word (symbols.Word last ∷ []) [] (kind_of word) (reloc_of last) false refl
-        (λ x is. grammar.Typed is) grammar.Nothing
-segment_derived name (symbols.Word word ∷ symbols.Word type ∷ symbols.Word last ∷ []) =
-    some_if (is_overlayable last) (λ is.
+segment_derived name (symbols.Word word ∷ symbols.Word last ∷ []) = elim (cases_Bool (is_overlayable last)) [
+  | inl is ↦ rw is
+      (segment_by name word [] (symbols.Word last ∷ []) (kind_of word) (Some reloc.Unit) true refl unit_type
+      (overlaid last is))
+  | inr is ↦ rw is
+      (segment_by name word (symbols.Word last ∷ []) [] (kind_of word) (reloc_of last) false refl
+      (λ x is. grammar.Typed is) grammar.Nothing)
+]
+segment_derived name (symbols.Word word ∷ symbols.Word type ∷ symbols.Word last ∷ []) = some_if _ (λ is.
     segment_by name word (symbols.Word type ∷ []) (symbols.Word last ∷ []) (kind_of word) (reloc_of type) true refl
     (λ x is. grammar.Typed is) (overlaid last is))
 segment_derived name l = none_is
@@ -262,12 +239,9 @@ segment_derived name l = none_is
 definition_derived : (d : DefinitionWord) (name : List ℕ) (l : List Symbol)
     → IfSome (definition_form d name l) (IsDefinition name d l)
 definition_derived definition.Segment name l = segment_derived name l
-definition_derived definition.Equ name l =
-    made (body.Equ name) (IsDefinition name definition.Equ l) l (λ e is. grammar.Equ is)
-definition_derived definition.Set name l =
-    made (body.Set name) (IsDefinition name definition.Set l) l (λ e is. grammar.Set is)
-definition_derived (definition.Address k) name l =
-    made (body.Address name k) (IsDefinition name (definition.Address k) l) l (λ e is. grammar.Address is)
+definition_derived definition.Equ name l = made _ _ _ (λ e is. grammar.Equ is)
+definition_derived definition.Set name l = made _ _ _ (λ e is. grammar.Set is)
+definition_derived (definition.Address k) name l = made _ _ _ (λ e is. grammar.Address is)
 
 -- directives
 is_at_word : (s : Symbol) → is_at s ≡ true → s ≡ symbols.Word (codes "AT")
@@ -277,64 +251,46 @@ is_at_word s h = absurd (cc h)
 select_derived : (k : Kind) (l : List Symbol) → IfSome (select k l) (IsDirective (directive.Select k) l)
 select_derived k [] = some_is grammar.Select
 select_derived k (s ∷ rest) = some_if (is_at s) (λ is.
-    let P : Symbol → Type 0 =
-    λ c. IfSome (option_map (λ e. body.Select k (Some e)) (expression rest))
-    (IsDirective (directive.Select k) (c ∷ rest)) in
-    subst P (sym (is_at_word s is))
-    (made (λ e. body.Select k (Some e)) (IsDirective (directive.Select k) (symbols.Word (codes "AT") ∷ rest)) rest
-    (λ e is. grammar.SelectAt is)))
+    made _ _ _ (λ e given. rw (is_at_word s is) (grammar.SelectAt given)))
 
 end_derived : (l : List Symbol) → IfSome (end_form l) (IsDirective directive.End l)
 end_derived [] = some_is grammar.End
 end_derived (s ∷ rest) = none_is
 
 directive_derived : (d : Directive) (l : List Symbol) → IfSome (directive_form d l) (IsDirective d l)
-directive_derived directive.Using l = made body.Using (IsDirective directive.Using l) l (λ e is. grammar.Using is)
-directive_derived directive.Ds l = made body.Ds (IsDirective directive.Ds l) l (λ e is. grammar.Ds is)
-directive_derived directive.Dbit l = made body.Dbit (IsDirective directive.Dbit l) l (λ e is. grammar.Dbit is)
-directive_derived directive.Org l = made body.Org (IsDirective directive.Org l) l (λ e is. grammar.Org is)
-directive_derived directive.Db l =
-    some_map body.Db (IsDirective directive.Db l) (list_of item l)
-    (record { holds = λ xs read. grammar.Db ((list_derived item IsItem item_derived l).holds xs read) })
-directive_derived directive.Dw l =
-    some_map body.Dw (IsDirective directive.Dw l) (list_of value l)
-    (record { holds = λ xs read. grammar.Dw ((list_derived value IsValue value_derived l).holds xs read) })
+directive_derived directive.Using l = made _ _ _ (λ e is. grammar.Using is)
+directive_derived directive.Ds l = made _ _ _ (λ e is. grammar.Ds is)
+directive_derived directive.Dbit l = made _ _ _ (λ e is. grammar.Dbit is)
+directive_derived directive.Org l = made _ _ _ (λ e is. grammar.Org is)
+directive_derived directive.Db l = mapped _ _ _ _ (list_derived _ _ item_derived l) (λ xs is. grammar.Db is)
+directive_derived directive.Dw l = mapped _ _ _ _ (list_derived _ _ value_derived l) (λ xs is. grammar.Dw is)
 directive_derived (directive.Select k) l = select_derived k l
-directive_derived directive.Rseg l =
-    some_map body.Rseg (IsDirective directive.Rseg l) (name_alone l)
-    (record { holds = λ name read. grammar.Rseg ((name_derived l).holds name read) })
-directive_derived directive.Name l =
-    some_map body.ModuleName (IsDirective directive.Name l) (name_alone l)
-    (record { holds = λ name read. grammar.ModuleName ((name_derived l).holds name read) })
-directive_derived directive.Public l =
-    some_map body.Public (IsDirective directive.Public l) (list_of name_alone l)
-    (record { holds = λ xs read. grammar.Public ((list_derived name_alone IsName name_derived l).holds xs read) })
-directive_derived directive.Extrn l =
-    some_map body.Extrn (IsDirective directive.Extrn l) (externs l)
-    (record { holds = λ xs read. grammar.Extrn ((externs_derived l awaited.Kind).holds xs read) })
+directive_derived directive.Rseg l = mapped _ _ _ _ (name_derived l) (λ name is. grammar.Rseg is)
+directive_derived directive.Name l = mapped _ _ _ _ (name_derived l) (λ name is. grammar.ModuleName is)
+directive_derived directive.Public l = mapped _ _ _ _ (list_derived _ _ name_derived l) (λ xs is. grammar.Public is)
+directive_derived directive.Extrn l = mapped _ _ _ _ (externs_derived l awaited.Kind) (λ xs is. grammar.Extrn is)
 directive_derived directive.End l = end_derived l
 
 -- the statement after the label
 instruction_derived : (labelled : Bool) (word : List ℕ) (l : List Symbol) → is_mnemonic word ≡ true
     → IfSome (instruction word l) (IsSaid labelled (symbols.Word word ∷ l))
 instruction_derived labelled word l is =
-    some_then (if_form word) (IsSaid labelled (symbols.Word word ∷ l)) (operands l) (λ os read.
-    some_if (has_form word os) (λ form. some_is (grammar.Instruction is ((operands_derived l).holds os read) form)))
+    some_then _ _ _ (λ os read.
+    some_if _ (λ form. some_is (grammar.Instruction is ((operands_derived l).holds os read) form)))
 
 spoken_by : (labelled : Bool) (word : List ℕ) (l : List Symbol) (b : Bool) → is_mnemonic word ≡ b
     → IfSome (cond b (instruction word l) (option_and_then (λ d. directive_form d l) (directive_of word)))
     (IsSaid labelled (symbols.Word word ∷ l))
 spoken_by labelled word l true is = instruction_derived labelled word l is
 spoken_by labelled word l false is =
-    some_then (λ d. directive_form d l) (IsSaid labelled (symbols.Word word ∷ l)) (directive_of word) (λ d found.
+    some_then _ _ _ (λ d found.
     record { holds = λ b read. grammar.Directed found ((directive_derived d l).holds b read) })
 
 defined_derived : (labelled : Bool) (name : List ℕ) (l : List Symbol)
     → IfSome (defined labelled name l) (IsSaid labelled (symbols.Name name ∷ l))
 defined_derived true name (symbols.Word word ∷ rest) = none_is
-defined_derived false name (symbols.Word word ∷ rest) = some_unless (is_reserved name) (λ free.
-    some_then (λ d. definition_form d name rest) (IsSaid false (symbols.Name name ∷ symbols.Word word ∷ rest))
-    (definition_word word) (λ d found.
+defined_derived false name (symbols.Word word ∷ rest) = some_unless _ (λ free.
+    some_then _ _ _ (λ d found.
     record { holds = λ b read. grammar.Defined free found ((definition_derived d name rest).holds b read) }))
 defined_derived labelled name l = none_is
 
@@ -346,17 +302,15 @@ said_derived labelled (s ∷ rest) = none_is
 
 bare_derived : (l : List Symbol) (o : Option BodyTree) → IfSome o (IsSaid false l)
     → IfSome (option_map (with_label None) o) (IsStatement l)
-bare_derived l o h = some_map (with_label None) (IsStatement l) o
-    (record { holds = λ b read. grammar.Bare (h.holds b read) })
+bare_derived l o h = mapped _ _ _ _ h (λ b is. grammar.Bare is)
 
 named_derived : (name : List ℕ) (l : List Symbol)
     → IfSome (lines.named_line name l) (IsStatement (symbols.Name name ∷ l))
-named_derived name (symbols.Colon ∷ rest) = some_unless (is_reserved name) (λ free.
-    some_map (with_label (Some name)) (IsStatement (symbols.Name name ∷ symbols.Colon ∷ rest)) (said true rest)
-    (record { holds = λ b read. grammar.Labelled free ((said_derived true rest).holds b read) }))
-named_derived name l = bare_derived (symbols.Name name ∷ l) (defined false name l) (defined_derived false name l)
+named_derived name (symbols.Colon ∷ rest) =
+    some_unless _ (λ free. mapped _ _ _ _ (said_derived true rest) (λ b is. grammar.Labelled free is))
+named_derived name l = bare_derived _ _ (defined_derived false name l)
 
 -- each statement that symbols are read as is in the grammar
 pub statement_derived : (l : List Symbol) → IfSome (statement l) (IsStatement l)
 statement_derived (symbols.Name name ∷ rest) = named_derived name rest
-statement_derived l = bare_derived l (said false l) (said_derived false l)
+statement_derived l = bare_derived _ _ (said_derived false l)

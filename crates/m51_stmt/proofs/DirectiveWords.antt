@@ -1,6 +1,6 @@
 -- No mnemonic is a word of a directive.
-use Rattle.std.proofs.Common.{◌≡◌, ℕ, Bool, true, false, List, [], ◌∷◌, Some, refl, ap, ◌∙◌, sym}
-use Rattle.std.specs.Prelude.{is_none, ◌||◌}
+use Rattle.std.proofs.Common.{◌≡◌, ℕ, Bool, true, false, List, [], ◌∷◌, Some, refl}
+use Rattle.std.specs.Prelude.{is_none}
 use Rattle.std.specs.List.{list_any, list_all}
 use Rattle.std.specs.Str.{bytes_eq}
 use Rattle.std.proofs.lemmas.Slice.Eq.{bytes_eq-Decides}
@@ -17,9 +17,7 @@ differs : (m w : List ℕ) (d : Directive) (b : Bool) → bytes_eq m w ≡ b →
     → directive_of w ≡ Some d → b ≡ false
 differs m w d false t none is = refl
 differs m w d true t none is =
-    let found : directive_of m ≡ Some d = ap directive_of ((bytes_eq-Decides m w).0 t) ∙ is in
-    let e : false ≡ true = sym (ap is_none found) ∙ none in
-    absurd (cc e)
+    absurd (cc (rw ((bytes_eq-Decides m w).0 t, is) at none))
 
 none_among : (words : List (List ℕ)) (w : List ℕ) (d : Directive)
     → list_all (λ m. is_none (directive_of m)) words ≡ true → directive_of w ≡ Some d
@@ -27,8 +25,7 @@ none_among : (words : List (List ℕ)) (w : List ℕ) (d : Directive)
 none_among [] w d none is = refl
 none_among (m ∷ more) w d none is =
     let parts = and_parts (is_none (directive_of m)) (list_all (λ m. is_none (directive_of m)) more) none in
-    ap (λ b. b || list_any (λ m. bytes_eq m w) more) (differs m w d (bytes_eq m w) refl parts.0 is)
-    ∙ none_among more w d parts.1 is
+    rw (differs m w d (bytes_eq m w) refl parts.0 is) (none_among more w d parts.1 is)
 
 -- a word of a directive is no mnemonic
 pub no_mnemonic : (w : List ℕ) (d : Directive) → directive_of w ≡ Some d → is_mnemonic w ≡ false

@@ -1,5 +1,6 @@
 -- What holds of each answer of a reader, by the parts of the reader.
-use Rattle.std.proofs.Common.{◌≡◌, ℕ, Bool, true, false, cond, Option, Some, None, Result, Ok, Err, refl, subst}
+use Rattle.std.proofs.Common.{arith}
+use Rattle.std.proofs.Common.{◌≡◌, ℕ, Bool, true, false, cond, Option, Some, None, Result, Ok, Err, refl}
 use Rattle.std.specs.Prelude.{option_and_then, option_map}
 use Rattle.std.specs.Option.{option_or}
 use Rattle.std.proofs.lemmas.Option.{same_Some}
@@ -15,7 +16,7 @@ pub record IfRead {A : Type 0} (r : Result A ℕ) (P : A → Type 0) : Type 0 wh
   pub holds : (a : A) → r ≡ Ok a → P a
 
 pub some_is : {A : Type 0} {a : A} {P : A → Type 0} → P a → IfSome (Some a) P
-some_is {A} {a} {P} h = record { holds = λ b is. subst P (same_Some a b is) h }
+some_is h = record { holds = λ b is. rw (same_Some _ b is) at h }
 
 pub none_is : {A : Type 0} {P : A → Type 0} → IfSome {A = A} None P
 none_is = record { holds = λ b is. absurd (cc is) }
@@ -31,8 +32,7 @@ some_or (Some a) p h k = h
 
 pub some_map : {A B : Type 0} (f : A → B) (P : B → Type 0) (o : Option A) → IfSome o (λ a. P (f a))
     → IfSome (option_map f o) P
-some_map f P None h = none_is
-some_map f P (Some a) h = some_is (h.holds a refl)
+some_map f P o h = grind (arith, some_is)
 
 pub some_then : {A B : Type 0} (f : A → Option B) (P : B → Type 0) (o : Option A)
     → ((a : A) → o ≡ Some a → IfSome (f a) P) → IfSome (option_and_then f o) P
@@ -40,7 +40,7 @@ some_then f P None h = none_is
 some_then f P (Some a) h = h a refl
 
 pub ok_is : {A : Type 0} {a : A} {P : A → Type 0} → P a → IfRead (Ok a) P
-ok_is {A} {a} {P} h = record { holds = λ b is. subst P (same_Ok {E = ℕ} a b is) h }
+ok_is h = record { holds = λ b is. rw (same_Ok {E = ℕ} _ b is) at h }
 
 pub err_is : {A : Type 0} {k : ℕ} {P : A → Type 0} → IfRead {A = A} (Err k) P
 err_is = record { holds = λ b is. absurd (cc is) }
@@ -62,8 +62,7 @@ ok_then go P (Ok a) h = h a refl
 ok_then go P (Err k) h = err_is
 
 pub ok_or : {A : Type 0} (k : ℕ) (P : A → Type 0) (o : Option A) → IfSome o P → IfRead (or_fault k o) P
-ok_or k P (Some a) h = ok_is (h.holds a refl)
-ok_or k P None h = err_is
+ok_or k P o h = grind (arith, ok_is)
 
 abbrev pub flip : {A B C : Type 0} → (A → B → C) → B → A → C
 flip f b a = f a b
@@ -71,5 +70,4 @@ flip f b a = f a b
 -- the same after a function of what is chosen
 pub read_cond : {L A : Type 0} (f : L → Result A ℕ) (P : A → Type 0) (b : Bool) (x y : L) → (b ≡ true → IfRead (f x) P)
     → (b ≡ false → IfRead (f y) P) → IfRead (f (cond b x y)) P
-read_cond f P true x y h k = h refl
-read_cond f P false x y h k = k refl
+read_cond f P b x y h k = grind (arith, k)

@@ -1,6 +1,6 @@
 -- The cut of a line into words, with blanks between them or none.
-use Rattle.std.proofs.Common.{◌≡◌, ℕ, length-append, ◌+◌, ◌-◌, ◌<◌, List, [], ◌∷◌, ◌++◌, length, drop, take, map}
-use Rattle.std.proofs.Common.{Ok, Some, refl, sym, ap, ◌∙◌, append_assoc, arith}
+use Rattle.std.proofs.Common.{◌≡◌, ℕ, length-append, ◌+◌, ◌-◌, ◌<◌, List, [], ◌∷◌, ◌++◌, length, drop, take, map, Ok}
+use Rattle.std.proofs.Common.{Some, refl, sym, ap, ◌∙◌, append_assoc, arith}
 use Rattle.std.specs.List.{slice_range}
 use Rattle.std.proofs.Math.Seq.{drop-append_seam, take-append_seam}
 use Rattle.m51_lex.specs.Characters.{space}
@@ -11,8 +11,7 @@ use Rattle.m51_lex.specs.Tokens.{Cut, put_front, after_lexeme, tokens_at}
 use Rattle.m51_lex.proofs.Cuts.{from_front}
 use Rattle.m51_expr.specs.declared.symbol.Symbol.{Symbol}
 use Rattle.m51_expr.specs.Symbol.{symbol_by, symbol_of}
-use Rattle.m51_stmt.specs.Answer.{and_then, or_fault}
-use Rattle.m51_stmt.specs.Lines.{read, statement, statement_fault, token_line}
+use Rattle.m51_stmt.specs.Lines.{read, statement, token_line}
 use Rattle.m51_stmt.specs.Statement.{StmtTree}
 
 -- a word of a line: what it is as a token, and its bytes
@@ -76,9 +75,8 @@ one_token w rest at is =
 word_within : (before text rest : List ℕ)
     → slice_range (before ++ (text ++ rest)) (length before) (length before + length text) ≡ text
 word_within before text rest =
-    ap (λ l. take (length before + length text - length before) l) (drop-append_seam before (text ++ rest))
-    ∙ ap (λ n. take n (text ++ rest)) (omega arith)
-    ∙ take-append_seam text rest
+    let n : length before + length text - length before ≡ length text = omega arith in
+    rw (drop-append_seam before (text ++ rest), n) (take-append_seam text rest)
 
 -- a word before a line
 pub after_word : {w : Word} {rest : List ℕ} {symbols : List Symbol} → Stands w rest → IsCutInto rest symbols
@@ -86,7 +84,7 @@ pub after_word : {w : Word} {rest : List ℕ} {symbols : List Symbol} → Stands
 unfolding symbol_of
 after_word {w} {rest} is c = record {
   tokens = λ at. token_at at w ∷ c.tokens (at + length w.text);
-  cut = λ at. one_token w rest at is ∙ ap (put_front (token_at at w ∷ [])) (c.cut (at + length w.text));
+  cut = λ at. rw (one_token w rest at is, c.cut (at + length w.text)) refl;
   words = λ before.
       let first = word_within before w.text rest in
       let more = later before w.text c in
@@ -97,8 +95,7 @@ after_word {w} {rest} is c = record {
 pub words_read : {line : List ℕ} {symbols : List Symbol} (s : StmtTree) → IsCutInto line symbols
     → statement symbols ≡ Some s → token_line line ≡ Ok s
 words_read {line} {symbols} s c reads =
-    ap (λ r. and_then r (λ tokens. read (map (symbol_of line) tokens))) (c.cut 0)
-    ∙ ap read (c.words []) ∙ ap (or_fault (statement_fault symbols)) reads
+    rw (c.cut 0, c.words [], reads) refl
 
 -- words, with a blank after each
 abbrev pub laid : List Word → List ℕ

@@ -1,12 +1,11 @@
 -- The words of printed lists.
-use Rattle.std.proofs.Common.{◌≡◌, ℕ, map, List, [], ◌∷◌, ◌++◌, refl, sym, ap, ◌∙◌, append_assoc, append-nil, subst}
-use Rattle.std.specs.Prelude.{codes}
+use Rattle.std.proofs.Common.{arith}
+use Rattle.std.proofs.Common.{◌≡◌, ℕ, map, List, [], ◌∷◌, ◌++◌, refl, sym, ap, ◌∙◌, append_assoc, append-nil}
 use Rattle.m51_expr.specs.declared.symbol.Symbol.{Symbol}
 use Rattle.m51_stmt.specs.Grammar.{IsList, Last, Comma}
-use Rattle.m51_stmt.specs.Printing.{word_text, separated}
+use Rattle.m51_stmt.specs.Printing.{separated}
 use Rattle.m51_stmt.proofs.LineCuts.{Word, laid, AreCut, symbol}
 use Rattle.m51_stmt.proofs.WordCuts.{sign_word, sign_cut}
-use Rattle.m51_stmt.proofs.PrintedTrees.{one_laid}
 
 abbrev pub comma_word : Word
 comma_word = sign_word 0x2C
@@ -28,10 +27,7 @@ pub list_laid : {A : Type 0} (words : A → List Word → List Word) (text : A �
 list_laid words text is [] = refl
 list_laid words text is (a ∷ []) = is a [] ∙ simp append-nil
 list_laid words text is (a ∷ b ∷ more) =
-    is a (comma_word ∷ list_words words (b ∷ more))
-    ∙ ap (λ l. text a ++ l) (one_laid (codes ",") (laid (list_words words (b ∷ more))))
-    ∙ ap (λ l. text a ++ (word_text (codes ",") ++ l)) (list_laid words text is (b ∷ more))
-    ∙ sym (append_assoc (text a) (word_text (codes ",")) (separated text (b ∷ more)))
+    rw (is a (comma_word ∷ list_words words (b ∷ more)), list_laid words text is (b ∷ more)) (simp append_assoc)
 
 pub list_cut : {A : Type 0} (P : A → Type 0) (words : A → List Word → List Word)
     → ((a : A) (rest : List Word) → P a → AreCut rest → AreCut (words a rest)) → (xs : List A) → Each P xs
@@ -47,8 +43,7 @@ OneOrMore P [] = ⊥
 OneOrMore P (a ∷ more) = P a × Each P more
 
 pub some_each : {A : Type 0} (P : A → Type 0) (xs : List A) → OneOrMore P xs → Each P xs
-some_each P [] is = absurd is
-some_each P (a ∷ more) is = is
+some_each P xs is = grind arith
 
 -- words before any others
 pub record IsPart (words : List Word → List Word) : Type 0 where
@@ -58,12 +53,7 @@ pub one_part : (w : Word) → IsPart (λ rest. w ∷ rest)
 one_part w = record { before = λ rest. refl }
 
 pub two_parts : (g h : List Word → List Word) → IsPart g → IsPart h → IsPart (λ rest. g (h rest))
-two_parts g h p q = record {
-  before = λ rest.
-      p.before (h rest) ∙ ap (λ l. map symbol (g []) ++ l) (q.before rest)
-      ∙ sym (append_assoc (map symbol (g [])) (map symbol (h [])) (map symbol rest))
-      ∙ ap (λ l. l ++ map symbol rest) (sym (p.before (h [])));
-}
+two_parts g h p q = grind (arith, append_assoc)
 
 pub after_word : {words : List Word → List Word} (w : Word) → IsPart words → IsPart (λ rest. w ∷ words rest)
 after_word {words} w p = two_parts (λ rest. w ∷ rest) words (one_part w) p
@@ -75,5 +65,5 @@ pub list_said : {A : Type 0} (P : List Symbol → A → Type 0) (Q : A → Type 
 list_said P Q words part says [] is = absurd is
 list_said P Q words part says (a ∷ []) is = Last (says a is.0)
 list_said P Q words part says (a ∷ b ∷ more) is =
-    subst (λ l. IsList P l (a ∷ b ∷ more)) (sym ((part a).before (comma_word ∷ list_words words (b ∷ more))))
+    rw ((part a).before (comma_word ∷ list_words words (b ∷ more)))
     (Comma (says a is.0) (list_said P Q words part says (b ∷ more) is.1))

@@ -1,6 +1,7 @@
 -- What a line says after its label reads back.
+use Rattle.std.proofs.Common.{arith}
 use Rattle.std.proofs.Common.{◌≡◌, ℕ, Bool, true, false, map, List, [], ◌∷◌, Option, Some, None, refl, sym, ap}
-use Rattle.std.proofs.Common.{◌∙◌, subst, append-nil, append_assoc}
+use Rattle.std.proofs.Common.{append-nil, append_assoc}
 use Rattle.std.specs.Prelude.{codes}
 use Rattle.m51_cells.specs.Name.{name_of}
 use Rattle.m51_cells.specs.declared.kind.Kind.{Kind}
@@ -9,9 +10,8 @@ use Rattle.m51_cells.specs.declared.kind.Reloc.{Reloc}
 use Rattle.m51_cells.specs.declared.kind.Reloc.TheVariants as reloc
 use Rattle.m51_isa.specs.Mnemonics.{is_mnemonic}
 use Rattle.m51_isa.proofs.FoundMnemonics.{has_mnemonic}
-use Rattle.m51_expr.specs.declared.symbol.Symbol.{Symbol}
 use Rattle.m51_expr.specs.declared.symbol.Symbol.TheVariants as symbols
-use Rattle.m51_expr.specs.Symbol.{operator_of, prefix_word, relation_word, arithmetic_word, word_symbol, word_or_other}
+use Rattle.m51_expr.specs.Symbol.{operator_of, prefix_word, relation_word, arithmetic_word, word_symbol}
 use Rattle.m51_expr.specs.Words.{is_language_word}
 use Rattle.m51_expr.specs.Tree.{Tree}
 use Rattle.m51_stmt.specs.declared.definitions.DefinitionWord.{DefinitionWord}
@@ -26,9 +26,8 @@ use Rattle.m51_stmt.specs.Definitions.{is_allowed, definition_word}
 use Rattle.m51_stmt.specs.Directives.{directive_of}
 use Rattle.m51_stmt.specs.Grammar as grammar
 use Rattle.m51_stmt.specs.Grammar.{IsSaid}
-use Rattle.m51_stmt.specs.Printing.{word_text, kind_word, reloc_word, select_word}
-use Rattle.m51_stmt.specs.Printing.{overlayable_text, at_text, operand_text, item_text, extern_text}
-use Rattle.m51_stmt.specs.Printing.{body_text}
+use Rattle.m51_stmt.specs.Printing.{word_text, kind_word, reloc_word, select_word, overlayable_text, at_text}
+use Rattle.m51_stmt.specs.Printing.{operand_text, item_text, extern_text, body_text}
 use Rattle.m51_stmt.proofs.LineCuts.{Word, laid, AreCut, symbol}
 use Rattle.m51_stmt.proofs.WordCuts.{name_word, name_cut, cuts}
 use Rattle.m51_stmt.proofs.PrintedTrees.{IsLeafName, IsTree, expr_words, expr_said, expr_cut, expr_laid, one_laid}
@@ -123,8 +122,7 @@ body_words (body.ModuleName name) = name_word (codes "NAME") ∷ name_word name 
 
 -- the text of these words
 overlayable_laid : (b : Bool) → laid (overlayable_words b) ≡ overlayable_text b
-overlayable_laid true = refl
-overlayable_laid false = refl
+overlayable_laid b = grind arith
 
 at_laid : (e : Option Tree) → laid (at_words e) ≡ at_text e
 at_laid None = refl
@@ -153,8 +151,7 @@ body_laid at b is = simp (
 
 -- they are cut
 pub select_written : (k : Kind) → name_of (select_word k) ≡ Some (select_word k)
-select_written kind.Code = refl
-select_written k = refl
+select_written k = grind arith
 
 pub reloc_written : (r : Reloc) → name_of (reloc_word r) ≡ Some (reloc_word r)
 reloc_written reloc.Abs = refl
@@ -172,13 +169,13 @@ pub body_cut : (at : ℕ) (b : BodyTree) → IsBody at b → AreCut (body_words 
 body_cut at (body.Code mnemonic operands) is =
     (name_cut is.written, list_cut IsOperand operand_words operand_cut operands is.each)
 body_cut at (body.Db items) is =
-    (name_cut refl, list_cut (IsItem true) item_words (item_cut true) items (some_each (IsItem true) items is))
+    (name_cut refl, list_cut (IsItem true) item_words (item_cut true) items (some_each _ items is))
 body_cut at (body.Dw items) is =
-    (name_cut refl, list_cut (IsItem false) item_words (item_cut false) items (some_each (IsItem false) items is))
+    (name_cut refl, list_cut (IsItem false) item_words (item_cut false) items (some_each _ items is))
 body_cut at (body.Public names) is =
-    (name_cut refl, list_cut IsLeafName name_words names_cut names (some_each IsLeafName names is))
+    (name_cut refl, list_cut _ name_words names_cut names (some_each _ names is))
 body_cut at (body.Extrn externs) is =
-    (name_cut refl, list_cut IsExtern extern_words extern_cut externs (some_each IsExtern externs is))
+    (name_cut refl, list_cut _ extern_words extern_cut externs (some_each _ externs is))
 body_cut at b is =
     search (cuts, expr_cut, kind_written, reloc_written, select_written, at_cut, overlayable_cut)
 
@@ -187,46 +184,33 @@ operands_said : (os : List OperandTree) → Each IsOperand os
     → grammar.AreOperands (map symbol (list_words operand_words os)) os
 operands_said [] is = grammar.Without
 operands_said (a ∷ more) is =
-    grammar.With (list_said grammar.IsOperand IsOperand operand_words operand_part operand_said (a ∷ more) is)
+    grammar.With (list_said _ _ operand_words operand_part operand_said (a ∷ more) is)
 
 mnemonic_is : (m : List ℕ) (os : List OperandTree) → has_form m os ≡ true → is_mnemonic m ≡ true
-mnemonic_is m [] h = has_mnemonic m _ _ _ h
-mnemonic_is m (a ∷ []) h = has_mnemonic m _ _ _ h
-mnemonic_is m (a ∷ b ∷ []) h = has_mnemonic m _ _ _ h
-mnemonic_is m (a ∷ b ∷ c ∷ []) h = has_mnemonic m _ _ _ h
-mnemonic_is m (a ∷ b ∷ c ∷ d ∷ more) h = absurd (cc h)
+mnemonic_is m os h = grind (arith, has_mnemonic)
 
 -- an instruction
 pub mnemonic_symbol : (m : List ℕ) (os : List OperandTree) → IsCode m os → symbol (name_word m) ≡ symbols.Word m
-mnemonic_symbol m os is = ap word_or_other is.written ∙ is.word
-
--- a word of the language before symbols
-abbrev SaysFirst : Bool → List Symbol → BodyTree → Symbol → Type 0
-SaysFirst labelled rest b s = IsSaid labelled (s ∷ rest) b
+mnemonic_symbol m os is = rw is.written is.word
 
 code_said : (labelled : Bool) (m : List ℕ) (os : List OperandTree) → IsCode m os
     → IsSaid labelled (map symbol (body_words (body.Code m os))) (body.Code m os)
 code_said labelled m os is =
-    subst (SaysFirst labelled (map symbol (list_words operand_words os)) (body.Code m os))
-    (sym (mnemonic_symbol m os is))
+    rw (mnemonic_symbol m os is)
     (grammar.Instruction (mnemonic_is m os is.form) (operands_said os is.each) is.form)
 
 directive_said : {labelled : Bool} (w : List ℕ) {d : Directive} (rest : List Word) {b : BodyTree}
     → directive_of w ≡ Some d → symbol (name_word w) ≡ symbols.Word w → grammar.IsDirective d (map symbol rest) b
     → IsSaid labelled (map symbol (name_word w ∷ rest)) b
-directive_said {labelled} w rest {b} found word is =
-    subst (SaysFirst labelled (map symbol rest) b) (sym word) (grammar.Directed found is)
+directive_said w rest found word is = rw word (grammar.Directed found is)
 
 -- a definition without a label before it
 define_said : {labelled : Bool} (name w : List ℕ) {d : DefinitionWord} (rest : List Word) {b : BodyTree}
     → labelled ≡ false → IsFree name → definition_word w ≡ Some d → symbol (name_word w) ≡ symbols.Word w
     → grammar.IsDefinition name d (map symbol rest) b
     → IsSaid labelled (map symbol (name_word name ∷ name_word w ∷ rest)) b
-define_said {labelled} name w rest {b} bare free found word is =
-    subst (λ l. IsSaid l (map symbol (name_word name ∷ name_word w ∷ rest)) b) (sym bare)
-    (subst (SaysFirst false (symbol (name_word w) ∷ map symbol rest) b) (sym (name_symbol name free.leaf))
-    (subst (λ s. IsSaid false (symbols.Name name ∷ s ∷ map symbol rest) b) (sym word)
-    (grammar.Defined free.free found is)))
+define_said name w rest bare free found word is =
+    rw (bare, name_symbol name free.leaf, word) (grammar.Defined free.free found is)
 
 reloc_symbol : (r : Reloc) → symbol (name_word (reloc_word r)) ≡ symbols.Word (reloc_word r)
 unfolding operator_of prefix_word relation_word arithmetic_word is_language_word
@@ -238,20 +222,16 @@ unfolding operator_of prefix_word relation_word arithmetic_word is_language_word
 overlayable_symbol = refl
 
 overlay_said : (b : Bool) → grammar.HasOverlay (map symbol (overlayable_words b)) b
-overlay_said true = subst (λ s. grammar.HasOverlay (s ∷ []) true) (sym overlayable_symbol) grammar.Overlay
+overlay_said true = rw overlayable_symbol grammar.Overlay
 overlay_said false = grammar.Nothing
 
 segment_said : (name : List ℕ) (k : Kind) (r : Reloc) (b : Bool) → IsSegment name k r b
     → grammar.IsDefinition name definition.Segment
     (map symbol (name_word (kind_word k) ∷ name_word (reloc_word r) ∷ overlayable_words b)) (body.Segment name k r b)
 segment_said name k r b is =
-    let last = map symbol (overlayable_words b) in
-    subst (λ s. grammar.IsDefinition name definition.Segment (s ∷ symbol (name_word (reloc_word r)) ∷ last)
-    (body.Segment name k r b)) (sym (kind_symbol k))
-    (subst (λ s. grammar.IsDefinition name definition.Segment (symbols.Word (kind_word k) ∷ s ∷ last)
-    (body.Segment name k r b)) (sym (reloc_symbol r))
-    (grammar.Segment {type = symbols.Word (reloc_word r) ∷ []} {last = last} is.kind_is (grammar.Typed is.reloc_is)
-    (overlay_said b) is.allowed))
+    rw (kind_symbol k, reloc_symbol r)
+    (grammar.Segment {type = symbols.Word (reloc_word r) ∷ []} is.kind_is (grammar.Typed is.reloc_is) (overlay_said b)
+    is.allowed)
 
 pub select_symbol : (k : Kind) → symbol (name_word (select_word k)) ≡ symbols.Word (select_word k)
 unfolding operator_of prefix_word relation_word arithmetic_word is_language_word
@@ -266,8 +246,7 @@ select_said k (Some e) is = grammar.SelectAt (expr_said e is)
 
 kind_defines : (k : Kind) → IsKind k → definition_word (kind_word k) ≡ Some (definition.Address k)
 unfolding definition_word kind_of
-kind_defines kind.Number is = absurd (cc is)
-kind_defines k is = refl
+kind_defines k is = grind arith
 
 pub body_said : (labelled : Bool) (at : ℕ) → (at ≡ 0 → labelled ≡ false) → (b : BodyTree) → IsBody at b
     → IsSaid labelled (map symbol (body_words b)) b
@@ -279,35 +258,35 @@ body_said labelled at first (body.Mod51 on) is = absurd is
 body_said labelled at first body.End is = directive_said (codes "END") [] refl refl grammar.End
 body_said labelled at first (body.Code m os) is = code_said labelled m os is
 body_said labelled at first (body.Db items) is =
-    directive_said (codes "DB") (list_words item_words items) refl refl (grammar.Db (items_said items is))
+    directive_said (codes "DB") _ refl refl (grammar.Db (items_said items is))
 body_said labelled at first (body.Dw items) is =
-    directive_said (codes "DW") (list_words item_words items) refl refl (grammar.Dw (values_said items is))
+    directive_said (codes "DW") _ refl refl (grammar.Dw (values_said items is))
 body_said labelled at first (body.Ds e) is =
-    directive_said (codes "DS") (expr_words e []) refl refl (grammar.Ds (expr_said e is))
+    directive_said (codes "DS") _ refl refl (grammar.Ds (expr_said e is))
 body_said labelled at first (body.Dbit e) is =
-    directive_said (codes "DBIT") (expr_words e []) refl refl (grammar.Dbit (expr_said e is))
+    directive_said (codes "DBIT") _ refl refl (grammar.Dbit (expr_said e is))
 body_said labelled at first (body.Org e) is =
-    directive_said (codes "ORG") (expr_words e []) refl refl (grammar.Org (expr_said e is))
+    directive_said (codes "ORG") _ refl refl (grammar.Org (expr_said e is))
 body_said labelled at first (body.Using e) is =
-    directive_said (codes "USING") (expr_words e []) refl refl (grammar.Using (expr_said e is))
+    directive_said (codes "USING") _ refl refl (grammar.Using (expr_said e is))
 body_said labelled at first (body.Segment name k r b) is =
     define_said name (codes "SEGMENT") (name_word (kind_word k) ∷ name_word (reloc_word r) ∷ overlayable_words b)
     (first is.0) is.1.name_is refl refl (segment_said name k r b is.1)
 body_said labelled at first (body.Rseg name) is =
     directive_said (codes "RSEG") (name_words name []) refl refl (grammar.Rseg (name_said name is))
 body_said labelled at first (body.Select k e) is =
-    directive_said (select_word k) (at_words e) is.0 (select_symbol k) (select_said k e is.1)
+    directive_said (select_word k) _ is.0 (select_symbol k) (select_said k e is.1)
 body_said labelled at first (body.Equ name e) is =
-    define_said name (codes "EQU") (expr_words e []) (first is.0) is.1 refl refl (grammar.Equ (expr_said e is.2))
+    define_said name (codes "EQU") _ (first is.0) is.1 refl refl (grammar.Equ (expr_said e is.2))
 body_said labelled at first (body.Set name e) is =
-    define_said name (codes "SET") (expr_words e []) (first is.0) is.1 refl refl (grammar.Set (expr_said e is.2))
+    define_said name (codes "SET") _ (first is.0) is.1 refl refl (grammar.Set (expr_said e is.2))
 body_said labelled at first (body.Address name k e) is =
-    define_said name (kind_word k) (expr_words e []) (first is.0) is.1 (kind_defines k is.2) (kind_symbol k)
+    define_said name (kind_word k) _ (first is.0) is.1 (kind_defines k is.2) (kind_symbol k)
     (grammar.Address (expr_said e is.3))
 body_said labelled at first (body.Public names) is =
-    directive_said (codes "PUBLIC") (list_words name_words names) refl refl (grammar.Public (names_said names is))
+    directive_said (codes "PUBLIC") _ refl refl (grammar.Public (names_said names is))
 body_said labelled at first (body.Extrn externs) is =
-    directive_said (codes "EXTRN") (list_words extern_words externs) refl refl
+    directive_said (codes "EXTRN") _ refl refl
     (grammar.Extrn (externs_said externs is))
 body_said labelled at first (body.ModuleName name) is =
     directive_said (codes "NAME") (name_words name []) refl refl (grammar.ModuleName (name_said name is))

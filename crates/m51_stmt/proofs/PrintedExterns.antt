@@ -1,5 +1,5 @@
 -- The printed names of EXTRN read back.
-use Rattle.std.proofs.Common.{◌≡◌, ℕ, false, map, List, [], ◌∷◌, ◌++◌, Some, None, refl, sym, append_assoc, subst}
+use Rattle.std.proofs.Common.{◌≡◌, ℕ, false, map, List, [], ◌∷◌, ◌++◌, Some, None, refl, sym, append_assoc}
 use Rattle.std.specs.Prelude.{codes}
 use Rattle.m51_cells.specs.Name.{name_of}
 use Rattle.m51_cells.specs.declared.kind.Kind.{Kind}
@@ -59,14 +59,10 @@ group_said : (x : List ℕ × Kind) (rest : List Symbol) (xs : List (List ℕ ×
     → grammar.AreExterns (Some x.1) (symbols.Name x.0 ∷ rest) xs
     → grammar.AreExterns None (symbol (name_word (kind_word x.1)) ∷ symbols.Open ∷ symbol (name_word x.0) ∷ rest) xs
 group_said x rest xs is names =
-    subst (λ k. grammar.AreExterns None (k ∷ symbols.Open ∷ symbol (name_word x.0) ∷ rest) xs) (sym (kind_symbol x.1))
-    (subst (λ s. grammar.AreExterns None (symbols.Word (kind_word x.1) ∷ symbols.Open ∷ s ∷ rest) xs)
-    (sym (name_symbol x.0 is.leaf)) (grammar.Group (kind_read x.1) names))
+    rw (kind_symbol x.1, name_symbol x.0 is.leaf) (grammar.Group (kind_read x.1) names)
 
 pub externs_said : (xs : List (List ℕ × Kind)) → OneOrMore IsExtern xs
     → grammar.AreExterns None (map symbol (list_words extern_words xs)) xs
 externs_said [] is = absurd is
-externs_said (x ∷ []) is = group_said x (symbols.Close ∷ []) (x ∷ []) is.0 (grammar.Last is.0.free)
-externs_said (x ∷ y ∷ more) is =
-    group_said x (symbols.Close ∷ symbols.Comma ∷ map symbol (list_words extern_words (y ∷ more))) (x ∷ y ∷ more) is.0
-    (grammar.Next is.0.free (externs_said (y ∷ more) is.1))
+externs_said (x ∷ []) is = group_said x _ _ is.0 (grammar.Last is.0.free)
+externs_said (x ∷ y ∷ more) is = group_said x _ _ is.0 (grammar.Next is.0.free (externs_said (y ∷ more) is.1))

@@ -1,7 +1,6 @@
 -- Printed names and items read back.
 use Rattle.std.proofs.Common.{◌≡◌, ℕ, ◌-◌, ◌==◌, Bool, true, false, cond, max, map, List, [], ◌∷◌, ◌++◌, length, take}
-use Rattle.std.proofs.Common.{refl, sym, ap, ◌∙◌, arith, append_assoc, length-append, subst}
-use Rattle.std.proofs.lemmas.Grind.{common_steps}
+use Rattle.std.proofs.Common.{refl, sym, ap, arith, append_assoc, length-append}
 use Rattle.std.proofs.Math.Seq.{take-append_seam}
 use Rattle.m51_lex.specs.Characters.{quote}
 use Rattle.m51_expr.specs.declared.symbol.Symbol.TheVariants as symbols
@@ -25,12 +24,11 @@ pub names_cut : (name : List ℕ) (rest : List Word) → IsLeafName name → Are
 names_cut name rest is more = (name_cut is.written, more)
 
 pub name_said : (name : List ℕ) → IsLeafName name → grammar.IsName (map symbol (name_words name [])) name
-name_said name is = subst (λ s. grammar.IsName (s ∷ []) name) (sym (name_symbol name is)) grammar.Name
+name_said name is = rw (name_symbol name is) grammar.Name
 
 pub names_said : (names : List (List ℕ)) → OneOrMore IsLeafName names
     → grammar.IsList grammar.IsName (map symbol (list_words name_words names)) names
-names_said names is = list_said grammar.IsName IsLeafName name_words (λ name. one_part (name_word name)) name_said names
-    is
+names_said names is = list_said _ _ name_words (λ name. one_part (name_word name)) name_said names is
 
 -- items
 abbrev pub item_words : ItemTree → List Word → List Word
@@ -43,24 +41,16 @@ IsItem texts (Value e) = IsTree e
 IsItem texts (Text characters) = texts ≡ true
 
 pub item_laid : (i : ItemTree) (rest : List Word) → laid (item_words i rest) ≡ item_text i ++ laid rest
-item_laid (Value e) rest = expr_laid e rest
-item_laid (Text characters) rest =
-    ap (λ l. quote ∷ l) (append_assoc (doubled characters) (quote ∷ []) (32 ∷ laid rest)
-    ∙ sym (append_assoc (doubled characters) (quote ∷ 32 ∷ []) (laid rest)))
+item_laid i rest = grind (arith, expr_laid, append_assoc)
 
 pub item_cut : (texts : Bool) (i : ItemTree) (rest : List Word) → IsItem texts i → AreCut rest
     → AreCut (item_words i rest)
 item_cut texts (Value e) rest is more = expr_cut e rest is more
 item_cut texts (Text characters) rest is more = (text_cut characters, more)
 
-one_character : (c : ℕ) (rest : List ℕ) → (c == quote) ≡ false → characters (c ∷ rest) ≡ c ∷ characters rest
-one_character c [] other = refl
-one_character c (d ∷ more) other = grind (arith, common_steps, other)
-
 undoubled_by : (c : ℕ) (more : List ℕ) (b : Bool) → (c == quote) ≡ b → characters (doubled more) ≡ more
     → characters (cond b (quote ∷ quote ∷ doubled more) (c ∷ doubled more)) ≡ c ∷ more
-undoubled_by c more true is h = let same : quote ≡ c = grind (arith, common_steps, is) in (λ i. same i ∷ h i)
-undoubled_by c more false is h = one_character c (doubled more) is ∙ ap (λ l. c ∷ l) h
+undoubled_by c more b is h = grind arith
 
 undoubled : (cs : List ℕ) → characters (doubled cs) ≡ cs
 undoubled [] = refl
@@ -70,20 +60,20 @@ between : (inside : List ℕ) → between_quotes (quote ∷ inside ++ quote ∷ 
 between inside =
     let n : max (length (quote ∷ inside ++ quote ∷ [])) 2 - 1 - 1 ≡ length inside =
     omega (arith, length-append inside (quote ∷ [])) in
-    ap (λ k. take k (inside ++ quote ∷ [])) n ∙ take-append_seam inside (quote ∷ [])
+    rw n (take-append_seam inside (quote ∷ []))
 
 -- a text is its characters
 text_symbol : (cs : List ℕ) → symbol (text_word cs) ≡ symbols.Text cs
-text_symbol cs = ap (λ l. symbols.Text (characters l)) (between (doubled cs)) ∙ ap symbols.Text (undoubled cs)
+text_symbol cs = rw (between (doubled cs), undoubled cs) refl
 
 -- an expression that is printed is no text
 no_text : (e : Tree) → IsTree e → grammar.is_text_alone (map symbol (expr_words e [])) ≡ false
-no_text (tree.Name name) is = ap (λ s. grammar.is_text_alone (s ∷ [])) (name_symbol name is)
+no_text (tree.Name name) is = rw (name_symbol name is) refl
 no_text e is = refl
 
 item_said : (i : ItemTree) → IsItem true i → grammar.IsItem (map symbol (item_words i [])) i
 item_said (Value e) is = grammar.Value (no_text e is) (expr_said e is)
-item_said (Text cs) is = subst (λ s. grammar.IsItem (s ∷ []) (Text cs)) (sym (text_symbol cs)) grammar.Text
+item_said (Text cs) is = rw (text_symbol cs) grammar.Text
 
 value_said : (i : ItemTree) → IsItem false i → grammar.IsValue (map symbol (item_words i [])) i
 value_said (Value e) is = grammar.Data (expr_said e is)
@@ -95,8 +85,8 @@ item_part (Text cs) = one_part (text_word cs)
 
 pub items_said : (xs : List ItemTree) → OneOrMore (IsItem true) xs
     → grammar.IsList grammar.IsItem (map symbol (list_words item_words xs)) xs
-items_said xs is = list_said grammar.IsItem (IsItem true) item_words item_part item_said xs is
+items_said xs is = list_said _ (IsItem true) item_words item_part item_said xs is
 
 pub values_said : (xs : List ItemTree) → OneOrMore (IsItem false) xs
     → grammar.IsList grammar.IsValue (map symbol (list_words item_words xs)) xs
-values_said xs is = list_said grammar.IsValue (IsItem false) item_words item_part value_said xs is
+values_said xs is = list_said _ (IsItem false) item_words item_part value_said xs is

@@ -1,5 +1,5 @@
 -- Printed operands read back.
-use Rattle.std.proofs.Common.{◌≡◌, ℕ, zero, suc, ◌<◌, map, List, [], ◌∷◌, ◌++◌, Some, refl, sym, ap, arith, subst}
+use Rattle.std.proofs.Common.{◌≡◌, ℕ, ◌<◌, map, List, [], ◌∷◌, ◌++◌, Some, refl, sym, ap, arith}
 use Rattle.std.specs.Prelude.{codes}
 use Rattle.m51_isa.proofs.Distinct.{of_register}
 use Rattle.m51_cells.specs.Name.{name_of}
@@ -13,7 +13,7 @@ use Rattle.m51_stmt.specs.Operands.{register, pointer, sum}
 use Rattle.m51_stmt.specs.Printing.{register_word, operand_text}
 use Rattle.m51_stmt.proofs.LineCuts.{Word, laid, IsCut, AreCut, symbol}
 use Rattle.m51_stmt.proofs.WordCuts.{name_word, sign_word, name_cut, sign_cut, cuts}
-use Rattle.m51_stmt.proofs.PrintedTrees.{IsTree, expr_words, expr_said, expr_cut, expr_laid, one_laid}
+use Rattle.m51_stmt.proofs.PrintedTrees.{IsTree, expr_words, expr_said, expr_cut, expr_laid}
 use Rattle.m51_stmt.proofs.ListWords.{IsPart, after_word, one_part}
 use Rattle.m51_stmt.proofs.PrintedParts.{expr_part}
 
@@ -46,16 +46,10 @@ operand_words (NotBit e) rest = sign_word 0x2F ∷ expr_words e rest
 
 pub operand_laid : (o : OperandTree) (rest : List Word) → laid (operand_words o rest) ≡ operand_text o ++ laid rest
 unfolding operand_text
-operand_laid (R n) rest = one_laid (register_word n) (laid rest)
-operand_laid (AtR n) rest = ap (λ l. 0x40 ∷ 32 ∷ l) (one_laid (register_word n) (laid rest))
-operand_laid (Imm e) rest = ap (λ l. 0x23 ∷ 32 ∷ l) (expr_laid e rest)
-operand_laid (Plain e) rest = expr_laid e rest
-operand_laid (NotBit e) rest = ap (λ l. 0x2F ∷ 32 ∷ l) (expr_laid e rest)
-operand_laid other rest = refl
+operand_laid o rest = grind (arith, expr_laid)
 
 pub register_written : (n : ℕ) → n < 8 → name_of (register_word n) ≡ Some (register_word n)
-register_written n h = of_register (λ n. name_of (register_word n) ≡ Some (register_word n)) refl refl refl refl refl
-    refl refl refl n h
+register_written n h = grind arith
 
 register_cut : (n : ℕ) → n < 8 → IsCut (name_word (register_word n))
 register_cut n h = name_cut (register_written n h)
@@ -77,9 +71,7 @@ register_read n h = of_register (λ n. register (register_word n) ≡ Some (R n)
 
 pointer_read : (n : ℕ) → n < 2 → pointer (register_word n) ≡ Some (AtR n)
 unfolding pointer
-pointer_read zero h = refl
-pointer_read (suc zero) h = refl
-pointer_read (suc (suc n)) h = absurd (omega (arith, h))
+pointer_read n h = grind arith
 
 pub operand_said : (o : OperandTree) → IsOperand o → grammar.IsOperand (map symbol (operand_words o [])) o
 unfolding register pointer sum operator_of prefix_word relation_word arithmetic_word is_language_word
@@ -90,11 +82,8 @@ operand_said Dptr is = grammar.Register {word = codes "DPTR"} refl
 operand_said APc is = grammar.Sum {word = codes "PC"} refl
 operand_said ADptr is = grammar.Sum {word = codes "DPTR"} refl
 operand_said AtDptr is = grammar.Pointer {word = codes "DPTR"} refl
-operand_said (R n) is =
-    subst (λ s. grammar.IsOperand (s ∷ []) (R n)) (sym (register_symbol n is)) (grammar.Register (register_read n is))
-operand_said (AtR n) is =
-    subst (λ s. grammar.IsOperand (symbols.At ∷ s ∷ []) (AtR n)) (sym (register_symbol n (omega (arith, is))))
-    (grammar.Pointer (pointer_read n is))
+operand_said (R n) is = rw (register_symbol n is) (grammar.Register (register_read n is))
+operand_said (AtR n) is = rw (register_symbol n (omega (arith, is))) (grammar.Pointer (pointer_read n is))
 operand_said (Imm e) is = grammar.Immediate (expr_said e is)
 operand_said (Plain e) is = grammar.Address (expr_said e is)
 operand_said (NotBit e) is = grammar.Inverted (expr_said e is)

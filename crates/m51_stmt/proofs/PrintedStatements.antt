@@ -1,32 +1,25 @@
 -- Printed statements read back.
-use Rattle.std.proofs.Common.{◌≡◌, ℕ, ◌<◌, ◌==◌, true, false, cond, map, List, [], ◌∷◌, ◌++◌, length}
-use Rattle.std.proofs.Common.{take, drop, Option, Some, None, Ok, Err, refl, sym, ap, ◌∙◌, arith, subst, append_assoc}
-use Rattle.std.proofs.Common.{inl, inr, rules, ◌⊎◌}
-use Rattle.std.specs.Prelude.{codes, option_and_then}
+use Rattle.std.proofs.Common.{◌≡◌, ℕ, ◌<◌, ◌==◌, true, false, map, List, [], ◌∷◌, ◌++◌, length, take, drop, Option}
+use Rattle.std.proofs.Common.{Some, None, Ok, refl, sym, ap, ◌∙◌, arith, append_assoc, inl, inr, ◌⊎◌}
 use Rattle.std.specs.List.{list_all, prefix_len}
-use Rattle.std.proofs.lemmas.Bool.{and_parts}
 use Rattle.std.proofs.lemmas.Grind.{common_steps}
 use Rattle.std.proofs.Math.Seq.{drop-append_seam, take-append_seam}
-use Rattle.m51_cells.proofs.NameLaws.{name_parts, named_is_name}
 use Rattle.m51_cells.proofs.Small.{not_zero}
 use Rattle.m51_cells.specs.Name as cells
 use Rattle.m51_cells.specs.Name.{name_of, is_name}
-use Rattle.m51_cells.specs.declared.fault.TheConstants.{BAD_FORM}
 use Rattle.m51_expr.specs.declared.symbol.Symbol.TheVariants as symbols
-use Rattle.m51_stmt.specs.Answer.{and_then}
 use Rattle.m51_stmt.specs.Statement as body
 use Rattle.m51_stmt.specs.Statement.{BodyTree, StmtTree}
 use Rattle.m51_stmt.specs.Control as control
-use Rattle.m51_stmt.specs.Control.{is_inside, behind_sign, if_ended, closed_at, include_of, is_ignored_word}
+use Rattle.m51_stmt.specs.Control.{is_inside, closed_at, is_ignored_word}
 use Rattle.m51_stmt.specs.Grammar as grammar
-use Rattle.m51_stmt.specs.Lines.{statement, control_line, token_line, any_line}
-use Rattle.m51_stmt.specs.Printing.{word_text, body_text, stmt_text}
+use Rattle.m51_stmt.specs.Lines.{statement, token_line, any_line}
+use Rattle.m51_stmt.specs.Printing.{body_text, stmt_text}
 use Rattle.m51_stmt.proofs.LineCuts.{Word, laid, laid_cut, symbol, words_read}
 use Rattle.m51_stmt.proofs.WordCuts.{name_word, sign_word, name_cut, sign_cut, run_ends}
-use Rattle.m51_stmt.proofs.PrintedTrees.{one_laid}
 use Rattle.m51_stmt.proofs.PrintedParts.{name_symbol}
 use Rattle.m51_stmt.proofs.PrintedExterns.{IsFree}
-use Rattle.m51_stmt.proofs.PrintedBodies.{select_written, IsBody, body_words, body_laid, body_cut, body_said}
+use Rattle.m51_stmt.proofs.PrintedBodies.{IsBody, body_words, body_laid, body_cut, body_said}
 use Rattle.m51_stmt.proofs.Derives.{statement_reads}
 
 -- a control that can be read
@@ -54,13 +47,6 @@ record Begins (ws : List Word) : Type 0 where
 begun : (name : List ℕ) (rest : List Word) → name_of name ≡ Some name → Begins (name_word name ∷ rest)
 begun name rest h = record { name = name; rest = rest; is = refl; written = h }
 
-body_begins : (at : ℕ) (b : BodyTree) → IsBody at b → (b ≡ body.Empty) ⊎ Begins (body_words b)
-body_begins at body.Empty is = inl refl
-body_begins at body.Ignored is = absurd is
-body_begins at (body.Include name) is = absurd is
-body_begins at (body.Mod51 on) is = absurd is
-body_begins at b is = inr (begun _ _ (search (rules, select_written)))
-
 no_dollar : (c : ℕ) → cells.is_name_byte c ≡ true → (c == 0x24) ≡ false
 no_dollar c h = grind (arith, common_steps)
 
@@ -70,17 +56,10 @@ no_percent c h = grind (arith, common_steps)
 -- a line that begins with a name is one of tokens
 pub name_line : (text rest : List ℕ) → is_name text ≡ true → any_line (text ++ rest) ≡ token_line (text ++ rest)
 unfolding any_line
-name_line [] rest h = absurd (cc h)
-name_line (c ∷ more) rest h =
-    let is = (and_parts (cells.is_name_byte c) (list_all cells.is_name_byte more) (name_parts c more h).bytes).0 in
-    let line = c ∷ (more ++ rest) in
-    ap (λ b. cond b (control_line (drop 1 line)) (cond (c == 0x25) (Err BAD_FORM) (token_line line))) (no_dollar c is)
-    ∙ ap (λ b. cond b (Err BAD_FORM) (token_line line)) (no_percent c is)
+name_line text rest h = grind (arith, no_dollar, no_percent)
 
 begun_line : (ws : List Word) → Begins ws → any_line (laid ws) ≡ token_line (laid ws)
-begun_line ws b =
-    let P : List Word → Type 0 = λ ws. any_line (laid ws) ≡ token_line (laid ws) in
-    subst P (sym b.is) (name_line b.name (32 ∷ laid b.rest) (named_is_name b.name b.name b.written))
+begun_line ws b = rw b.is (grind (arith, name_line))
 
 abbrev bare : BodyTree → StmtTree
 bare b = record { label = None; body = b }
@@ -91,17 +70,15 @@ labelled name b = record { label = Some name; body = b }
 
 -- without a label
 bare_read : (b : BodyTree) → IsBody 0 b → statement (map symbol (body_words b)) ≡ Some (bare b)
-bare_read b is = statement_reads (map symbol (body_words b)) (bare b)
-    (grammar.Bare (body_said false 0 (λ _. refl) b is))
+bare_read b is = statement_reads _ _ (grammar.Bare (body_said false 0 (λ _. refl) b is))
 
 bare_printed : (b : BodyTree) → IsBody 0 b → (b ≡ body.Empty) ⊎ Begins (body_words b)
     → any_line (stmt_text (bare b)) ≡ Ok (bare b)
 unfolding any_line body_text
-bare_printed b is (inl empty) = let P : BodyTree → Type 0 = λ b. any_line (stmt_text (bare b)) ≡ Ok (bare b) in
-    subst P (sym empty) refl
+bare_printed b is (inl empty) = rw empty refl
 bare_printed b is (inr begins) =
-    ap any_line (sym (body_laid 0 b is)) ∙ begun_line (body_words b) begins
-    ∙ words_read (bare b) (laid_cut (body_words b) (body_cut 0 b is)) (bare_read b is)
+    ap any_line (sym (body_laid 0 b is)) ∙ begun_line _ begins
+    ∙ words_read (bare b) (laid_cut _ (body_cut 0 b is)) (bare_read b is)
 
 -- after a label
 abbrev labelled_words : List ℕ → BodyTree → List Word
@@ -110,56 +87,46 @@ labelled_words name b = name_word name ∷ sign_word 0x3A ∷ body_words b
 labelled_read : (name : List ℕ) (b : BodyTree) → IsFree name → IsBody 2 b
     → statement (map symbol (labelled_words name b)) ≡ Some (labelled name b)
 labelled_read name b label is =
-    ap (λ s. statement (s ∷ symbols.Colon ∷ map symbol (body_words b))) (name_symbol name label.leaf)
-    ∙ statement_reads (symbols.Name name ∷ symbols.Colon ∷ map symbol (body_words b)) (labelled name b)
-    (grammar.Labelled label.free (body_said true 2 (λ h. absurd (cc h)) b is))
+    rw (name_symbol name label.leaf)
+    (statement_reads _ _ (grammar.Labelled label.free (body_said true 2 (λ h. absurd (cc h)) b is)))
 
 labelled_laid : (name : List ℕ) (b : BodyTree) → IsBody 2 b → laid (labelled_words name b) ≡ stmt_text (labelled name b)
 labelled_laid name b is =
-    ap (λ l. name ++ 32 ∷ 0x3A ∷ 32 ∷ l) (body_laid 2 b is)
-    ∙ one_laid name (0x3A ∷ 32 ∷ body_text b)
-    ∙ sym (append_assoc (word_text name) (word_text (codes ":")) (body_text b))
+    rw (body_laid 2 b is)
+    (grind (arith, append_assoc))
 
 labelled_printed : (name : List ℕ) (b : BodyTree) → IsFree name → IsBody 2 b
     → any_line (stmt_text (labelled name b)) ≡ Ok (labelled name b)
 labelled_printed name b label is =
-    let ws = labelled_words name b in
     ap any_line (sym (labelled_laid name b is))
-    ∙ begun_line ws (begun name (sign_word 0x3A ∷ body_words b) label.leaf.written)
-    ∙ words_read (labelled name b) (laid_cut ws (name_cut label.leaf.written, (sign_cut refl, body_cut 2 b is)))
+    ∙ begun_line _ (begun name (sign_word 0x3A ∷ body_words b) label.leaf.written)
+    ∙ words_read (labelled name b)
+    (laid_cut (labelled_words name b) (name_cut label.leaf.written, (sign_cut refl, body_cut 2 b is)))
     (labelled_read name b label is)
 
 -- controls
 closed_here : (name : List ℕ) → 0 < length name → list_all is_inside name ≡ true
     → closed_at (name ++ 0x29 ∷ 32 ∷ []) (prefix_len is_inside (name ++ 0x29 ∷ 32 ∷ [])) ≡ Some name
 closed_here name some all =
-    let x = name ++ 0x29 ∷ 32 ∷ [] in
-    ap (closed_at x) (run_ends is_inside name (0x29 ∷ 32 ∷ []) all refl)
-    ∙ ap (λ b. cond b None
-    (option_and_then (if_ended (take (length name) x)) (behind_sign 0x29 (drop (length name) x))))
-    (not_zero (length name) some)
-    ∙ ap (λ l. option_and_then (if_ended l) (behind_sign 0x29 (drop (length name) x)))
-    (take-append_seam name (0x29 ∷ 32 ∷ []))
-    ∙ ap (λ l. option_and_then (if_ended name) (behind_sign 0x29 l)) (drop-append_seam name (0x29 ∷ 32 ∷ []))
+    rw (
+      run_ends is_inside name (0x29 ∷ 32 ∷ []) all refl,
+      not_zero (length name) some,
+      take-append_seam name (0x29 ∷ 32 ∷ []),
+      drop-append_seam name (0x29 ∷ 32 ∷ []),
+    ) refl
 
 include_printed : (name : List ℕ) → 0 < length name → list_all is_inside name ≡ true
     → any_line (stmt_text (bare (body.Include name))) ≡ Ok (bare (body.Include name))
 unfolding any_line body_text control.body_by_word
-include_printed name some all = ap (λ o. and_then (include_of o) (λ b. Ok (bare b))) (closed_here name some all)
+include_printed name some all = rw (closed_here name some all) refl
 
 control_printed : (b : BodyTree) → IsControl b → any_line (stmt_text (bare b)) ≡ Ok (bare b)
 unfolding any_line body_text control.body_by_word is_ignored_word
-control_printed body.Ignored is = refl
-control_printed (body.Include name) is = include_printed name is.0 is.1
-control_printed (body.Mod51 true) is = refl
-control_printed (body.Mod51 false) is = refl
-control_printed b is = absurd is
+control_printed b is = grind (arith, include_printed)
 
 printed_by : (label : Option (List ℕ)) (b : BodyTree) → IsLine label b
     → any_line (stmt_text (record { label = label; body = b })) ≡ Ok (record { label = label; body = b })
-printed_by None b (inl is) = control_printed b is
-printed_by None b (inr is) = bare_printed b is (body_begins 0 b is)
-printed_by (Some name) b is = labelled_printed name b is.0 is.1
+printed_by label b h2 = grind (arith, control_printed, bare_printed, labelled_printed)
 
 -- each statement that can be read is what its printed text is read as
 pub printed : (s : StmtTree) → IsStatement s → any_line (stmt_text s) ≡ Ok s

@@ -1,6 +1,6 @@
 -- A printed expression reads back.
 use Rattle.std.proofs.Common.{◌≡◌, ℕ, zero, suc, ◌+◌, ◌-◌, ◌<◌, ◌≤◌, map, List, [], ◌∷◌, ◌++◌, length, drop, drop-drop}
-use Rattle.std.proofs.Common.{Some, None, refl, sym, ap, ◌∙◌, arith, subst, append_assoc, slice_get}
+use Rattle.std.proofs.Common.{Some, None, refl, sym, ap, ◌∙◌, arith, append_assoc, slice_get}
 use Rattle.std.specs.Prelude.{codes}
 use Rattle.m51_cells.specs.Name.{name_of}
 use Rattle.m51_lex.specs.declared.token.What.{What}
@@ -12,7 +12,7 @@ use Rattle.m51_expr.specs.declared.tree.Binary.{Binary}
 use Rattle.m51_expr.specs.declared.tree.Binary.TheVariants as op2
 use Rattle.m51_expr.specs.declared.symbol.Symbol.{Symbol}
 use Rattle.m51_expr.specs.declared.symbol.Symbol.TheVariants as symbols
-use Rattle.m51_expr.specs.Symbol.{operator_of, prefix_word, relation_word, arithmetic_word, word_or_other, word_symbol}
+use Rattle.m51_expr.specs.Symbol.{operator_of, prefix_word, relation_word, arithmetic_word, word_symbol}
 use Rattle.m51_expr.specs.Tree as tree
 use Rattle.m51_expr.specs.Tree.{Tree}
 use Rattle.m51_expr.specs.Ranks.{prefix_rank, infix_rank, prefix_of, infix_of, is_open, is_close, leaf_of}
@@ -86,10 +86,9 @@ expr_laid (tree.Name name) rest = one_laid name (laid rest)
 expr_laid tree.Here rest = refl
 expr_laid (tree.One op e) rest = simp (expr_laid e (close_word ∷ rest), append_assoc)
 expr_laid (tree.Two op left right) rest =
-    rw (expr_laid left (between_word op ∷ expr_words right (close_word ∷ rest)))
-    (rw (expr_laid right (close_word ∷ rest))
+    rw (expr_laid left (between_word op ∷ expr_words right (close_word ∷ rest)), expr_laid right (close_word ∷ rest))
     (around (word_text (codes "(")) (expr_text left) (binary_word op) (space ∷ []) (expr_text right)
-    (word_text (codes ")")) (laid rest)))
+    (word_text (codes ")")) (laid rest))
 
 before_cut : (op : Unary) → IsCut (before_word op)
 before_cut op1.Plus = sign_cut refl
@@ -122,17 +121,14 @@ between_is op2.Mul = refl
 between_is op = refl
 
 prefix_low : (op : Unary) → prefix_rank op ≤ 8
-prefix_low op1.Not = omega arith
-prefix_low op = omega arith
+prefix_low op = grind arith
 
 infix_low : (op : Binary) → infix_rank op + 1 ≤ 8
-infix_low op2.Mul = omega arith
-infix_low op = omega arith
+infix_low op = grind arith
 
 loosen : (d : ℕ) {line : Line} {at : ℕ} {e : Tree} {to : ℕ} (tight rank : ℕ) → rank + d ≡ tight → tight ≤ 8
     → Writes line tight at e to → Writes line rank at e to
-loosen zero {line} {at} {e} {to} tight rank h le w = let same : tight ≡ rank = omega (arith, h) in
-    subst (λ r. Writes line r at e to) same w
+loosen zero tight rank h le w = let same : tight ≡ rank = omega (arith, h) in rw same at w
 loosen (suc d) tight rank h le w = Tighter (omega (arith, h, le)) (loosen d tight (rank + 1) (omega (arith, h)) le w)
 
 -- what has a rank is an expression of any looser rank
@@ -152,22 +148,20 @@ record Written (line : Line) (at : ℕ) (e : Tree) (rest : List Word) : Type 0 w
 
 leaf_written : (line : Line) (at : ℕ) (e : Tree) (w : Word) (rest : List Word) → leaf_of (Some (symbol w)) ≡ Some e
     → Stands line at (w ∷ rest) → Written line at e rest
-leaf_written line at e w rest leaf h =
-    record { next = at + 1; writes = Leaf refl (ap leaf_of h.0 ∙ leaf) refl; then = h.1 }
+leaf_written line at e w rest leaf h = grind (arith, Leaf)
 
 -- what is printed of a tree is an operand of the grammar
 written : (line : Line) (at : ℕ) (e : Tree) (rest : List Word) → IsTree e → Stands line at (expr_words e rest)
     → Written line at e rest
 written line at (tree.Number n) rest is h = leaf_written line at (tree.Number n) (number_word n) rest refl h
 written line at (tree.Name name) rest is h =
-    leaf_written line at (tree.Name name) (name_word name) rest
-    (ap (λ o. leaf_of (Some (word_or_other o))) is.written ∙ ap (λ s. leaf_of (Some s)) is.leaf) h
+    leaf_written line at (tree.Name name) (name_word name) rest (rw (is.written, is.leaf) refl) h
 written line at tree.Here rest is h = leaf_written line at tree.Here (sign_word 0x24) rest refl h
 written line at (tree.One op e) rest is h =
     let inner = written line (at + 1 + 1) e (close_word ∷ rest) is h.1.1 in
     let r = prefix_rank op in
     let low : r ≤ 8 = prefix_low op in
-    let sign : prefix_of (line (at + 1)) r ≡ Some op = ap (λ o. prefix_of o r) h.1.0 ∙ before_is op in
+    let sign : prefix_of (line (at + 1)) r ≡ Some op = rw h.1.0 (before_is op) in
     let ranked : Writes line r (at + 1) (tree.One op e) inner.next =
     Before sign (looser 8 r low (omega arith) inner.writes) in
     record {
@@ -180,7 +174,7 @@ written line at (tree.Two op left right) rest is h =
     let m = written line (l.next + 1) right (close_word ∷ rest) is.1 l.then.1 in
     let r = infix_rank op in
     let low : r + 1 ≤ 8 = infix_low op in
-    let sign : infix_of (line l.next) r ≡ Some op = ap (λ o. infix_of o r) l.then.0 ∙ between_is op in
+    let sign : infix_of (line l.next) r ≡ Some op = rw l.then.0 (between_is op) in
     let ranked : Writes line r (at + 1) (tree.Two op left right) m.next =
     Between (looser 8 r (omega (arith, low)) (omega arith) l.writes) sign
     (looser 8 (r + 1) low (omega arith) m.writes) in
@@ -214,4 +208,4 @@ expr_said e is =
     let l = map symbol (expr_words e []) in
     let w = written (line_of_symbols l) 0 e [] is (stand l (expr_words e []) 0 refl) in
     let all : w.next ≡ length l = omega (arith, ends_within l w.writes, past_end l w.next w.then) in
-    record { writes = subst (Writes (line_of_symbols l) 0 0 e) all (looser 8 0 (omega arith) (omega arith) w.writes) }
+    record { writes = rw all at (looser 8 0 (omega arith) (omega arith) w.writes) }

@@ -1,21 +1,16 @@
 -- What a line of bytes can say: the statements that can be read.
 use Rattle.std.proofs.Common.{◌≡◌, ℕ, ◌<◌, ◌≤◌, ◌==◌, ◌++◌, Bool, true, false, cond, nat_lt, List, [], ◌∷◌, length}
-use Rattle.std.proofs.Common.{take, drop, Option, Some, None, Err, refl, sym, ap, ◌∙◌, arith, inl, inr}
+use Rattle.std.proofs.Common.{take, drop, Option, Some, None, refl, sym, ap, arith, inl, inr}
 use Rattle.std.specs.Prelude.{codes, option_and_then}
-use Rattle.std.specs.Char.{is_ascii_alphanumeric}
 use Rattle.std.specs.Str.{bytes_eq}
 use Rattle.std.specs.List.{list_all, prefix_len, AllByRecursion}
 use Rattle.std.proofs.lemmas.Grind.{common_steps}
 use Rattle.std.proofs.lemmas.List.Elements.{recursion_from_All}
-use Rattle.std.proofs.lemmas.List.Folds.{length-prefix_len}
 use Rattle.m51_cells.proofs.Small.{positive}
-use Rattle.m51_cells.specs.Name.{name_of}
-use Rattle.m51_cells.specs.declared.fault.TheConstants.{BAD_FORM}
 use Rattle.m51_cells.specs.declared.kind.Kind.{Kind}
 use Rattle.m51_cells.specs.declared.kind.Reloc.{Reloc}
 use Rattle.m51_cells.specs.declared.kind.Reloc.TheVariants as reloc
 use Rattle.m51_cells.proofs.Passing.{front_passes}
-use Rattle.m51_lex.specs.declared.fault.TheConstants.{LONG_LINE}
 use Rattle.m51_expr.specs.declared.symbol.Symbol.{Symbol}
 use Rattle.m51_expr.specs.Tree.{Tree}
 use Rattle.m51_stmt.specs.declared.definitions.DefinitionWord.{DefinitionWord}
@@ -30,9 +25,7 @@ use Rattle.m51_stmt.specs.Definitions.{definition_word}
 use Rattle.m51_stmt.specs.Directives.{select_of, directive_of}
 use Rattle.m51_stmt.specs.Control as control
 use Rattle.m51_stmt.specs.Control.{left_parenthesis, right_parenthesis, is_inside, ends, behind_sign, if_ended}
-use Rattle.m51_stmt.specs.Control.{closed_at, parenthesized}
-use Rattle.m51_stmt.specs.Control.{include, include_of, ignored_if, is_ignored_word, by_name}
-use Rattle.m51_stmt.specs.Lines.{symbols_of, any_line}
+use Rattle.m51_stmt.specs.Control.{closed_at, parenthesized, include, include_of, ignored_if, by_name}
 use Rattle.m51_stmt.specs.Grammar as grammar
 use Rattle.m51_stmt.specs.Printing.{reloc_word, stmt_text}
 use Rattle.m51_stmt.specs.Laws.{IsByte, WritesStatement, PrintedReadsBack}
@@ -51,16 +44,7 @@ use Rattle.m51_stmt.proofs.LinesRead.{line_derived}
 -- the words for registers
 number_good : (word : List ℕ) → IfSome (register_number word) (λ n. n < 8)
 unfolding register_number
-number_good word =
-    some_cond (bytes_eq word (codes "R0")) (some_is (omega arith)) (
-    some_cond (bytes_eq word (codes "R1")) (some_is (omega arith)) (
-    some_cond (bytes_eq word (codes "R2")) (some_is (omega arith)) (
-    some_cond (bytes_eq word (codes "R3")) (some_is (omega arith)) (
-    some_cond (bytes_eq word (codes "R4")) (some_is (omega arith)) (
-    some_cond (bytes_eq word (codes "R5")) (some_is (omega arith)) (
-    some_cond (bytes_eq word (codes "R6")) (some_is (omega arith)) (
-    some_cond (bytes_eq word (codes "R7")) (some_is (omega arith)) (
-    none_is))))))))
+number_good word = record { holds = λ n is. grind arith }
 
 register_good : (word : List ℕ) → IfSome (register word) IsOperand
 unfolding register
@@ -73,40 +57,23 @@ register_good word =
 
 pointer_good : (word : List ℕ) → IfSome (pointer word) IsOperand
 unfolding pointer
-pointer_good word =
-    some_cond (bytes_eq word (codes "DPTR")) (some_is tt) (
-    some_cond (bytes_eq word (codes "R0")) (some_is (omega arith)) (
-    some_cond (bytes_eq word (codes "R1")) (some_is (omega arith)) (
-    none_is)))
+pointer_good word = record { holds = λ o is. grind arith }
 
 sum_good : (word : List ℕ) → IfSome (sum word) IsOperand
 unfolding sum
-sum_good word = some_cond (bytes_eq word (codes "PC")) (some_is tt)
-    (some_cond (bytes_eq word (codes "DPTR")) (some_is tt) none_is)
+sum_good word = record { holds = λ o is. grind arith }
 
 -- the words for kinds and types
 kind_good : (word : List ℕ) → IfSome (kind_of word) IsKind
 unfolding kind_of
-kind_good word =
-    some_cond (bytes_eq word (codes "CODE")) (some_is refl) (
-    some_cond (bytes_eq word (codes "XDATA")) (some_is refl) (
-    some_cond (bytes_eq word (codes "DATA")) (some_is refl) (
-    some_cond (bytes_eq word (codes "IDATA")) (some_is refl) (
-    some_cond (bytes_eq word (codes "BIT")) (some_is refl) (
-    none_is)))))
+kind_good word = record { holds = λ k is. grind arith }
 
 abbrev IsReloc : Reloc → Type 0
 IsReloc r = reloc_of (reloc_word r) ≡ Some r
 
 reloc_good : (word : List ℕ) → IfSome (reloc_of word) IsReloc
 unfolding reloc_of
-reloc_good word =
-    some_cond (bytes_eq word (codes "UNIT")) (some_is refl) (
-    some_cond (bytes_eq word (codes "BITADDRESSABLE")) (some_is refl) (
-    some_cond (bytes_eq word (codes "INPAGE")) (some_is refl) (
-    some_cond (bytes_eq word (codes "INBLOCK")) (some_is refl) (
-    some_cond (bytes_eq word (codes "PAGE")) (some_is refl) (
-    none_is)))))
+reloc_good word = record { holds = λ r is. grind arith }
 
 unit_good : IsReloc reloc.Unit
 unfolding reloc_of
@@ -130,29 +97,11 @@ IsDirective d = Unit {0}
 
 select_good : (word : List ℕ) → IfSome (select_of word) IsDirective
 unfolding directive_of select_of
-select_good word =
-    some_cond (bytes_eq word (codes "CSEG")) (some_is refl) (
-    some_cond (bytes_eq word (codes "XSEG")) (some_is refl) (
-    some_cond (bytes_eq word (codes "DSEG")) (some_is refl) (
-    some_cond (bytes_eq word (codes "ISEG")) (some_is refl) (
-    some_cond (bytes_eq word (codes "BSEG")) (some_is refl) (
-    none_is)))))
+select_good word = record { holds = λ d is. grind arith }
 
 directive_good : (word : List ℕ) → IfSome (directive_of word) IsDirective
 unfolding directive_of
-directive_good word =
-    some_cond (bytes_eq word (codes "RSEG")) (some_is tt) (
-    some_cond (bytes_eq word (codes "USING")) (some_is tt) (
-    some_cond (bytes_eq word (codes "DS")) (some_is tt) (
-    some_cond (bytes_eq word (codes "DBIT")) (some_is tt) (
-    some_cond (bytes_eq word (codes "ORG")) (some_is tt) (
-    some_cond (bytes_eq word (codes "DB")) (some_is tt) (
-    some_cond (bytes_eq word (codes "DW")) (some_is tt) (
-    some_cond (bytes_eq word (codes "PUBLIC")) (some_is tt) (
-    some_cond (bytes_eq word (codes "EXTRN")) (some_is tt) (
-    some_cond (bytes_eq word (codes "NAME")) (some_is tt) (
-    some_cond (bytes_eq word (codes "END")) (some_is tt) (
-    select_good word)))))))))))
+directive_good word = record { holds = λ d is. grind (arith, (select_good word).holds d) }
 
 -- the symbols of a part are good where those of the whole are
 pub each_front : {A : Type 0} (P : A → Type 0) (xs ys : List A) → Each P (xs ++ ys) → Each P xs
@@ -170,9 +119,9 @@ operand_good : (l : List Symbol) (o : OperandTree) → grammar.IsOperand l o →
 operand_good l o (grammar.Register {word = word} is) h = (register_good word).holds o is
 operand_good l o (grammar.Pointer {word = word} is) h = (pointer_good word).holds o is
 operand_good l o (grammar.Sum {word = word} is) h = (sum_good word).holds o is
-operand_good l o (grammar.Immediate {symbols = rest} {e = e} is) h = expr_good rest e is h.1
-operand_good l o (grammar.Inverted {symbols = rest} {e = e} is) h = expr_good rest e is h.1
-operand_good l o (grammar.Address {e = e} is) h = expr_good l e is h
+operand_good l o (grammar.Immediate is) h = expr_good _ _ is h.1
+operand_good l o (grammar.Inverted is) h = expr_good _ _ is h.1
+operand_good l o (grammar.Address is) h = expr_good _ _ is h
 
 -- lists
 list_good : {A : Type 0} (P : List Symbol → A → Type 0) (Q : A → Type 0)
@@ -181,32 +130,31 @@ list_good : {A : Type 0} (P : List Symbol → A → Type 0) (Q : A → Type 0)
 list_good P Q good l xs (grammar.Last {a = a} is) h = (good l a is h, tt)
 list_good P Q good l xs (grammar.Comma {part = part} {rest = rest} {a = a} {more = more} is others) h = (
   good part a is (each_front IsGood part _ h),
-  some_each Q more (list_good P Q good rest more others (each_back IsGood part _ h).1),
+  some_each _ _ (list_good P Q good rest more others (each_back IsGood part _ h).1),
 )
 
 operands_good : (l : List Symbol) (os : List OperandTree) → grammar.AreOperands l os → Each IsGood l → Each IsOperand os
 operands_good l os grammar.Without h = tt
 operands_good l os (grammar.With is) h =
-    some_each IsOperand os (list_good grammar.IsOperand IsOperand operand_good l os is h)
+    some_each _ _ (list_good _ _ operand_good _ _ is h)
 
 name_good : (l : List Symbol) (name : List ℕ) → grammar.IsName l name → Each IsGood l → IsLeafName name
 name_good l name grammar.Name h = h.0
 
 value_good : (l : List Symbol) (i : ItemTree) → grammar.IsValue l i → Each IsGood l → IsItem false i
-value_good l i (grammar.Data {e = e} is) h = expr_good l e is h
+value_good l i (grammar.Data is) h = expr_good _ _ is h
 
 item_good : (l : List Symbol) (i : ItemTree) → grammar.IsItem l i → Each IsGood l → IsItem true i
-item_good l i grammar.Text h = refl
-item_good l i (grammar.Value {e = e} other is) h = expr_good l e is h
+item_good l i h2 h = grind (arith, expr_good)
 
 externs_good : (expected : Option Kind) (l : List Symbol) (xs : List (List ℕ × Kind)) → grammar.AreExterns expected l xs
     → Each IsGood l → OneOrMore IsExtern xs
-externs_good expected l xs (grammar.Group {k = k} {rest = rest} is d) h = externs_good (Some k) rest xs d h.1.1
-externs_good expected l xs (grammar.More {k = k} {rest = rest} {xs = more} free d) h =
-    (record { leaf = h.0; free = free }, some_each IsExtern more (externs_good (Some k) rest more d h.1.1))
+externs_good expected l xs (grammar.Group is d) h = externs_good _ _ _ d h.1.1
+externs_good expected l xs (grammar.More free d) h =
+    (record { leaf = h.0; free = free }, some_each _ _ (externs_good _ _ _ d h.1.1))
 externs_good expected l xs (grammar.Last free) h = (record { leaf = h.0; free = free }, tt)
-externs_good expected l xs (grammar.Next {rest = rest} {xs = more} free d) h =
-    (record { leaf = h.0; free = free }, some_each IsExtern more (externs_good None rest more d h.1.1.1))
+externs_good expected l xs (grammar.Next free d) h =
+    (record { leaf = h.0; free = free }, some_each _ _ (externs_good _ _ _ d h.1.1.1))
 
 -- definitions
 type_good : (l : List Symbol) (r : Reloc) → grammar.HasType l r → IsReloc r
@@ -216,57 +164,56 @@ type_good l r (grammar.Typed {word = word} is) = (reloc_good word).holds r is
 definition_body : (index : ℕ) (d : DefinitionWord) (name : List ℕ) (l : List Symbol) (b : BodyTree) → index ≡ 0
     → IsDefinition d → IsFree name → grammar.IsDefinition name d l b → Each IsGood l → IsBody index b
 definition_body index d name l b first good free
-    (grammar.Segment {word = word} {k = k} {r = r} {type = type} kinds types overlaid allowed) h = (
+    (grammar.Segment {word = word} {k = k} kinds types overlaid allowed) h = (
       first,
       record {
         name_is = free;
         kind_is = (kind_good word).holds k kinds;
-        reloc_is = type_good type r types;
+        reloc_is = type_good _ _ types;
         allowed = allowed;
       },
     )
-definition_body index d name l b first good free (grammar.Equ {e = e} is) h = (first, free, expr_good l e is h)
-definition_body index d name l b first good free (grammar.Set {e = e} is) h = (first, free, expr_good l e is h)
-definition_body index d name l b first good free (grammar.Address {e = e} is) h =
-    (first, free, good, expr_good l e is h)
+definition_body index d name l b first good free (grammar.Equ is) h = (first, free, expr_good _ _ is h)
+definition_body index d name l b first good free (grammar.Set is) h = (first, free, expr_good _ _ is h)
+definition_body index d name l b first good free (grammar.Address is) h =
+    (first, free, good, expr_good _ _ is h)
 
 -- directives
 directive_body : (index : ℕ) (d : Directive) (l : List Symbol) (b : BodyTree) → IsDirective d
     → grammar.IsDirective d l b → Each IsGood l → IsBody index b
-directive_body index d l b good (grammar.Using {e = e} is) h = expr_good l e is h
-directive_body index d l b good (grammar.Ds {e = e} is) h = expr_good l e is h
-directive_body index d l b good (grammar.Dbit {e = e} is) h = expr_good l e is h
-directive_body index d l b good (grammar.Org {e = e} is) h = expr_good l e is h
-directive_body index d l b good (grammar.Db {items = xs} is) h =
-    list_good grammar.IsItem (IsItem true) item_good l xs is h
-directive_body index d l b good (grammar.Dw {items = xs} is) h =
-    list_good grammar.IsValue (IsItem false) value_good l xs is h
+directive_body index d l b good (grammar.Using is) h = expr_good _ _ is h
+directive_body index d l b good (grammar.Ds is) h = expr_good _ _ is h
+directive_body index d l b good (grammar.Dbit is) h = expr_good _ _ is h
+directive_body index d l b good (grammar.Org is) h = expr_good _ _ is h
+directive_body index d l b good (grammar.Db is) h =
+    list_good _ _ item_good _ _ is h
+directive_body index d l b good (grammar.Dw is) h =
+    list_good _ _ value_good _ _ is h
 directive_body index d l b good grammar.Select h = (good, tt)
-directive_body index d l b good (grammar.SelectAt {symbols = rest} {e = e} is) h = (good, expr_good rest e is h.1)
-directive_body index d l b good (grammar.Rseg {name = name} is) h = name_good l name is h
-directive_body index d l b good (grammar.ModuleName {name = name} is) h = name_good l name is h
-directive_body index d l b good (grammar.Public {names = xs} is) h =
-    list_good grammar.IsName IsLeafName name_good l xs is h
-directive_body index d l b good (grammar.Extrn {externs = xs} is) h = externs_good None l xs is h
+directive_body index d l b good (grammar.SelectAt is) h = (good, expr_good _ _ is h.1)
+directive_body index d l b good (grammar.Rseg is) h = name_good _ _ is h
+directive_body index d l b good (grammar.ModuleName is) h = name_good _ _ is h
+directive_body index d l b good (grammar.Public is) h =
+    list_good _ _ name_good _ _ is h
+directive_body index d l b good (grammar.Extrn is) h = externs_good _ _ _ is h
 directive_body index d l b good grammar.End h = tt
 
 -- the statement after the label; a definition is the first in its line
 said_good : (index : ℕ) (labelled : Bool) (l : List Symbol) (b : BodyTree) → (labelled ≡ false → index ≡ 0)
     → grammar.IsSaid labelled l b → Each IsGood l → IsBody index b
 said_good index labelled l b first grammar.Nothing h = tt
-said_good index labelled l b first (grammar.Instruction {symbols = rest} {os = os} is given form) h =
-    record { written = h.0.written; word = h.0.symbol; form = form; each = operands_good rest os given h.1 }
-said_good index labelled l b first (grammar.Directed {word = word} {d = d} {symbols = rest} found is) h =
-    directive_body index d rest b ((directive_good word).holds d found) is h.1
-said_good index labelled l b first (grammar.Defined {name = name} {word = word} {d = d} {symbols = rest} free found is)
+said_good index labelled l b first (grammar.Instruction is given form) h = grind (arith, operands_good)
+said_good index labelled l b first (grammar.Directed {word = word} {d = d} found is) h =
+    directive_body index _ _ _ ((directive_good word).holds d found) is h.1
+said_good index labelled l b first (grammar.Defined {word = word} {d = d} free found is)
     h =
-    definition_body index d name rest b (first refl) ((definition_good word).holds d found)
+    definition_body index _ _ _ _ (first refl) ((definition_good word).holds d found)
     (record { leaf = h.0; free = free }) is h.1.1
 
 statement_good : (l : List Symbol) (s : StmtTree) → grammar.IsStatement l s → Each IsGood l → IsStatement s
-statement_good l s (grammar.Labelled {symbols = rest} {b = b} free is) h =
-    (record { leaf = h.0; free = free }, said_good 2 true rest b (λ other. absurd (cc other)) is h.1.1)
-statement_good l s (grammar.Bare {b = b} is) h = inr (said_good 0 false l b (λ _. refl) is h)
+statement_good l s (grammar.Labelled free is) h =
+    (record { leaf = h.0; free = free }, said_good 2 true _ _ (λ other. absurd (cc other)) is h.1.1)
+statement_good l s (grammar.Bare is) h = inr (said_good 0 false _ _ (λ _. refl) is h)
 
 -- controls
 abbrev IsIncluded : List ℕ → Type 0
@@ -279,21 +226,14 @@ closed_by : (inner : List ℕ) (len : ℕ) (b : Bool) → (len == 0) ≡ b → l
     → IfSome (cond b None
     (option_and_then (if_ended (take len inner)) (behind_sign right_parenthesis (drop len inner))))
     IsIncluded
-closed_by inner len true is same = none_is
-closed_by inner len false is same =
-    let inside : list_all is_inside (take len inner) ≡ true = ap (λ n. list_all is_inside (take n inner)) same
-    ∙ front_passes is_inside inner in
-    let long : length (take len inner) ≡ len = ap (λ n. length (take n inner)) same ∙ length-prefix_len is_inside inner
-    ∙ sym same in
-    some_then (if_ended (take len inner)) IsIncluded (behind_sign right_parenthesis (drop len inner))
-    (λ rest is'. if_ended_good (take len inner) rest (omega (arith, long, positive len is), inside))
+closed_by inner len b is same =
+    grind (arith, none_is, front_passes, some_then, if_ended, behind_sign, if_ended_good, take, positive)
 
 closed_good : (inner : List ℕ) → IfSome (closed_at inner (prefix_len is_inside inner)) IsIncluded
-closed_good inner = closed_by inner (prefix_len is_inside inner) (prefix_len is_inside inner == 0) refl refl
+closed_good inner = grind (arith, closed_by)
 
 include_by : (o : Option (List ℕ)) → IfSome o IsIncluded → IfRead (include_of o) IsControl
-include_by None h = err_is
-include_by (Some name) h = ok_is (h.holds name refl)
+include_by o h = grind (arith, ok_is)
 
 include_good : (rest : List ℕ) → IfRead (include rest) IsControl
 include_good rest = include_by (parenthesized rest)
@@ -308,29 +248,23 @@ unfolding control.body_by_word
 control_word word rest =
     ok_cond (bytes_eq word (codes "INCLUDE")) (λ _. include_good rest) (λ _.
     ok_cond (bytes_eq word (codes "TITLE"))
-    (λ _. ok_cond (ends rest) (λ _. ok_is tt) (λ _. ignored_good (parenthesized rest))) (λ _.
-    ok_cond (bytes_eq word (codes "MOD51")) (λ _. ok_if BAD_FORM (ends rest) (λ _. ok_is tt)) (λ _.
-    ok_cond (bytes_eq word (codes "NOMOD51")) (λ _. ok_if BAD_FORM (ends rest) (λ _. ok_is tt)) (λ _.
-    ok_if BAD_FORM (is_ignored_word word) (λ _. ok_if BAD_FORM (ends rest) (λ _. ok_is tt))))))
+    (grind (arith, ends, ok_is, ignored_good)) (grind (arith, ok_cond, bytes_eq, ok_if, ends, ok_is)))
 
 control_name : (o : Option (List ℕ)) (rest : List ℕ) → IfRead (by_name o rest) IsControl
-control_name None rest = err_is
-control_name (Some word) rest = control_word word rest
+control_name o rest = grind (arith, err_is, control_word)
 
 control_good : (rest : List ℕ) → IfRead (control.control rest) IsControl
-control_good rest = let len = prefix_len is_ascii_alphanumeric rest in
-    control_name (name_of (take len rest)) (drop len rest)
+control_good rest = grind (arith, control_name)
 
 -- each statement that a line of bytes writes can be read
 line_good : (line : List ℕ) (s : StmtTree) → grammar.IsLine line s → Each IsByte line → IsStatement s
 line_good line s (grammar.Control {b = b} dollar read') bytes = inl ((control_good (drop 1 line)).holds b read')
 line_good line s (grammar.Statement {tokens = tokens} no_dollar no_percent cut is) bytes =
-    statement_good (symbols_of line tokens) s is
+    statement_good _ _ is
     (symbols_good line tokens bytes ((tokens_good line 0 0).holds tokens cut))
 
 pub each_byte : (xs : List ℕ) → AllByRecursion IsByte xs → Each IsByte xs
-each_byte [] h = tt
-each_byte (x ∷ xs) h = (h.0, each_byte xs h.1)
+each_byte xs h = grind arith
 
 -- 255 bytes are not too many
 pub at_most_255 : (n : ℕ) → n ≤ 255 → nat_lt 255 n ≡ false
@@ -347,6 +281,5 @@ printed_reads_back line s writes =
     let again = printed s (written_is_good line s writes) in
     record {
       printed = again;
-      short = λ few. ap (λ b. cond b (Err LONG_LINE) (any_line (stmt_text s))) (at_most_255 (length (stmt_text s)) few)
-          ∙ again;
+      short = λ few. rw (at_most_255 (length (stmt_text s)) few) again;
     }

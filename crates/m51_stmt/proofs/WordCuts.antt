@@ -1,7 +1,6 @@
 -- Names, numbers, texts and signs are cut as tokens of their own.
 use Rattle.std.proofs.Common.{◌≡◌, ℕ, ◌+◌, ◌-◌, ◌<◌, ◌==◌, cond, nat_lt, Bool, true, false, List, [], ◌∷◌, ◌++◌, length}
-use Rattle.std.proofs.Common.{length-append, take, Some, refl, ap, ◌∙◌, arith, option_map, append_assoc}
-use Rattle.std.proofs.Common.{slice_index, rules}
+use Rattle.std.proofs.Common.{length-append, take, Some, refl, ap, arith, append_assoc, slice_index, rules}
 use Rattle.std.specs.Char.{is_ascii_digit, is_ascii_alphanumeric}
 use Rattle.std.specs.List.{list_all, prefix_len}
 use Rattle.std.proofs.lemmas.Bool.{and_parts, or_parts}
@@ -14,8 +13,7 @@ use Rattle.m51_cells.specs.Name.{name_of, is_name}
 use Rattle.m51_lex.specs.declared.token.What.TheVariants as what
 use Rattle.m51_lex.specs.Characters.{space, quote, is_name_byte, is_sign}
 use Rattle.m51_lex.specs.Number.{number_of}
-use Rattle.m51_lex.specs.Lexeme.{lexeme_of, name_lexeme, number_or_fault, text_len, text_or_fault}
-use Rattle.m51_lex.specs.Tokens.{put_front, after_lexeme}
+use Rattle.m51_lex.specs.Lexeme.{lexeme_of, name_lexeme, text_len}
 use Rattle.m51_stmt.specs.Printing.{number_text, doubled}
 use Rattle.m51_stmt.proofs.LineCuts.{Word, Stands, IsCut}
 
@@ -28,10 +26,7 @@ pub run_ends : (p : ℕ → Bool) (word rest : List ℕ) → list_all p word ≡
     → prefix_len p (word ++ rest) ≡ length word
 run_ends p [] [] all stop = refl
 run_ends p [] (c ∷ rest) all stop = grind (arith, common_steps, stop)
-run_ends p (w ∷ word) rest all stop =
-    let parts = and_parts (p w) (list_all p word) all in
-    let more = run_ends p word rest parts.1 stop in
-    grind (arith, common_steps, parts.0, more)
+run_ends p (w ∷ word) rest all stop = grind (arith, run_ends p word rest (and_parts (p w) (list_all p word) all).1 stop)
 
 -- names
 abbrev pub name_word : List ℕ → Word
@@ -57,8 +52,7 @@ named (c ∷ more) rest h ends =
     record {
       some = omega arith;
       front = λ at go.
-          ap (λ l. after_lexeme at l go) (name_first c (more ++ rest) parts.digit first)
-          ∙ rw (run_ends is_name_byte text rest all ends) (rw low refl);
+          rw (name_first c (more ++ rest) parts.digit first, run_ends is_name_byte text rest all ends, low) refl;
     }
 
 -- a written name
@@ -82,10 +76,7 @@ run_stands {more} {rest} {n} all is ends =
     record {
       some = omega arith;
       front = λ at go.
-          ap (λ k. after_lexeme at (number_or_fault k (number_of (take k (text ++ rest)))) go)
-          (run_ends is_ascii_alphanumeric text rest all no_run)
-          ∙ ap (λ t. after_lexeme at (number_or_fault (length text) (number_of t)) go) (take-append_seam text rest)
-          ∙ ap (λ o. after_lexeme at (number_or_fault (length text) o) go) is;
+          rw (run_ends is_ascii_alphanumeric text rest all no_run, take-append_seam text rest, is) refl;
     }
 
 word_run : (n : ℕ) → n < 65536 → list_all is_ascii_alphanumeric (number_text n) ≡ true
@@ -118,22 +109,12 @@ sign_cut h = λ rest. sign_stands h
 abbrev pub text_word : List ℕ → Word
 text_word characters = record { what = what.Text; text = quote ∷ doubled characters ++ quote ∷ [] }
 
-one_more : (c : ℕ) (rest : List ℕ) → (c == quote) ≡ false → 0 < length rest
-    → text_len (c ∷ rest) ≡ option_map (λ n. 1 + n) (text_len rest)
-one_more c [] other some = absurd (omega (arith, some))
-one_more c (d ∷ more) other some = grind (arith, common_steps, other)
-
 abbrev TextEnds : List ℕ → List ℕ → Type 0
 TextEnds inside rest = text_len (inside ++ quote ∷ space ∷ rest) ≡ Some (1 + length inside)
 
 text_goes : (c : ℕ) (more rest : List ℕ) (b : Bool) → (c == quote) ≡ b → TextEnds more rest
     → TextEnds (cond b (quote ∷ quote ∷ more) (c ∷ more)) rest
-text_goes c more rest true is h = ap (option_map (λ n. 2 + n)) h
-    ∙ (let same : 2 + (1 + length more) ≡ 1 + length (quote ∷ quote ∷ more) = omega arith in ap Some same)
-text_goes c more rest false is h =
-    one_more c (more ++ quote ∷ space ∷ rest) is (simp length-append (omega arith))
-    ∙ ap (option_map (λ n. 1 + n)) h
-    ∙ (let same : 1 + (1 + length more) ≡ 1 + length (c ∷ more) = omega arith in ap Some same)
+text_goes c more rest b is h = grind arith
 
 text_ends : (characters rest : List ℕ) → TextEnds (doubled characters) rest
 text_ends [] rest = refl
@@ -141,16 +122,7 @@ text_ends (c ∷ more) rest = text_goes c (doubled more) rest (c == quote) refl 
 
 pub text_cut : (characters : List ℕ) → IsCut (text_word characters)
 unfolding lexeme_of
-text_cut characters rest = record {
-  some = omega arith;
-  front = λ at go.
-      let inside = doubled characters in
-      let same : 1 + (1 + length inside) ≡ length (text_word characters).text =
-      simp length-append (omega arith) in
-      ap (λ l. after_lexeme at (text_or_fault (text_len l)) go) (append_assoc inside (quote ∷ []) (space ∷ rest))
-      ∙ ap (λ o. after_lexeme at (text_or_fault o) go) (text_ends characters rest)
-      ∙ ap (λ k. put_front (record { what = what.Text; from = at; to = at + k } ∷ []) (go (k - 1))) same;
-}
+text_cut characters rest = grind (arith, length-append, append_assoc, text_ends)
 
 -- words of each kind
 pub ruleset cuts = (rules, name_cut, number_cut, sign_cut, text_cut)

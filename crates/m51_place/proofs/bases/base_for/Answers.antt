@@ -1,5 +1,4 @@
-use Rattle.m51_place.proofs.Common.{ℕ, List, sym, ap, subst, ◌∙◌, All, IsPermutation, All-permutation, Extent, Placed}
-use Rattle.m51_place.proofs.Common.{conflicting, extents_in}
+use Rattle.m51_place.proofs.Common.{ℕ, List, ap, ◌∙◌, IsPermutation, All-permutation, Placed, conflicting, extents_in}
 use Rattle.m51_place.specs.Bases.{least_base}
 use Rattle.m51_bases.specs.Raising.{EndsWithin}
 use Rattle.m51_place.proofs.Free.{found_below, least_is}
@@ -8,10 +7,8 @@ use Rattle.m51_place.proofs.bases.base_for.Goals as goal
 
 pub first_clear-requires-clause-ends : goal.first_clear-requires-clause-ends
 first_clear-requires-clause-ends c =
-    let moved =
-    All-permutation EndsWithin c.in_ok-extents.extents.items c.arrange.new.extents.items c.arrange.ensures
-    c.in_ok-extents.ensures.ends in
-    subst (λ (es : List Extent). All EndsWithin es) (sym c.deref.ensures.value) moved
+    rw c.deref.ensures.value (All-permutation EndsWithin c.in_ok-extents.extents.items c.arrange.new.extents.items
+    c.arrange.ensures c.in_ok-extents.ensures.ends)
 
 pub as_base-requires : goal.as_base-requires
 as_base-requires c =
@@ -27,11 +24,9 @@ returns c =
     let space = c.space_of-space.result in
     let size = c.from-size.result in
     let others : List Placed = conflicting g number c.args.earlier.now in
-    let from_list = subst (λ (es : List Extent). IsPermutation es c.arrange.new.extents.items)
-    (c.in_ok-extents.ensures.list ∙ in_the_way_is g number space c.args.earlier.now) c.arrange.ensures in
-    let moved =
-    subst (λ (es : List Extent). IsPermutation (extents_in space others) es)
-    (sym c.deref.ensures.value) from_list in
+    let list = c.in_ok-extents.ensures.list ∙ in_the_way_is g number space c.args.earlier.now in
+    let moved : IsPermutation (extents_in space others) c.deref.result.now =
+    rw c.deref.ensures.value (rw list at c.arrange.ensures) in
     let below =
     found_below c.deref.result.now j.kind j.reloc size c.first_clear.result c.requires.ranked.kind
     c.first_clear.ensures in

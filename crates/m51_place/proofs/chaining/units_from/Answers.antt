@@ -1,26 +1,21 @@
-use Rattle.m51_place.proofs.Common.{◌≡◌, ◌-◌, ◌<◌, ℕ, List, [], ◌∷◌, length, sym, subst, arith, append-nil, leads}
-use Rattle.m51_place.proofs.Common.{IsFront}
-use Rattle.m51_graph.proofs.Climbing.{tally_le}
-use Rattle.m51_place.specs.Heaviest.{FollowsHeaviest, IsNext}
-use Rattle.m51_place.proofs.Chained.{front_more, front_start, rank, rank_edge}
+use Rattle.m51_place.proofs.Common.{◌-◌, ◌<◌, ℕ, [], length, arith, append-nil, leads, IsFront}
+use Rattle.m51_graph.proofs.Climbing.{rank_edge, tally_le}
+use Rattle.m51_place.specs.Heaviest.{IsNext}
+use Rattle.m51_place.proofs.Chained.{front_more, front_start, rank}
 use Rattle.m51_place.proofs.chaining.units_from.Goals as goal
 
 pub loop-next-init : goal.loop-next-init
 loop-next-init c =
     let l = c.args.layout.now in
-    let items : c.in_ok-units.units.items ≡ c.args.root ∷ [] = c.in_ok-units.ensures.items in
-    subst (λ (us : List ℕ). IsFront l c.args.best.now c.args.root c.args.root us) (sym items)
-    (front_start l c.requires.sound c.args.weights.now c.args.best.now c.requires.weights c.requires.best
-    c.args.root c.requires.root)
+    rw c.in_ok-units.ensures.items (front_start l c.requires.sound c.args.weights.now c.args.best.now c.requires.weights
+    c.requires.best c.args.root c.requires.root)
 
 pub loop-next-preserved : goal.loop-next-preserved
 loop-next-preserved c =
     let l = c.args.layout.now in
-    let more =
-    front_more l c.requires.sound c.args.weights.now c.args.best.now c.requires.weights c.requires.best c.args.root
-    c.loop-next.unit c.in-Some.next c.loop-next.units.items c.loop-next.invariant c.in-Some.ensures in
-    subst (λ (us : List ℕ). IsFront l c.args.best.now c.args.root c.in-Some.next us)
-    (sym c.in_ok-push.ensures.items) more
+    rw c.in_ok-push.ensures.items (front_more l c.requires.sound c.args.weights.now c.args.best.now c.requires.weights
+    c.requires.best c.args.root c.loop-next.unit c.in-Some.next c.loop-next.units.items c.loop-next.invariant
+    c.in-Some.ensures)
 
 pub loop-next-smaller : goal.loop-next-smaller
 loop-next-smaller c =
@@ -28,8 +23,8 @@ loop-next-smaller c =
     let n : ℕ = length l.units in
     let next : IsNext l c.args.best.now c.loop-next.unit c.in-Some.next = c.in-Some.ensures.1 in
     let more =
-    rank_edge l.edges n c.loop-next.unit c.in-Some.next c.loop-next.invariant.below c.requires.sound.no_cycle
-    next.edge in
+    rank_edge n l.edges (record { within = c.requires.sound.edges }) c.requires.sound.no_cycle c.loop-next.unit
+    c.in-Some.next next.edge in
     let most = tally_le (λ w. leads l.edges w c.in-Some.next) n in
     let less : n - rank l.edges n c.in-Some.next < n - rank l.edges n c.loop-next.unit = omega (arith, more, most) in
     less
@@ -41,7 +36,5 @@ returns c =
     record {
       more = inv.front;
       are = inv.are;
-      goes =
-          subst (λ (us : List ℕ). FollowsHeaviest l c.args.best.now c.args.root us) (append-nil inv.front)
-          (inv.goes [] c.in_default.ensures);
+      goes = rw append-nil at (inv.goes [] c.in_default.ensures);
     }

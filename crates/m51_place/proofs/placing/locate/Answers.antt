@@ -1,5 +1,4 @@
-use Rattle.m51_place.proofs.Common.{◌≡◌, ℕ, List, sym, ap, subst, ◌∙◌, All, Control, JoinedSegment, segments_of}
-use Rattle.m51_place.proofs.Common.{Numbered, Ranked, fixed_of, order_of, IsNumbered}
+use Rattle.m51_place.proofs.Common.{◌≡◌, ℕ, List, ap, ◌∙◌, Control, JoinedSegment, segments_of, fixed_of, order_of}
 use Rattle.m51_place.specs.Ready.{IsPlaceable}
 use Rattle.m51_place.proofs.Ranks.{all_joined, graph_is, order_ranked, ready}
 use Rattle.m51_place.proofs.Whole.{numbered, fixed_spots}
@@ -16,9 +15,8 @@ place_after-requires-clause-order c =
     c.deref-2.ensures.value ∙ c.in_ok-order.ensures
     ∙ ap (λ (cs : List (ℕ × Control)). order_of g cs c.segments.result.now) c.lines.ensures.list
     ∙ ap (order_of g c.args.controls.now) c.segments.ensures.list in
-    subst (λ (ts : List Ranked). All (IsPlaceable g) ts) (sym order)
-    (every_all (IsPlaceable g) _ (every_weaker _ (IsPlaceable g) _ (ready segments c.args.controls.now g is joined)
-    (order_ranked g c.args.controls.now segments)))
+    rw order (every_all (IsPlaceable g) _ (every_weaker _ (IsPlaceable g) _
+    (ready segments c.args.controls.now g is joined) (order_ranked g c.args.controls.now segments)))
 
 pub place_after-requires-clause-earlier : goal.place_after-requires-clause-earlier
 place_after-requires-clause-earlier c =
@@ -30,5 +28,4 @@ place_after-requires-clause-earlier c =
     let spots =
     fixed_spots g modules controls segments is
     (all_joined modules c.modules.ensures.valid) c.lines.ensures.kept.each in
-    subst (λ (es : List Numbered). All (IsNumbered g) es) (sym c.in_ok-fixed.ensures)
-    (numbered segments controls g (fixed_of modules controls segments) is spots)
+    rw c.in_ok-fixed.ensures (numbered segments controls g (fixed_of modules controls segments) is spots)

@@ -6,5 +6,4 @@ pub returns-in-Some : goal.returns-in-Some
 returns-in-Some c = inl (c.in-Some.field-0, c.in-Some.ensures.0)
 
 pub returns-in-None : goal.returns-in-None
-returns-in-None c = above_by c.args.layout.now c.args.image.now c.args.points.now c.args.depths.now c.requires.depths
-    c.is_too_deep.result c.is_too_deep.ensures c.in-None.ensures
+returns-in-None c = above_by _ _ _ _ c.requires.depths _ c.is_too_deep.ensures c.in-None.ensures

@@ -115,7 +115,7 @@ def joined(declaration, text, local):
         inner = {other.name for other in clause.inner}
         facts += Facts(text, local | words(text[clause.start:clause.head_end]) | inner, declaration.name).of(whole)
     # Of a fact about what a pattern took apart, the lemma's name is left.
-    facts = [fact.split(' ')[0] if words(fact) & lost else fact for fact in dict.fromkeys(facts)]
+    facts = [fact.split(' ')[0].lstrip('(') if words(fact) & lost else fact for fact in dict.fromkeys(facts)]
     facts = [fact for fact in dict.fromkeys(facts) if not words(fact) & lost and fact != declaration.name]
     start, end = clauses[0].start, clauses[-1].end
     head = ' ' * declaration.indent + ' '.join([declaration.name, *patterns]).replace('%', '%%')

@@ -5,7 +5,7 @@ use proofs.Common.{◌%◌, ◌&&◌, ◌+◌, ◌<◌, ◌==◌, ◌||◌, ◌�
 use proofs.Common.{Nop, NotBit, Option, Plain, R, Slot, Some, Target, Text, [], ap, arith, common_steps, cond, false}
 use proofs.Common.{field_in, is_among, map, not, number_of_slot, option_map, refl, take, text_of, true, written_target}
 use proofs.Common.{ℕ}
-use Rattle.std.proofs.Common.{nat_lt, ◌*◌, ◌/◌}
+use Rattle.std.proofs.Common.{nat_lt, sym, get_or, ◌*◌, ◌/◌, ◌∙◌}
 use Rattle.std.proofs.lemmas.List.FromFn.{get_or-map-range_with_len}
 use Rattle.std.specs.List.{range_with_len}
 use Rattle.std.specs.Option.{option_or}
@@ -100,9 +100,9 @@ module _ (second third : ℕ) where
 
   one_is : (first : ℕ) → first < 256 → decoded_as of_row first ≡ decoded_as of_bytes first
   one_is first f =
-      let row = get_or-map-range_with_len (decoded_as of_row) 0 256 first first None f in
-      let bytes = get_or-map-range_with_len (decoded_as of_bytes) 0 256 first first None f in
-      grind (arith, common_steps, all_are)
+      sym (get_or-map-range_with_len (decoded_as of_row) 0 256 first first None f (omega arith))
+      ∙ ap (λ (seen : List (Option Seen)). get_or seen first None) all_are
+      ∙ get_or-map-range_with_len (decoded_as of_bytes) 0 256 first first None f (omega arith)
 
 module _ (first second third : ℕ) (f : first < 256) (s : second < 256) (t : third < 256) where
   written_is : (b c : Bool) → written_by second third first b c ≡ first ∷ second ∷ third ∷ []

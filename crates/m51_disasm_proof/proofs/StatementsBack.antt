@@ -2,10 +2,10 @@
 -- of a disassembly gives the bytes of the image at its address: an instruction those it was decoded from.
 use Rattle.m51_disasm_proof.proofs
 use proofs.Common.{◌%◌, ◌+◌, ◌<◌, ◌∙◌, ◌∷◌, ◌≡◌, AreBytes, AreSlots, Bool, Field, GivesBytes, HasRoom, Imm, Instr}
-use proofs.Common.{IsNamed, Jump, List, Meanings, None, NotBit, Ok, Option, Plain, Slot, Some, Stands, StandsAt, Target}
-use proofs.Common.{Text, [], ap, arith, body_of, bytes_at, code_value, common_steps, false, field_in, length_in, nat_le}
-use proofs.Common.{not, number_of_slot, option_map, refl, slice_index, take, text_of, texts_are_rows, true, value_of}
-use proofs.Common.{written_target, ℕ}
+use proofs.Common.{length, IsNamed, Jump, List, Meanings, None, NotBit, Ok, Option, Plain, Slot, Some, Stands}
+use proofs.Common.{StandsAt, Target, Text, [], ap, arith, body_of, bytes_at, code_value, common_steps, false}
+use proofs.Common.{field_in, length_in, nat_le, not, number_of_slot, option_map, refl, slice_index, take, text_of}
+use proofs.Common.{texts_are_rows, true, value_of, written_target, ℕ}
 use Rattle.std.proofs.lemmas.Bool.{and_parts}
 use Rattle.m51_isa.specs.Targets.{near, relative}
 use Rattle.m51_isa.specs.TextLaws.{HasNumbers, kept, slot_with_number}
@@ -246,6 +246,15 @@ module _ (names : Meanings) (segment at : ℕ) (s : StandsAt names segment at) (
             ∙ (λ j. three_outcomes (a j) (b j) (c j)),
       )
 
+-- at most three bytes that the image has at an address are those there
+front_is : (image : List ℕ) (at : ℕ) (bytes : List ℕ) → bytes ≡ take (length bytes) (three_at image at)
+    → take (length bytes) (padded bytes) ≡ bytes_at image at (length bytes)
+front_is image at [] e = refl
+front_is image at (a ∷ []) e = grind (arith, common_steps, e)
+front_is image at (a ∷ b ∷ []) e = grind (arith, common_steps, e)
+front_is image at (a ∷ b ∷ c ∷ []) e = grind (arith, common_steps, e)
+front_is image at (a ∷ b ∷ c ∷ d ∷ rest) e = cc e
+
 module _ (image : List ℕ) (end at : ℕ) (bytes : AreBytes image) (begin : List ℕ) (names : Meanings) (segment : ℕ)
     (form : Jump) (s : StandsAt names segment at) where
   abbrev byte : ℕ
@@ -253,7 +262,7 @@ module _ (image : List ℕ) (end at : ℕ) (bytes : AreBytes image) (begin : Lis
 
   bytes_are : (i : Instr) → IsDecoded (three_at image at) i → take (length_of i) (padded (encoded i))
       ≡ bytes_at image at (length_of i)
-  bytes_are i decoded = grind (arith, common_steps)
+  bytes_are i decoded = front_is image at (encoded i) decoded.row
 
   abbrev target_to : Written → Target
   target_to c = written_target begin (target_by at c)

@@ -6,8 +6,13 @@ use Rattle.std.specs.List.{range_with_len}
 use Rattle.std.proofs.lemmas.List.FromFn.{get_or-map-range_with_len}
 use Rattle.m51_isa.specs.declared.instr.Instr.{Instr}
 use Rattle.m51_isa.specs.declared.instr.Instr.TheVariants as row
-use Rattle.m51_isa.specs.Table.{BeginsWith, OperandsFit, decoded, decoded_at, encoded}
-use Rattle.m51_isa.specs.Laws.{RowsDecode, OneRow, NoneReserved}
+use Rattle.m51_isa.specs.declared.slot.Slot.{Slot}
+use Rattle.m51_isa.specs.declared.slot.Slot.TheVariants.{R, AtR}
+use Rattle.m51_isa.specs.Operands.{FitsAddress, FitsRegister}
+use Rattle.m51_isa.specs.Filling.{remade}
+use Rattle.m51_isa.specs.Table.{BeginsWith, OperandsFit, Text, decoded, decoded_at, encoded, text_of}
+use Rattle.m51_isa.specs.TextLaws.{number_of_slot}
+use Rattle.m51_isa.specs.Laws.{RowsDecode, OneRow}
 
 pub of_register : (P : ℕ → Type 0) → P 0 → P 1 → P 2 → P 3 → P 4 → P 5 → P 6 → P 7 → (n : ℕ) → n < 8 → P n
 of_register P p0 p1 p2 p3 p4 p5 p6 p7 zero h = p0
@@ -42,16 +47,45 @@ begun_is (b ∷ bytes) (x ∷ front) h = cc (h.0, begun_is bytes front h.1)
 word_halves : (n : ℕ) → n / 256 * 256 + n % 256 ≡ n
 word_halves n = omega arith
 
+-- how many registers an operand may be, else this; its register, else this; and its number, with this register
+abbrev registers_of : Slot → ℕ → ℕ
+registers_of (R own) other = 8
+registers_of (AtR own) other = 2
+registers_of slot other = other
+
+abbrev register_in : Slot → ℕ → ℕ
+register_in (R own) other = own
+register_in (AtR own) other = own
+register_in slot other = other
+
+abbrev number_with : Slot → ℕ → ℕ
+number_with (R own) n = n
+number_with (AtR own) n = n
+number_with slot n = number_of_slot slot
+
+-- how many registers a row may have, one of them, and the row with another
+abbrev registers : Instr → ℕ
+registers i = registers_of (text_of i).first (registers_of (text_of i).second 1)
+
+abbrev register_of : Instr → ℕ
+register_of i = register_in (text_of i).first (register_in (text_of i).second 0)
+
+abbrev with_register : Instr → ℕ → Instr
+with_register i n =
+    let t : Text = text_of i in remade i (number_with t.first n) (number_with t.second n) (number_with t.third n)
+
+register_fits : (s t : Slot) (Else : Type 0) → FitsRegister s (FitsRegister t Else)
+    → register_in s (register_in t 0) < registers_of s (registers_of t 1)
+register_fits (R n) t Else h = h
+register_fits (AtR n) t Else h = h
+register_fits s (R n) Else h = h
+register_fits s (AtR n) Else h = h
+register_fits s t Else h = omega arith
+
 module _ (first second third : ℕ) where
   -- what bytes that begin with a row are decoded as
   abbrev decoded_over : Instr → Option Instr
   decoded_over i = decoded (begun (encoded i) (first ∷ second ∷ third ∷ []))
-
-  -- rows with one of `count` registers
-  numbered : (count : ℕ) (row : ℕ → Instr)
-      → map (λ n. decoded_over (row n)) (range_with_len 0 count) ≡ map (λ n. Some (row n)) (range_with_len 0 count)
-      → (n : ℕ) → n < count → decoded_over (row n) ≡ Some (row n)
-  numbered count row same n h = agree (λ n. decoded_over (row n)) (λ n. Some (row n)) count same n h
 
   -- rows with an address of 11 bits: its top three bits are one of eight numbers in the opcode
   in_block : (row : ℕ → Instr) (opcode address : ℕ)
@@ -70,41 +104,9 @@ module _ (first second third : ℕ) where
   decodes (row.LcallAddr16 word) h = ap (λ n. Some (row.LcallAddr16 n)) (word_halves word)
   decodes (row.AjmpAddr11 address) h = in_block row.AjmpAddr11 0x01 address refl h
   decodes (row.AcallAddr11 address) h = in_block row.AcallAddr11 0x11 address refl h
-  decodes (row.MovxAAtRi n) h = numbered 2 row.MovxAAtRi refl n h
-  decodes (row.MovxAtRiA n) h = numbered 2 row.MovxAtRiA refl n h
-  decodes (row.IncAtRi n) h = numbered 2 row.IncAtRi refl n h
-  decodes (row.DecAtRi n) h = numbered 2 row.DecAtRi refl n h
-  decodes (row.AddAAtRi n) h = numbered 2 row.AddAAtRi refl n h
-  decodes (row.AddcAAtRi n) h = numbered 2 row.AddcAAtRi refl n h
-  decodes (row.OrlAAtRi n) h = numbered 2 row.OrlAAtRi refl n h
-  decodes (row.AnlAAtRi n) h = numbered 2 row.AnlAAtRi refl n h
-  decodes (row.XrlAAtRi n) h = numbered 2 row.XrlAAtRi refl n h
-  decodes (row.SubbAAtRi n) h = numbered 2 row.SubbAAtRi refl n h
-  decodes (row.XchAAtRi n) h = numbered 2 row.XchAAtRi refl n h
-  decodes (row.XchdAAtRi n) h = numbered 2 row.XchdAAtRi refl n h
-  decodes (row.MovAAtRi n) h = numbered 2 row.MovAAtRi refl n h
-  decodes (row.MovAtRiA n) h = numbered 2 row.MovAtRiA refl n h
-  decodes (row.MovAtRiData n value) h = numbered 2 (λ n. row.MovAtRiData n value) refl n h
-  decodes (row.MovDirectAtRi n direct) h = numbered 2 (λ n. row.MovDirectAtRi n direct) refl n h
-  decodes (row.MovAtRiDirect n direct) h = numbered 2 (λ n. row.MovAtRiDirect n direct) refl n h
-  decodes (row.CjneAtRiDataRel n value rel) h = numbered 2 (λ n. row.CjneAtRiDataRel n value rel) refl n h
-  decodes (row.IncRn n) h = numbered 8 row.IncRn refl n h
-  decodes (row.DecRn n) h = numbered 8 row.DecRn refl n h
-  decodes (row.AddARn n) h = numbered 8 row.AddARn refl n h
-  decodes (row.AddcARn n) h = numbered 8 row.AddcARn refl n h
-  decodes (row.OrlARn n) h = numbered 8 row.OrlARn refl n h
-  decodes (row.AnlARn n) h = numbered 8 row.AnlARn refl n h
-  decodes (row.XrlARn n) h = numbered 8 row.XrlARn refl n h
-  decodes (row.SubbARn n) h = numbered 8 row.SubbARn refl n h
-  decodes (row.XchARn n) h = numbered 8 row.XchARn refl n h
-  decodes (row.MovARn n) h = numbered 8 row.MovARn refl n h
-  decodes (row.MovRnA n) h = numbered 8 row.MovRnA refl n h
-  decodes (row.MovRnData n value) h = numbered 8 (λ n. row.MovRnData n value) refl n h
-  decodes (row.MovDirectRn n direct) h = numbered 8 (λ n. row.MovDirectRn n direct) refl n h
-  decodes (row.MovRnDirect n direct) h = numbered 8 (λ n. row.MovRnDirect n direct) refl n h
-  decodes (row.CjneRnDataRel n value rel) h = numbered 8 (λ n. row.CjneRnDataRel n value rel) refl n h
-  decodes (row.DjnzRnRel n rel) h = numbered 8 (λ n. row.DjnzRnRel n rel) refl n h
-  decodes i h = refl
+  decodes i h =
+      agree (λ n. decoded_over (with_register i n)) (λ n. Some (with_register i n)) (registers i) refl (register_of i)
+      (register_fits (text_of i).first (text_of i).second (FitsAddress (text_of i).first) h)
 
 -- bytes that begin with a row give its instruction
 pub rows_decode : RowsDecode
@@ -118,6 +120,3 @@ some_injective e = cc e
 pub one_row : OneRow
 one_row i j first second third h k =
     some_injective (sym (rows_decode i first second third h) ∙ rows_decode j first second third k)
-
-pub none_reserved : NoneReserved
-none_reserved i second third h = cc (rows_decode i 0xA5 second third h)

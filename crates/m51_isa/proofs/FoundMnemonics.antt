@@ -1,5 +1,6 @@
--- Lines that have a row: their words are mnemonics, and they have one in each form of a jump.
-use Rattle.std.proofs.Common.{◌≡◌, ℕ, Bool, true, false, cond, List, Option, Some, None, refl, subst, sym}
+-- The mnemonics are those of the rows, and CALL: lines that have a row begin with one, and have a row in each form.
+use Rattle.std.proofs.Common.{◌≡◌, ℕ, Bool, true, false, cond, List, Option, Some, None, refl, subst, sym, [], ◌∷◌}
+use Rattle.std.proofs.Common.{map, ◌⊎◌, inl, inr}
 use Rattle.std.specs.Prelude.{IfSome, codes, ◌||◌, is_some}
 use Rattle.std.specs.Str.{bytes_eq}
 use Rattle.std.proofs.lemmas.Slice.Eq.{bytes_eq-Decides}
@@ -12,10 +13,12 @@ use Rattle.m51_isa.specs.declared.generics.Verb.{Verb}
 use Rattle.m51_isa.specs.declared.generics.Verb.TheVariants.{Jmp, Call}
 use Rattle.m51_isa.specs.Spelling.{text_of}
 use Rattle.m51_isa.specs.Generic.{generic}
-use Rattle.m51_isa.specs.Search.{row_or, search, has_row, row_for}
-use Rattle.m51_isa.specs.Mnemonics.{is_mnemonic}
+use Rattle.m51_isa.specs.Search.{row_or, search, has_row, row_for, forms}
+use Rattle.m51_isa.specs.Mnemonics.{is_mnemonic, each_once, mnemonics}
 use Rattle.m51_isa.specs.TextLaws.{HasRowText}
-use Rattle.m51_isa.proofs.RowsWritten.{found_rows_are_written}
+use Rattle.m51_isa.proofs.RowsSearched.{found_rows_are_written}
+use Rattle.std.specs.List.{AllByRecursion, filter, list_any}
+use Rattle.m51_isa.specs.MnemonicLaws.{IsOfRow, MnemonicsAreOfRows}
 
 -- the mnemonic of a row is one
 pub row_has_mnemonic : (i : Instr) → is_mnemonic (text_of i).mnemonic ≡ true
@@ -72,3 +75,45 @@ pub row_in_each_form : (word : List ℕ) (form : Jump) (a b c : Look) → has_ro
     → is_some (row_for word form a b c) ≡ true
 unfolding has_row
 row_in_each_form word form a b c h = some_row (search word a b c) (generic word a b c) form h
+
+abbrev Named : List ℕ → Type 0
+Named word = (word ≡ codes "CALL") ⊎ IsOfRow word
+
+abbrev AllNamed : List (List ℕ) → Type 0
+AllNamed words = AllByRecursion Named words
+
+rows_named : (rows : List Instr) → AllNamed (map (λ i. (text_of i).mnemonic) rows)
+rows_named [] = tt
+rows_named (i ∷ rows) = (inr (record { row = i; is = refl }), rows_named rows)
+
+kept_named : (keep : Bool) (word : List ℕ) (words : List (List ℕ)) → Named word → AllNamed words
+    → AllNamed (cond keep (word ∷ words) words)
+kept_named true word words h all = (h, all)
+kept_named false word words h all = all
+
+some_named : (keep : List ℕ → Bool) (words : List (List ℕ)) → AllNamed words → AllNamed (filter keep words)
+some_named keep [] all = tt
+some_named keep (word ∷ words) all = kept_named (keep word) word _ all.0 (some_named keep words all.1)
+
+once_named : (words : List (List ℕ)) → AllNamed words → AllNamed (each_once words)
+once_named [] all = tt
+once_named (word ∷ words) all = (all.0, some_named _ (each_once words) (once_named words all.1))
+
+named_by : (word w : List ℕ) (hit more : Bool) → bytes_eq w word ≡ hit → Named w → (more ≡ true → Named word)
+    → (hit || more) ≡ true → Named word
+named_by word w true more e named go h = subst Named ((bytes_eq-Decides w word).0 e) named
+named_by word w false more e named go h = go h
+
+named_among : (word : List ℕ) (words : List (List ℕ)) → AllNamed words
+    → list_any (λ w. bytes_eq w word) words ≡ true → Named word
+named_among word [] all h = absurd (cc h)
+named_among word (w ∷ words) all h = named_by word w _ _ refl all.0 (named_among word words all.1) h
+
+mnemonic_named : (word : List ℕ) → is_mnemonic word ≡ true → Named word
+unfolding is_mnemonic
+mnemonic_named word h =
+    named_among word mnemonics
+    (inl refl, once_named (map (λ i. (text_of i).mnemonic) (forms 0 0)) (rows_named (forms 0 0))) h
+
+pub mnemonics_are_of_rows : MnemonicsAreOfRows
+mnemonics_are_of_rows = record { rows = row_has_mnemonic; call = call_is_mnemonic; named = mnemonic_named }

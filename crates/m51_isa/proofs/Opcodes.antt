@@ -1,7 +1,7 @@
 -- The rows of the opcodes: what is decoded by the table is what the manual's table of opcodes says.
-use Rattle.std.proofs.Common.{◌≡◌, ℕ, ◌+◌, ◌*◌, ◌/◌, ◌%◌, ◌<◌, Bool, true, false, cond, nat_eq, nat_lt, List, [], ◌∷◌}
+use Rattle.std.proofs.Common.{◌≡◌, ℕ, ◌+◌, ◌*◌, ◌/◌, ◌%◌, ◌<◌, Bool, true, cond, nat_eq, nat_lt, List, [], ◌∷◌}
 use Rattle.std.proofs.Common.{Option, Some, None, take, length, refl, sym, ap, subst, ◌∙◌, arith}
-use Rattle.std.specs.Prelude.{is_none, slice_index, zero, suc}
+use Rattle.std.specs.Prelude.{is_none, option_map, slice_index, zero, suc}
 use Rattle.std.proofs.lemmas.Grind.{common_steps}
 use Rattle.m51_isa.specs.declared.instr.Instr.{Instr}
 use Rattle.m51_isa.specs.declared.slot.Field.{Field}
@@ -9,11 +9,13 @@ use Rattle.m51_isa.specs.declared.slot.Field.TheVariants as field
 use Rattle.m51_isa.specs.declared.table.Columns.{Columns}
 use Rattle.m51_isa.specs.declared.table.Operand.{Operand}
 use Rattle.m51_isa.specs.declared.table.Operand.TheVariants.{R, AtR, Imm, Plain, NotBit}
-use Rattle.m51_isa.specs.Table.{BeginsWith, IsRowAt, decoded, decoded_at, encoded, length_of, padded}
-use Rattle.m51_isa.specs.Rows.{Bytes, IsInstr, room, bytes_by, columns_at, field_at, list_of, mnemonic_at, number_at}
-use Rattle.m51_isa.specs.Rows.{row_count, row_of_opcode, with_field, with_operand}
-use Rattle.m51_isa.proofs.Codes.{codes_decode, fronts_agree, padded_row}
-use Rattle.m51_isa.proofs.Distinct.{agree}
+use Rattle.m51_isa.specs.Laws.{NoneReserved}
+use Rattle.m51_isa.specs.Operands.{Bytes, field_at, list_of, with_field}
+use Rattle.m51_isa.specs.Rows.{bytes_by, columns_at, made_at, number_at, row_count, row_of_opcode, row_text}
+use Rattle.m51_isa.specs.Rows.{with_operand}
+use Rattle.m51_isa.specs.Table.{BeginsWith, IsRowAt, OperandsFit, decoded_at, encoded, is_reserved, text_length}
+use Rattle.m51_isa.proofs.Distinct.{agree, rows_decode}
+use Rattle.m51_isa.proofs.NumberedRows.{bytes_at}
 
 -- bytes with the field, and with the operand, of these bytes
 abbrev field_put : Field → ℕ → Bytes → Bytes → Bytes
@@ -33,27 +35,10 @@ operand_put operand own bytes = bytes
 abbrev row_put : Columns → Bytes → Bytes
 row_put r own = operand_put r.third own (operand_put r.second own (operand_put r.first own (r.opcode, 0, 0)))
 
-high : (n k : ℕ) → k < 256 → (n * 256 + k) / 256 ≡ n
-high n k h = omega (arith, h)
-
-low : (n k : ℕ) → k < 256 → (n * 256 + k) % 256 ≡ k
-low n k h = omega (arith, h)
-
-abbrev byte_put : Bool → Bytes → ℕ → ℕ → Bytes
-byte_put is_one bytes s t = cond is_one (bytes.0, s, bytes.2) (bytes.0, bytes.1, t)
-
-one_byte : (is_one : Bool) (bytes : Bytes) (s t : ℕ)
-    → byte_put is_one bytes (cond is_one s t) (cond is_one s t) ≡ byte_put is_one bytes s t
-one_byte true bytes s t = refl
-one_byte false bytes s t = refl
-
 module _ (own : Bytes) (second : own.1 < 256) (third : own.2 < 256) where
   field_is : (f : Field) (byte : ℕ) (bytes : Bytes) → with_field f byte (field_at f byte own) bytes
       ≡ field_put f byte own bytes
-  field_is field.Data16 byte bytes = cc (high own.1 own.2 third, low own.1 own.2 third)
-  field_is field.Addr16 byte bytes = cc (high own.1 own.2 third, low own.1 own.2 third)
-  field_is field.Addr11 byte bytes = cc (high (own.0 / 32) own.1 second, low (own.0 / 32) own.1 second)
-  field_is f byte bytes = one_byte (nat_eq byte 1) bytes own.1 own.2
+  field_is f byte bytes = grind (arith, common_steps)
 
   operand_is : (o : Operand) (bytes : Bytes) → with_operand o (number_at o own) bytes ≡ operand_put o own bytes
   operand_is (Imm f byte) bytes = field_is f byte bytes
@@ -64,54 +49,63 @@ module _ (own : Bytes) (second : own.1 < 256) (third : own.2 < 256) where
   row_is : (r : Columns) → bytes_by r (number_at r.first own) (number_at r.second own) (number_at r.third own)
       ≡ row_put r own
   row_is r =
-      let one = operand_put r.first own (r.opcode, 0, 0) in
-      ap (λ bytes. with_operand r.third (number_at r.third own)
-      (with_operand r.second (number_at r.second own) bytes)) (operand_is r.first (r.opcode, 0, 0))
-      ∙ ap (λ bytes. with_operand r.third (number_at r.third own) bytes) (operand_is r.second one)
-      ∙ operand_is r.third (operand_put r.second own one)
+      rw (operand_is r.first (r.opcode, 0, 0)) (rw (operand_is r.second (operand_put r.first own (r.opcode, 0, 0)))
+      (operand_is r.third _))
 
--- computed over all opcodes: what the row's bytes are decoded as, and that the bytes begin with them
+-- the row of this number with the numbers that three bytes have, and how many bytes it is
+abbrev pub read_at : ℕ → Bytes → Instr
+read_at n own =
+    let r : Columns = columns_at n in
+    made_at n (number_at r.first own) (number_at r.second own) (number_at r.third own)
+
+abbrev read_length : ℕ → Bytes → ℕ
+read_length n own =
+    let r : Columns = columns_at n in
+    text_length (row_text n (number_at r.first own) (number_at r.second own) (number_at r.third own))
+
+-- computed over all opcodes: what three bytes are decoded as, and that they begin with its bytes
 module _ (second third : ℕ) where
   abbrev decoded_by : ℕ → Option ℕ → Option Instr
-  decoded_by first None = None
-  decoded_by first (Some n) = decoded (list_of (row_put (columns_at n) (first, second, third)))
+  decoded_by first row = option_map (λ n. read_at n (first, second, third)) row
 
-  by_opcode : (first : ℕ) → first < 256 → decoded_by first (row_of_opcode first) ≡ decoded_at first second third
-  by_opcode first h =
+  rows_decoded : (first : ℕ) → first < 256 → decoded_by first (row_of_opcode first) ≡ decoded_at first second third
+  rows_decoded first h =
       agree (λ first. decoded_by first (row_of_opcode first)) (λ first. decoded_at first second third) 256 refl first h
 
-  abbrev front_by : ℕ → Option ℕ → Option Instr → List ℕ
-  front_by first (Some n) (Some i) =
-      take (length_of i) (list_of (row_put (columns_at n) (first, second, third)))
-  front_by first row instr = []
+  abbrev put_front : ℕ → Option ℕ → Option (List ℕ)
+  put_front first row =
+      let own : Bytes = (first, second, third) in
+      option_map (λ n. take (read_length n own) (list_of (row_put (columns_at n) own))) row
 
-  abbrev front_at : ℕ → Option ℕ → Option Instr → List ℕ
-  front_at first (Some n) (Some i) = take (length_of i) (first ∷ second ∷ third ∷ [])
-  front_at first row instr = []
+  abbrev own_front : ℕ → Option ℕ → Option (List ℕ)
+  own_front first row =
+      let own : Bytes = (first, second, third) in option_map (λ n. take (read_length n own) (list_of own)) row
 
-  front_by_opcode : (first : ℕ) → first < 256
-      → front_by first (row_of_opcode first) (decoded_at first second third)
-      ≡ front_at first (row_of_opcode first) (decoded_at first second third)
-  front_by_opcode first h =
-      agree (λ first. front_by first (row_of_opcode first) (decoded_at first second third))
-      (λ first. front_at first (row_of_opcode first) (decoded_at first second third)) 256 refl first h
+  fronts_agree : (first : ℕ) → first < 256
+      → put_front first (row_of_opcode first) ≡ own_front first (row_of_opcode first)
+  fronts_agree first h =
+      agree (λ first. put_front first (row_of_opcode first)) (λ first. own_front first (row_of_opcode first)) 256 refl
+      first h
 
 abbrev is_below : Option ℕ → Bool
 is_below None = true
 is_below (Some n) = nat_lt n row_count
 
--- a row of an opcode is one of the table, and only the reserved opcode has none
+-- a row of an opcode is one of the table
 pub below : (opcode n : ℕ) → opcode < 256 → Some n ≡ row_of_opcode opcode → n < row_count
 below opcode n h is =
     let all = agree (λ opcode. is_below (row_of_opcode opcode)) (λ opcode. true) 256 refl opcode h in
     let one : nat_lt n row_count ≡ true = subst (λ o. is_below o ≡ true) (sym is) all in
     grind (arith, common_steps, one)
 
-pub reserved : (opcode : ℕ) → opcode < 256 → None ≡ row_of_opcode opcode → opcode ≡ 0xA5
-reserved opcode h is =
-    let all = agree (λ opcode. is_none (row_of_opcode opcode)) (λ opcode. nat_eq opcode 0xA5) 256 refl opcode h in
-    let one : true ≡ nat_eq opcode 0xA5 = subst (λ o. is_none o ≡ nat_eq opcode 0xA5) (sym is) all in
-    grind (arith, common_steps, one)
+-- only the reserved opcode has none
+pub reserved : (opcode : ℕ) → opcode < 256 → is_none (row_of_opcode opcode) ≡ is_reserved opcode
+reserved opcode h = agree (λ opcode. is_none (row_of_opcode opcode)) is_reserved 256 refl opcode h
+
+pub none_reserved : NoneReserved
+none_reserved i first second third h is row =
+    let none = agree is_reserved (λ opcode. is_none (decoded_at opcode second third)) 256 refl first h in
+    cc (sym is ∙ none ∙ ap is_none (rows_decode i first second third row))
 
 begins_take : (bytes : List ℕ) (n : ℕ) → BeginsWith bytes (take n bytes)
 begins_take bytes zero = tt
@@ -122,51 +116,25 @@ module _ (first second third : ℕ) (on_first : first < 256) (on_second : second
   abbrev own : Bytes
   own = (first, second, third)
 
-  pub none_decoded : None ≡ row_of_opcode first → None ≡ decoded_at first second third
-  none_decoded is =
+  pub decoded_row : (row : Option ℕ) → row ≡ row_of_opcode first
+      → option_map (λ n. read_at n own) row ≡ decoded_at first second third
+  decoded_row row is =
       subst (λ o. decoded_by second third first o ≡ decoded_at first second third) (sym is)
-      (by_opcode second third first on_first)
+      (rows_decoded second third first on_first)
 
-  module _ (n x y z : ℕ) (i : Instr) (is : Some n ≡ row_of_opcode first) where
-    -- the numbers are those of the operands of these columns
-    abbrev pub Reads : Columns → Type 0
-    Reads r =
-        (room r.first x ≡ number_at r.first own) × (room r.second y ≡ number_at r.second own)
-        × (room r.third z ≡ number_at r.third own)
-
-    abbrev pub Is : Columns → Type 0
-    Is r = IsInstr (mnemonic_at n) r (room r.first x) (room r.second y) (room r.third z) i
-
-    bytes_are : (r : Columns) → Reads r → Is r → list_of (row_put r own) ≡ padded (encoded i)
-    bytes_are r k h =
-        sym (ap (λ a. list_of (bytes_by r a (room r.second y) (room r.third z))) k.0
-        ∙ ap (λ b. list_of (bytes_by r (number_at r.first own) b (room r.third z))) k.1
-        ∙ ap (λ c. list_of (bytes_by r (number_at r.first own) (number_at r.second own) c)) k.2
-        ∙ ap list_of (row_is own on_second on_third r)) ∙ h.bytes
-
-    pub row_decoded : Reads (columns_at n) → Is (columns_at n) → Some i ≡ decoded_at first second third
-    row_decoded k h =
-        let by : decoded (list_of (row_put (columns_at n) own)) ≡ decoded_at first second third =
-        subst (λ o. decoded_by second third first o ≡ decoded_at first second third) (sym is)
-        (by_opcode second third first on_first) in
-        sym (codes_decode i h.fits) ∙ sym (ap decoded (bytes_are (columns_at n) k h)) ∙ by
-
-    pub row_begins : Reads (columns_at n) → Is (columns_at n) → IsRowAt (first ∷ second ∷ third ∷ []) i
-    row_begins k h =
-        let put : List ℕ = list_of (row_put (columns_at n) own) in
-        let front : take (length_of i) put ≡ take (length_of i) (first ∷ second ∷ third ∷ []) =
-        subst (λ o. front_by second third first o (Some i) ≡ front_at second third first o (Some i)) (sym is)
-        (subst (λ d. front_by second third first (row_of_opcode first) d
-        ≡ front_at second third first (row_of_opcode first) d) (sym (row_decoded k h))
-        (front_by_opcode second third first on_first)) in
-        let code = (fronts_agree i (padded (encoded i)) (padded_row _ i refl h.fits)).code in
-        let same : take (length_of i) (first ∷ second ∷ third ∷ []) ≡ encoded i =
-        sym front ∙ ap (take (length_of i)) (bytes_are (columns_at n) k h) ∙ code in
-        record {
-          fits = h.fits;
-          begins = subst (BeginsWith (first ∷ second ∷ third ∷ [])) same
-              (begins_take (first ∷ second ∷ third ∷ []) (length_of i));
-        }
+  pub row_begins : (n : ℕ) → Some n ≡ row_of_opcode first → OperandsFit (read_at n own)
+      → IsRowAt (first ∷ second ∷ third ∷ []) (read_at n own)
+  row_begins n is fits =
+      let len : ℕ = read_length n own in
+      let front = subst (λ o. put_front second third first o ≡ own_front second third first o) (sym is)
+      (fronts_agree second third first on_first) in
+      let coded : encoded (read_at n own) ≡ take len (list_of own) =
+      bytes_at n _ _ _ (below first n on_first is)
+      ∙ ap (λ bytes. take len (list_of bytes)) (row_is own on_second on_third (columns_at n)) ∙ cc front in
+      record {
+        fits = fits;
+        begins = subst (BeginsWith (list_of own)) (sym coded) (begins_take (list_of own) len);
+      }
 
 -- three bytes are a list of three
 pub three : (bytes : List ℕ) → length bytes ≡ 3

@@ -1,21 +1,37 @@
--- Rows with numbers in their fields, and rows of generic jumps.
-use Rattle.std.proofs.Common.{◌≡◌, ℕ, List, Option, Some, None, refl}
-use Rattle.std.specs.Prelude.{IfSome}
+-- Rows by their own text, rows with numbers in their fields, and rows of generic jumps.
+use Rattle.std.proofs.Common.{◌≡◌, Some, refl, ap, ◌∙◌, ℕ, List, Option, None}
 use Rattle.m51_isa.specs.declared.instr.Instr.{Instr}
 use Rattle.m51_isa.specs.declared.instr.Instr.TheVariants.{Nop}
+use Rattle.m51_isa.specs.Filling.{with_numbers}
+use Rattle.m51_isa.specs.Search.{search, row_or, row_for}
+use Rattle.m51_isa.specs.Spelling.{text_of, look_of}
+use Rattle.m51_isa.specs.TextLaws.{HasNumbers, number_of_slot, read_text, HasText, HasRowText, meant_by, TextsAreRows}
+use Rattle.std.specs.Prelude.{IfSome}
 use Rattle.m51_isa.specs.declared.look.Look.{Look}
 use Rattle.m51_isa.specs.declared.look.Look.TheVariants.{Nothing, Plain}
 use Rattle.m51_isa.specs.declared.generics.Jump.{Jump}
 use Rattle.m51_isa.specs.declared.generics.Jump.TheVariants.{Short, Block, Long}
 use Rattle.m51_isa.specs.declared.generics.Verb.{Verb}
 use Rattle.m51_isa.specs.declared.generics.Verb.TheVariants.{Jmp, Call}
-use Rattle.m51_isa.specs.Spelling.{look_of, text_of}
-use Rattle.m51_isa.specs.Filling.{with_numbers}
 use Rattle.m51_isa.specs.Generic.{generic, jump_row}
-use Rattle.m51_isa.specs.Search.{row_or, search, row_for}
-use Rattle.m51_isa.specs.TextLaws.{HasText, HasRowText, meant_by, TextsAreRows}
-use Rattle.m51_isa.proofs.RowsFound.{rows_are_found}
-use Rattle.m51_isa.proofs.RowsWritten.{as_is, found_rows_are_written}
+use Rattle.m51_isa.proofs.RowsSearched.{as_is, found_rows_are_written}
+
+-- a row with the numbers of its text
+abbrev renumbered : Instr → Instr
+renumbered i =
+    let t = text_of i in with_numbers i (number_of_slot t.first) (number_of_slot t.second) (number_of_slot t.third)
+
+found : (i : Instr) → read_text (text_of i) ≡ Some (renumbered i)
+unfolding search
+found Nop = refl
+found i = refl
+
+same : (i : Instr) → HasNumbers (text_of i) → renumbered i ≡ i
+same Nop h = refl
+same i h = cc (ap number_of_slot h.first, ap number_of_slot h.second, ap number_of_slot h.third)
+
+pub rows_are_found : (i : Instr) → HasNumbers (text_of i) → read_text (text_of i) ≡ Some i
+rows_are_found i h = found i ∙ ap Some (same i h)
 
 rows_are_filled : (i : Instr) (a b c : ℕ) → HasText i (with_numbers i a b c) a b c
 rows_are_filled Nop a b c = record { same = refl; length = refl }

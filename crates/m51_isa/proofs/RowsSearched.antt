@@ -1,29 +1,117 @@
--- What is found at its place among the rows of the table is what the search finds.
-use Rattle.std.proofs.Common.{◌≡◌, ℕ, ◌<◌, ◌%◌, arith, Bool, true, false, List, [], ◌∷◌, Option, Some, None, nat_eq}
-use Rattle.std.proofs.Common.{nat_lt, cond, map, refl, sym, ap, subst, ◌∙◌}
-use Rattle.std.specs.Prelude.{IfSome, ◌&&◌, ◌||◌, is_some, length, slice_index_or}
-use Rattle.std.specs.List.{find, list_any}
-use Rattle.std.proofs.lemmas.List.Folds.{list_any_at}
+-- What is found by a mnemonic and by what the operands look like is written so, and is at its place in the table.
+use Rattle.std.proofs.Common.{◌≡◌, ℕ, Bool, true, false, cond, nat_eq, List, [], ◌∷◌, Some, refl, sym, ap, ◌∙◌, map}
+use Rattle.std.proofs.Common.{arith, ◌<◌, ◌%◌, Option, None, nat_lt, subst}
+use Rattle.std.specs.Prelude.{IfSome, ◌&&◌, slice_index_or, is_some, length}
+use Rattle.std.specs.List.{find}
 use Rattle.std.specs.Str.{bytes_eq}
 use Rattle.std.proofs.lemmas.Grind.{common_steps}
 use Rattle.std.proofs.lemmas.Slice.Eq.{bytes_eq-Decides}
 use Rattle.m51_isa.specs.declared.instr.Instr.{Instr}
-use Rattle.m51_isa.specs.declared.instr.Instr.TheVariants.{Nop}
 use Rattle.m51_isa.specs.declared.look.Look.{Look}
-use Rattle.m51_isa.specs.declared.look.Look.TheVariants as look
-use Rattle.m51_isa.specs.declared.table.Operand.{Operand}
-use Rattle.m51_isa.specs.declared.table.Operand.TheVariants.{Nothing, A, Ab, C, Dptr, APc, ADptr, AtDptr, R, AtR, Imm}
-use Rattle.m51_isa.specs.declared.table.Operand.TheVariants.{Plain, NotBit}
-use Rattle.m51_isa.specs.Filling.{with_numbers}
+use Rattle.m51_isa.specs.declared.look.Look.TheVariants.{Nothing, A, Ab, C, Dptr, APc, ADptr, AtDptr, R, AtR, Imm}
+use Rattle.m51_isa.specs.declared.look.Look.TheVariants.{Plain, NotBit, Other}
 use Rattle.m51_isa.specs.Looks.{look_kind, number_in}
+use Rattle.m51_isa.specs.Spelling.{look_of, text_of, Text}
 use Rattle.m51_isa.specs.Search.{forms, is_written, search}
-use Rattle.m51_isa.specs.Spelling.{look_of, text_of}
 use Rattle.m51_isa.specs.TextLaws.{HasRowText}
-use Rattle.m51_isa.specs.Rows.{IsFilledRow, IsInstr, IsRegister, TextRow, bytes_by, fits, fits_at, found}
-use Rattle.m51_isa.specs.Rows.{list_of, operand_kind, place, row_among, row_count, rows, rows_at, refilled}
-use Rattle.m51_isa.specs.Rows.{room, slot_of}
-use Rattle.m51_isa.proofs.Codes.{one_code}
-use Rattle.m51_isa.proofs.RowsWritten.{found_rows_are_written, four_true, same_number}
+use Rattle.m51_isa.specs.declared.instr.Instr.TheVariants.{Nop}
+use Rattle.m51_isa.specs.declared.table.Columns.{Columns}
+use Rattle.m51_isa.specs.declared.table.Operand.{Operand}
+use Rattle.m51_isa.specs.declared.table.Operand.TheVariants as operand
+use Rattle.m51_isa.specs.Filling.{with_numbers}
+use Rattle.m51_isa.specs.Operands.{kept}
+use Rattle.m51_isa.specs.Rows.{IsRegister, columns_at, filled_at, fits, fits_at, found, made_at, mnemonic_at}
+use Rattle.m51_isa.specs.Rows.{operand_kind, place, refilled, room, row_among, row_count, rows, rows_at, slot_of}
+use Rattle.m51_isa.proofs.NumberedRows.{numbers_at, text_at}
+
+-- a row is written as it is
+pub as_is : (i : Instr)
+    → HasRowText (text_of i).mnemonic (look_of (text_of i).first) (look_of (text_of i).second)
+    (look_of (text_of i).third) i
+as_is i = record { mnemonic = refl; first = refl; second = refl; third = refl }
+
+-- a look with this number of a register
+abbrev pub relook : ℕ → Look → Look
+relook n (R m) = R n
+relook n (AtR m) = AtR n
+relook n l = l
+
+abbrev of_kind : ℕ → ℕ → Look
+of_kind kind n = slice_index_or
+    (Nothing ∷ A ∷ Ab ∷ C ∷ Dptr ∷ APc ∷ ADptr ∷ AtDptr ∷ R n ∷ AtR n ∷ Imm ∷ Plain ∷ NotBit ∷ []) kind Other
+
+by_kind : (n : ℕ) (l : Look) → of_kind (look_kind l) n ≡ relook n l
+by_kind n Nothing = refl
+by_kind n l = refl
+
+own : (l : Look) → relook (number_in l) l ≡ l
+own Nothing = refl
+own l = refl
+
+-- a look of the kind of another, with its register, is that
+pub same_look : (l a : Look) → relook (number_in a) l ≡ l → look_kind l ≡ look_kind a → l ≡ a
+same_look l a h k =
+    let n : ℕ = number_in a in
+    sym h ∙ sym (by_kind n l) ∙ ap (λ kind. of_kind kind n) k ∙ by_kind n a ∙ own a
+
+pub four_true : (p q s t : Bool) → (p && q && s && t) ≡ true
+    → (p ≡ true) × (q ≡ true) × (s ≡ true) × (t ≡ true)
+four_true true true true t h = (refl, refl, refl, h)
+four_true true true false t h = absurd (cc h)
+four_true true false s t h = absurd (cc h)
+four_true false q s t h = absurd (cc h)
+
+pub same_number : (m n : ℕ) → nat_eq m n ≡ true → m ≡ n
+same_number m n h = grind (arith, common_steps, h)
+
+-- the looks of a row, and the looks with these registers
+abbrev Looks : Type 0
+Looks = Look × Look × Look
+
+abbrev looks_of : Instr → Looks
+looks_of i = (look_of (text_of i).first, look_of (text_of i).second, look_of (text_of i).third)
+
+abbrev relooks : ℕ → ℕ → ℕ → Instr → Looks
+relooks x y z i = (relook x (looks_of i).0, relook y (looks_of i).1, relook z (looks_of i).2)
+
+are_formed : (x y z : ℕ) → map (relooks x y z) (forms x y) ≡ map looks_of (forms x y)
+are_formed x y z = refl
+
+module _ (word : List ℕ) (a b c : Look) where
+  abbrev test : Instr → Bool
+  test = is_written word (look_kind a) (look_kind b) (look_kind c)
+
+  abbrev formed : Instr → Looks
+  formed = relooks (number_in a) (number_in b) (number_in c)
+
+  written : (i : Instr) → formed i ≡ looks_of i → test i ≡ true → HasRowText word a b c i
+  written i h k =
+      let each = four_true (nat_eq (look_kind (looks_of i).0) (look_kind a))
+      (nat_eq (look_kind (looks_of i).1) (look_kind b)) (nat_eq (look_kind (looks_of i).2) (look_kind c))
+      (bytes_eq (text_of i).mnemonic word) k in
+      record {
+        mnemonic = (bytes_eq-Decides (text_of i).mnemonic word).0 each.3;
+        first = same_look (looks_of i).0 a (ap (λ (l : Looks). l.0) h) (same_number _ _ each.0);
+        second = same_look (looks_of i).1 b (ap (λ (l : Looks). l.1) h) (same_number _ _ each.1);
+        third = same_look (looks_of i).2 c (ap (λ (l : Looks). l.2) h) (same_number _ _ each.2);
+      }
+
+  by_test : (i : Instr) (among : List Instr) (hit : Bool) → test i ≡ hit → formed i ≡ looks_of i
+      → IfSome (find test among) (HasRowText word a b c)
+      → IfSome (cond hit (Some i) (find test among)) (HasRowText word a b c)
+  by_test i among true e h more = written i h e
+  by_test i among false e h more = more
+
+  found_among : (among : List Instr) → map formed among ≡ map looks_of among
+      → IfSome (find test among) (HasRowText word a b c)
+  found_among [] h = tt
+  found_among (i ∷ among) h = by_test i among (test i) refl (cc h) (found_among among (cc h))
+
+pub found_rows_are_written : (word : List ℕ) (a b c : Look) → IfSome (search word a b c) (HasRowText word a b c)
+unfolding search
+found_rows_are_written word a b c =
+    found_among word a b c (forms (number_in a) (number_in b))
+    (are_formed (number_in a) (number_in b) (number_in c))
 
 -- what is said of the mnemonic and the looks of a row
 abbrev of_text : {X : Type 0} → (List ℕ → Look → Look → Look → X) → Instr → X
@@ -87,114 +175,79 @@ fit_of word a b c n is =
     is_fit word a b c n (subst (λ o. IfSome o (λ m. p m ≡ true)) (sym is)
     (either_holds p at.0 at.1 (p at.0) (p at.1) refl refl))
 
--- how a row is found: its mnemonic and the kinds of its operands, in the order of the table
-abbrev Key : Type 0
-Key = List ℕ × ℕ × ℕ × ℕ
+below_is : (count n : ℕ) → n < count → n % count ≡ n
+below_is count n h = grind (arith, h)
 
-abbrev key_of : Instr → Key
-key_of i = of_text (λ word a b c. (word, look_kind a, look_kind b, look_kind c)) i
+-- the number of a look, in an operand of its kind, looks so
+own_look : (o : Operand) (n : ℕ) → relook n (look_of (slot_of o n)) ≡ look_of (slot_of o n)
+own_look operand.Nothing n = refl
+own_look o n = refl
 
-abbrev row_key : TextRow → Key
-row_key r = (r.0, operand_kind r.1.first, operand_kind r.1.second, operand_kind r.1.third)
+own_kind : (o : Operand) (n : ℕ) → look_kind (look_of (slot_of o n)) ≡ operand_kind o
+own_kind operand.Nothing n = refl
+own_kind o n = refl
 
-same_keys : (x y : ℕ) → map key_of (forms x y) ≡ map row_key rows
-same_keys x y = refl
+looks_so : (o : Operand) (l : Look) → nat_eq (operand_kind o) (look_kind l) ≡ true
+    → look_of (slot_of o (number_in l)) ≡ l
+looks_so o l h =
+    same_look _ l (own_look o (number_in l)) (own_kind o (number_in l) ∙ same_number (operand_kind o) _ h)
 
-abbrev has_key : List ℕ → ℕ → ℕ → ℕ → Key → Bool
-has_key word a b c k = nat_eq k.1 a && nat_eq k.2 b && nat_eq k.3 c && bytes_eq k.0 word
+-- it has room for that of a register, and its field is 0
+room_by : (o : Operand) (n : ℕ) → IsRegister (look_of (slot_of o n)) → number_in (look_of (slot_of o n)) ≡ n
+    → room o n ≡ refilled o n 0
+room_by operand.R n h e = below_is 8 n h
+room_by operand.AtR n h e = below_is 2 n h
+room_by (operand.Imm f byte) n h e = ap (kept f) (sym e)
+room_by (operand.Plain f byte) n h e = ap (kept f) (sym e)
+room_by (operand.NotBit f byte) n h e = ap (kept f) (sym e)
+room_by o n h e = refl
 
-some_next : (hit : Bool) (i : Instr) (o : Option Instr) (any : Bool) → is_some o ≡ any
-    → is_some (cond hit (Some i) o) ≡ (hit || any)
-some_next true i o any e = refl
-some_next false i o any e = e
+has_room : (o : Operand) (l : Look) → nat_eq (operand_kind o) (look_kind l) ≡ true → IsRegister l
+    → room o (number_in l) ≡ refilled o (number_in l) 0
+has_room o l h on =
+    room_by o (number_in l) (subst IsRegister (sym (looks_so o l h)) on) (ap number_in (looks_so o l h))
 
-some_by_any : (word : List ℕ) (a b c : ℕ) (is : List Instr)
-    → is_some (find (is_written word a b c) is) ≡ list_any (has_key word a b c) (map key_of is)
-some_by_any word a b c [] = refl
-some_by_any word a b c (i ∷ is) = some_next (is_written word a b c i) i _ _ (some_by_any word a b c is)
+module _ (word : List ℕ) (a b c : Look) (n : ℕ) (found : Some n ≡ found_by word a b c) where
+  abbrev r : Columns
+  r = columns_at n
 
-any_by_row : (word : List ℕ) (a b c : ℕ) (rs : List TextRow)
-    → list_any (fits word a b c) rs ≡ list_any (has_key word a b c) (map row_key rs)
-any_by_row word a b c [] = refl
-any_by_row word a b c (r ∷ rs) = ap (λ any. fits word a b c r || any) (any_by_row word a b c rs)
+  fit : IsFit word (look_kind a) (look_kind b) (look_kind c) n
+  fit = fit_of word (look_kind a) (look_kind b) (look_kind c) n found
+
+  each : (nat_eq (operand_kind r.first) (look_kind a) ≡ true) × (nat_eq (operand_kind r.second) (look_kind b) ≡ true)
+      × (nat_eq (operand_kind r.third) (look_kind c) ≡ true) × (bytes_eq (mnemonic_at n) word ≡ true)
+  each = four_true _ _ _ _ fit.fits
+
+  abbrev made : Instr
+  made = made_at n (number_in a) (number_in b) (number_in c)
+
+  made_so : HasRowText word a b c made
+  made_so =
+      let t = text_at n (number_in a) (number_in b) (number_in c) fit.below in
+      record {
+        mnemonic = ap (λ (t : Text). t.mnemonic) t ∙ (bytes_eq-Decides (mnemonic_at n) word).0 each.3;
+        first = ap (λ (t : Text). look_of t.first) t ∙ looks_so r.first a each.0;
+        second = ap (λ (t : Text). look_of t.second) t ∙ looks_so r.second b each.1;
+        third = ap (λ (t : Text). look_of t.third) t ∙ looks_so r.third c each.2;
+      }
+
+  -- the row with the registers of the line, and 0 in its fields, is searched
+  made_searched : search word a b c
+      ≡ Some (made_at n (refilled r.first (number_in a) 0) (refilled r.second (number_in b) 0)
+      (refilled r.third (number_in c) 0))
+  made_searched =
+      sym (written_alike search word a b c made made_so) ∙ by_text made
+      ∙ ap Some (numbers_at n (number_in a) (number_in b) (number_in c) fit.below 0 0 0)
+
+  -- so it is what the row gives with the numbers of the operands
+  pub row_is_found : (x y z : ℕ) → x ≡ number_in a → y ≡ number_in b → z ≡ number_in c
+      → IsRegister a → IsRegister b → IsRegister c → Some (filled_at n x y z) ≡ search word a b c
+  row_is_found x y z e f g on_a on_b on_c =
+      rw e (rw f (rw g (rw (has_room r.first a each.0 on_a) (rw (has_room r.second b each.1 on_b)
+      (rw (has_room r.third c each.2 on_c) (sym made_searched))))))
 
 -- there is a row at the place of a line exactly if one is searched
 pub found_some : (word : List ℕ) (a b c : Look) (o : Option ℕ) → o ≡ found_by word a b c
     → is_some o ≡ is_some (search word a b c)
-unfolding search
 found_some word a b c None is = ap is_some (none_is_found word a b c is)
-found_some word a b c (Some n) is =
-    let fit = fit_of word (look_kind a) (look_kind b) (look_kind c) n is in
-    let p : TextRow → Bool = fits word (look_kind a) (look_kind b) (look_kind c) in
-    sym (some_by_any word (look_kind a) (look_kind b) (look_kind c) (forms (number_in a) (number_in b))
-    ∙ ap (list_any (has_key word (look_kind a) (look_kind b) (look_kind c))) (same_keys (number_in a) (number_in b))
-    ∙ sym (any_by_row word (look_kind a) (look_kind b) (look_kind c) rows)
-    ∙ list_any_at p rows n _ fit.below fit.fits)
-
-below_is : (count n : ℕ) → n < count → n % count ≡ n
-below_is count n h = grind (arith, h)
-
--- with this number an operand looks so, has room for it, and keeps it where 0 is put into its field
-record IsNumberFor (o : Operand) (l : Look) (n : ℕ) : Type 0 where
-  look : look_of (slot_of o (room o n)) ≡ l
-  empty : refilled o (room o n) 0 ≡ room o n
-
-is_number : (o : Operand) (l : Look) → operand_kind o ≡ look_kind l → IsRegister l → IsNumberFor o l (number_in l)
-is_number Nothing look.Nothing k h = record { look = refl; empty = refl }
-is_number A look.A k h = record { look = refl; empty = refl }
-is_number Ab look.Ab k h = record { look = refl; empty = refl }
-is_number C look.C k h = record { look = refl; empty = refl }
-is_number Dptr look.Dptr k h = record { look = refl; empty = refl }
-is_number APc look.APc k h = record { look = refl; empty = refl }
-is_number ADptr look.ADptr k h = record { look = refl; empty = refl }
-is_number AtDptr look.AtDptr k h = record { look = refl; empty = refl }
-is_number R (look.R n) k h = record { look = ap look.R (below_is 8 n h); empty = refl }
-is_number AtR (look.AtR n) k h = record { look = ap look.AtR (below_is 2 n h); empty = refl }
-is_number (Imm f byte) look.Imm k h = record { look = refl; empty = refl }
-is_number (Plain f byte) look.Plain k h = record { look = refl; empty = refl }
-is_number (NotBit f byte) look.NotBit k h = record { look = refl; empty = refl }
-is_number o l k h = absurd (cc k)
-
-module _ (word : List ℕ) (a b c : Look) (r : TextRow) (x y z : ℕ) (i : Instr) where
-  abbrev Is : Type 0
-  Is = IsInstr r.0 r.1 (room r.1.first x) (room r.1.second y) (room r.1.third z) i
-
-  abbrev Looks : Type 0
-  Looks = IsNumberFor r.1.first a x × IsNumberFor r.1.second b y × IsNumberFor r.1.third c z
-
-  reads_so : r.0 ≡ word → Looks → Is → HasRowText word a b c i
-  reads_so m h is = record {
-    mnemonic = sym (ap (λ t. t.mnemonic) is.text) ∙ m;
-    first = sym (ap (λ t. look_of t.first) is.text) ∙ h.0.look;
-    second = sym (ap (λ t. look_of t.second) is.text) ∙ h.1.look;
-    third = sym (ap (λ t. look_of t.third) is.text) ∙ h.2.look;
-  }
-
-  is_empty : Looks → Is → with_numbers i 0 0 0 ≡ i
-  is_empty h is =
-      let p : ℕ = room r.1.first x in
-      let q : ℕ = room r.1.second y in
-      let t : ℕ = room r.1.third z in
-      let same = ap (λ n. list_of (bytes_by r.1 n (refilled r.1.second q 0) (refilled r.1.third t 0))) h.0.empty
-      ∙ ap (λ n. list_of (bytes_by r.1 p n (refilled r.1.third t 0))) h.1.empty
-      ∙ ap (λ n. list_of (bytes_by r.1 p q n)) h.2.empty in
-      one_code (with_numbers i 0 0 0) i (is.filled_fits 0 0 0) is.fits (sym (is.filled 0 0 0) ∙ same ∙ is.bytes)
-
-  found_with : r.0 ≡ word → Looks → Is → Some i ≡ search word a b c
-  found_with m h is =
-      sym (sym (written_alike search word a b c i (reads_so m h is)) ∙ by_text i ∙ ap Some (is_empty h is))
-
--- what the row that is found gives, with the numbers of the operands, is what is searched
-pub row_is_found : (word : List ℕ) (a b c : Look) (n x y z : ℕ) (i : Instr) → Some n ≡ found_by word a b c
-    → x ≡ number_in a → y ≡ number_in b → z ≡ number_in c → IsRegister a → IsRegister b → IsRegister c
-    → IsFilledRow n x y z i → Some i ≡ search word a b c
-row_is_found word a b c n x y z i found e f g on_a on_b on_c is =
-    let r : TextRow = row_among rows n in
-    let fit = fit_of word (look_kind a) (look_kind b) (look_kind c) n found in
-    let each = four_true (nat_eq (operand_kind r.1.first) (look_kind a))
-    (nat_eq (operand_kind r.1.second) (look_kind b)) (nat_eq (operand_kind r.1.third) (look_kind c)) (bytes_eq r.0 word)
-    fit.fits in
-    let one : IsNumberFor r.1.first a x = rw e (is_number r.1.first a (same_number _ _ each.0) on_a) in
-    let two : IsNumberFor r.1.second b y = rw f (is_number r.1.second b (same_number _ _ each.1) on_b) in
-    let three : IsNumberFor r.1.third c z = rw g (is_number r.1.third c (same_number _ _ each.2) on_c) in
-    found_with word a b c r x y z i ((bytes_eq-Decides r.0 word).0 each.3) (one, two, three) is
+found_some word a b c (Some n) is = sym (ap is_some (made_searched word a b c n is))

@@ -1,71 +1,20 @@
 -- Numbers in the fields of the rows of the instruction table.
-use Rattle.std.specs.Prelude.{ℕ, ◌%◌}
+use Rattle.std.specs.Prelude.{ℕ, Option, Some, None, nat_eq}
+use Rattle.std.specs.List.{find}
 use Rattle.m51_isa.specs.declared.instr.Instr.{Instr}
-use Rattle.m51_isa.specs.declared.instr.Instr.TheVariants as row
+use Rattle.m51_isa.specs.Operands.{taken}
+use Rattle.m51_isa.specs.Table.{Maker, Text, makers, row_of, text_of}
+
+-- an instruction of the same row
+abbrev made : Instr → Option Maker → ℕ → ℕ → ℕ → Instr
+made i (Some make) a b c = make a b c
+made i None a b c = i
+
+abbrev pub remade : Instr → ℕ → ℕ → ℕ → Instr
+remade i = made i (find (λ make. nat_eq (row_of (make 0 0 0)).opcode (row_of i).opcode) makers)
 
 -- The row with these numbers in the fields of its operands, in the order of the text; each field takes what it has
 -- room for.
 abbrev pub with_numbers : Instr → ℕ → ℕ → ℕ → Instr
-with_numbers (row.JbcBitRel _ _) a b c = row.JbcBitRel (a % 256) (b % 256)
-with_numbers (row.JbBitRel _ _) a b c = row.JbBitRel (a % 256) (b % 256)
-with_numbers (row.JnbBitRel _ _) a b c = row.JnbBitRel (a % 256) (b % 256)
-with_numbers (row.JcRel _) a b c = row.JcRel (a % 256)
-with_numbers (row.JncRel _) a b c = row.JncRel (a % 256)
-with_numbers (row.JzRel _) a b c = row.JzRel (a % 256)
-with_numbers (row.JnzRel _) a b c = row.JnzRel (a % 256)
-with_numbers (row.SjmpRel _) a b c = row.SjmpRel (a % 256)
-with_numbers (row.MovDptrData16 _) a b c = row.MovDptrData16 b
-with_numbers (row.OrlCNotBit _) a b c = row.OrlCNotBit (b % 256)
-with_numbers (row.AnlCNotBit _) a b c = row.AnlCNotBit (b % 256)
-with_numbers (row.PushDirect _) a b c = row.PushDirect (a % 256)
-with_numbers (row.PopDirect _) a b c = row.PopDirect (a % 256)
-with_numbers (row.AjmpAddr11 _) a b c = row.AjmpAddr11 (a % 2048)
-with_numbers (row.AcallAddr11 _) a b c = row.AcallAddr11 (a % 2048)
-with_numbers (row.LjmpAddr16 _) a b c = row.LjmpAddr16 a
-with_numbers (row.LcallAddr16 _) a b c = row.LcallAddr16 a
-with_numbers (row.OrlDirectA _) a b c = row.OrlDirectA (a % 256)
-with_numbers (row.AnlDirectA _) a b c = row.AnlDirectA (a % 256)
-with_numbers (row.XrlDirectA _) a b c = row.XrlDirectA (a % 256)
-with_numbers (row.OrlCBit _) a b c = row.OrlCBit (b % 256)
-with_numbers (row.AnlCBit _) a b c = row.AnlCBit (b % 256)
-with_numbers (row.MovBitC _) a b c = row.MovBitC (a % 256)
-with_numbers (row.MovCBit _) a b c = row.MovCBit (b % 256)
-with_numbers (row.CplBit _) a b c = row.CplBit (a % 256)
-with_numbers (row.ClrBit _) a b c = row.ClrBit (a % 256)
-with_numbers (row.SetbBit _) a b c = row.SetbBit (a % 256)
-with_numbers (row.OrlDirectData _ _) a b c = row.OrlDirectData (a % 256) (b % 256)
-with_numbers (row.AnlDirectData _ _) a b c = row.AnlDirectData (a % 256) (b % 256)
-with_numbers (row.XrlDirectData _ _) a b c = row.XrlDirectData (a % 256) (b % 256)
-with_numbers (row.AddAData _) a b c = row.AddAData (b % 256)
-with_numbers (row.AddcAData _) a b c = row.AddcAData (b % 256)
-with_numbers (row.OrlAData _) a b c = row.OrlAData (b % 256)
-with_numbers (row.AnlAData _) a b c = row.AnlAData (b % 256)
-with_numbers (row.XrlAData _) a b c = row.XrlAData (b % 256)
-with_numbers (row.MovAData _) a b c = row.MovAData (b % 256)
-with_numbers (row.SubbAData _) a b c = row.SubbAData (b % 256)
-with_numbers (row.CjneADataRel _ _) a b c = row.CjneADataRel (b % 256) (c % 256)
-with_numbers (row.IncDirect _) a b c = row.IncDirect (a % 256)
-with_numbers (row.DecDirect _) a b c = row.DecDirect (a % 256)
-with_numbers (row.AddADirect _) a b c = row.AddADirect (b % 256)
-with_numbers (row.AddcADirect _) a b c = row.AddcADirect (b % 256)
-with_numbers (row.OrlADirect _) a b c = row.OrlADirect (b % 256)
-with_numbers (row.AnlADirect _) a b c = row.AnlADirect (b % 256)
-with_numbers (row.XrlADirect _) a b c = row.XrlADirect (b % 256)
-with_numbers (row.MovDirectData _ _) a b c = row.MovDirectData (a % 256) (b % 256)
-with_numbers (row.MovDirectDirect _ _) a b c = row.MovDirectDirect (b % 256) (a % 256)
-with_numbers (row.SubbADirect _) a b c = row.SubbADirect (b % 256)
-with_numbers (row.CjneADirectRel _ _) a b c = row.CjneADirectRel (b % 256) (c % 256)
-with_numbers (row.XchADirect _) a b c = row.XchADirect (b % 256)
-with_numbers (row.DjnzDirectRel _ _) a b c = row.DjnzDirectRel (a % 256) (b % 256)
-with_numbers (row.MovADirect _) a b c = row.MovADirect (b % 256)
-with_numbers (row.MovDirectA _) a b c = row.MovDirectA (a % 256)
-with_numbers (row.MovAtRiData pointer _) a b c = row.MovAtRiData pointer (b % 256)
-with_numbers (row.MovDirectAtRi pointer _) a b c = row.MovDirectAtRi pointer (a % 256)
-with_numbers (row.MovAtRiDirect pointer _) a b c = row.MovAtRiDirect pointer (b % 256)
-with_numbers (row.CjneAtRiDataRel pointer _ _) a b c = row.CjneAtRiDataRel pointer (b % 256) (c % 256)
-with_numbers (row.MovRnData register _) a b c = row.MovRnData register (b % 256)
-with_numbers (row.MovDirectRn register _) a b c = row.MovDirectRn register (a % 256)
-with_numbers (row.MovRnDirect register _) a b c = row.MovRnDirect register (b % 256)
-with_numbers (row.CjneRnDataRel register _ _) a b c = row.CjneRnDataRel register (b % 256) (c % 256)
-with_numbers (row.DjnzRnRel register _) a b c = row.DjnzRnRel register (b % 256)
-with_numbers row a b c = row
+with_numbers i a b c =
+    let t : Text = text_of i in remade i (taken t.first a) (taken t.second b) (taken t.third c)

@@ -1,7 +1,7 @@
 -- What the table promises of decoding and encoding.
-use Rattle.std.specs.Prelude.{◌≡◌, ℕ, ◌≤◌, List, [], ◌∷◌, take, Some}
+use Rattle.std.specs.Prelude.{◌≡◌, ℕ, ◌<◌, ◌≤◌, true, List, [], ◌∷◌, take, Some}
 use Rattle.m51_isa.specs.declared.instr.Instr.{Instr}
-use Rattle.m51_isa.specs.Table.{IsRowAt, OperandsFit, decoded_at, decoded, encoded, length_of, padded}
+use Rattle.m51_isa.specs.Table.{IsRowAt, OperandsFit, decoded_at, decoded, encoded, is_reserved, length_of, padded}
 
 -- no bytes begin with two rows
 abbrev pub OneRow : Type 0
@@ -11,7 +11,9 @@ OneRow =
 
 -- no row begins with the reserved opcode
 abbrev pub NoneReserved : Type 0
-NoneReserved = (i : Instr) (second third : ℕ) → IsRowAt (0xA5 ∷ second ∷ third ∷ []) i → ⊥
+NoneReserved =
+    (i : Instr) (first second third : ℕ)
+    → first < 256 → is_reserved first ≡ true → IsRowAt (first ∷ second ∷ third ∷ []) i → ⊥
 
 -- bytes that begin with a row are decoded as its instruction
 abbrev pub RowsDecode : Type 0

@@ -1,21 +1,18 @@
--- The mnemonics of the instruction table (family manual), with the generic CALL.
-use Rattle.std.specs.Prelude.{ℕ, Bool, List, [], ◌∷◌, codes}
-use Rattle.std.specs.List.{list_any}
+-- The mnemonics of the instruction table, with the generic CALL.
+use Rattle.std.specs.Prelude.{ℕ, Bool, not, List, [], ◌∷◌, codes, map}
+use Rattle.std.specs.List.{filter, list_any}
 use Rattle.std.specs.Str.{bytes_eq}
+use Rattle.m51_isa.specs.Search.{forms}
+use Rattle.m51_isa.specs.Table.{text_of}
 
--- the mnemonics in the order of their letters
+-- these words, each once
+abbrev pub each_once : List (List ℕ) → List (List ℕ)
+each_once [] = []
+each_once (word ∷ words) = word ∷ filter (λ w. not (bytes_eq w word)) (each_once words)
+
+-- CALL, and the mnemonics in the order of the table
 abbrev pub mnemonics : List (List ℕ)
-mnemonics =
-    codes "ACALL" ∷ codes "ADD" ∷ codes "ADDC" ∷ codes "AJMP" ∷ codes "ANL" ∷ codes "CALL" ∷ codes "CJNE" ∷
-    codes "CLR" ∷ codes "CPL" ∷
-    codes "DA" ∷ codes "DEC" ∷ codes "DIV" ∷ codes "DJNZ" ∷ codes "INC" ∷ codes "JB" ∷ codes "JBC" ∷ codes "JC" ∷
-    codes "JMP" ∷
-    codes "JNB" ∷ codes "JNC" ∷ codes "JNZ" ∷ codes "JZ" ∷ codes "LCALL" ∷ codes "LJMP" ∷ codes "MOV" ∷
-    codes "MOVC" ∷ codes "MOVX" ∷
-    codes "MUL" ∷ codes "NOP" ∷ codes "ORL" ∷ codes "POP" ∷ codes "PUSH" ∷ codes "RET" ∷ codes "RETI" ∷ codes "RL" ∷
-    codes "RLC" ∷
-    codes "RR" ∷ codes "RRC" ∷ codes "SETB" ∷ codes "SJMP" ∷ codes "SUBB" ∷ codes "SWAP" ∷ codes "XCH" ∷
-    codes "XCHD" ∷ codes "XRL" ∷ []
+mnemonics = codes "CALL" ∷ each_once (map (λ i. (text_of i).mnemonic) (forms 0 0))
 
 -- one of the mnemonics
 unfoldable pub is_mnemonic : List ℕ → Bool

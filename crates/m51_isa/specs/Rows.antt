@@ -1,14 +1,13 @@
 -- What a row of the code's table says of an instruction.
-use Rattle.std.specs.Prelude.{◌≡◌, ℕ, ◌+◌, ◌*◌, ◌/◌, ◌%◌, ◌<◌, List, [], ◌∷◌, Bool, ◌&&◌, cond, length}
+use Rattle.std.specs.Prelude.{◌≡◌, ℕ, ◌+◌, ◌*◌, ◌/◌, ◌%◌, ◌<◌, List, [], Bool, ◌&&◌, cond, length}
 use Rattle.std.specs.Prelude.{map, nat_eq, nat_lt, slice_index, slice_index_or}
 use Rattle.std.specs.Prelude.{Option, Some, None}
 use Rattle.std.specs.Str.{bytes_eq}
 use Rattle.m51_isa.specs.declared.instr.Instr.{Instr}
+use Rattle.m51_isa.specs.declared.instr.Instr.TheVariants.{Nop}
 use Rattle.m51_isa.specs.declared.instr.Flow.TheVariants.{Next}
 use Rattle.m51_isa.specs.declared.look.Look.{Look}
 use Rattle.m51_isa.specs.declared.look.Look.TheVariants as look
-use Rattle.m51_isa.specs.declared.slot.Field.{Field}
-use Rattle.m51_isa.specs.declared.slot.Field.TheVariants as field
 use Rattle.m51_isa.specs.declared.slot.Slot.{Slot}
 use Rattle.m51_isa.specs.declared.slot.Slot.TheVariants as slot
 use Rattle.m51_isa.specs.declared.table.Operand.{Operand}
@@ -17,12 +16,12 @@ use Rattle.m51_isa.specs.declared.table.Operand.TheVariants.{Plain, NotBit}
 use Rattle.m51_isa.specs.declared.table.Columns.{Columns}
 use Rattle.m51_isa.specs.declared.table.Layout.{Layout}
 use Rattle.m51_isa.specs.declared.table.Layout.TheVariants.{LowABC, LowBA, AB, BA, BC, WordA, WordB, BlockA}
-use Rattle.m51_isa.specs.declared.table.TheConstants.{ROWS, COLUMNS, PLACES}
+use Rattle.m51_isa.specs.declared.table.TheConstants.{ROWS, ROW_COUNT, COLUMNS, PLACES}
 use Rattle.m51_isa.specs.Looks.{look_kind}
-use Rattle.m51_isa.specs.Spelling.{look_of, text, text_of}
-use Rattle.m51_isa.specs.TextLaws.{kept}
-use Rattle.m51_isa.specs.Filling.{with_numbers}
-use Rattle.m51_isa.specs.Table.{OperandsFit, encoded, flow_of, padded}
+use Rattle.m51_isa.specs.Spelling.{Text, look_of, text}
+pub use Rattle.m51_isa.specs.Operands.{Bytes, field_at, list_of, with_field}
+use Rattle.m51_isa.specs.Operands.{FitsAddr11, kept, slot_at, with_slot}
+use Rattle.m51_isa.specs.Table.{encoded, makers, padded}
 
 -- an operand with its number
 abbrev pub slot_of : Operand → ℕ → Slot
@@ -40,28 +39,9 @@ slot_of (Imm f byte) n = slot.Imm (record { field = f; byte = byte; number = n }
 slot_of (Plain f byte) n = slot.Plain (record { field = f; byte = byte; number = n })
 slot_of (NotBit f byte) n = slot.NotBit (record { field = f; byte = byte; number = n })
 
--- three bytes of an instruction
-abbrev pub Bytes : Type 0
-Bytes = ℕ × ℕ × ℕ
-
-abbrev pub list_of : Bytes → List ℕ
-list_of bytes = bytes.0 ∷ bytes.1 ∷ bytes.2 ∷ []
-
--- with the number of a field in them
-abbrev pub with_field : Field → ℕ → ℕ → Bytes → Bytes
-with_field field.Data16 byte n bytes = (bytes.0, n / 256, n % 256)
-with_field field.Addr16 byte n bytes = (bytes.0, n / 256, n % 256)
-with_field field.Addr11 byte n bytes = (bytes.0 + 32 * (n / 256), n % 256, bytes.2)
-with_field f byte n bytes = cond (nat_eq byte 1) (bytes.0, n, bytes.2) (bytes.0, bytes.1, n)
-
--- with that of an operand
+-- with the number of an operand in them
 abbrev pub with_operand : Operand → ℕ → Bytes → Bytes
-with_operand R n bytes = (bytes.0 + n, bytes.1, bytes.2)
-with_operand AtR n bytes = (bytes.0 + n, bytes.1, bytes.2)
-with_operand (Imm f byte) n bytes = with_field f byte n bytes
-with_operand (Plain f byte) n bytes = with_field f byte n bytes
-with_operand (NotBit f byte) n bytes = with_field f byte n bytes
-with_operand operand n bytes = bytes
+with_operand operand n bytes = with_slot (slot_of operand n) bytes
 
 -- how the numbers of the operands are laid out in bytes
 abbrev pub laid : Layout → ℕ → ℕ → ℕ → ℕ → Bytes
@@ -86,19 +66,8 @@ abbrev pub bytes_by : Columns → ℕ → ℕ → ℕ → Bytes
 bytes_by r a b c = with_operand r.third c (with_operand r.second b (with_operand r.first a (r.opcode, 0, 0)))
 
 -- the number of an operand in three bytes
-abbrev pub field_at : Field → ℕ → Bytes → ℕ
-field_at field.Data16 byte bytes = bytes.1 * 256 + bytes.2
-field_at field.Addr16 byte bytes = bytes.1 * 256 + bytes.2
-field_at field.Addr11 byte bytes = bytes.0 / 32 * 256 + bytes.1
-field_at f byte bytes = cond (nat_eq byte 1) bytes.1 bytes.2
-
 abbrev pub number_at : Operand → Bytes → ℕ
-number_at R bytes = bytes.0 % 8
-number_at AtR bytes = bytes.0 % 2
-number_at (Imm f byte) bytes = field_at f byte bytes
-number_at (Plain f byte) bytes = field_at f byte bytes
-number_at (NotBit f byte) bytes = field_at f byte bytes
-number_at operand bytes = 0
+number_at operand bytes = slot_at (slot_of operand 0) bytes
 
 -- the rows of the table, each a mnemonic and its columns
 abbrev pub TextRow : Type 0
@@ -108,7 +77,7 @@ abbrev pub rows : List TextRow
 rows = map (λ r. (r.0.now, r.1)) ROWS
 
 abbrev pub row_count : ℕ
-row_count = 111
+row_count = ROW_COUNT
 
 abbrev pub row_among : List TextRow → ℕ → TextRow
 row_among among n =
@@ -131,19 +100,11 @@ mnemonic_at n = (row_among rows n).0
 abbrev pub columns_at : ℕ → Columns
 columns_at n = (row_among rows n).1
 
--- a number that an operand has room for
-abbrev pub FitsField : Field → ℕ → Type 0
-FitsField field.Data16 n = n < 65536
-FitsField field.Addr16 n = n < 65536
-FitsField field.Addr11 n = n < 2048
-FitsField f n = n < 256
-
+-- a number of a register or of an addr11 is below its bound
 abbrev pub FitsOperand : Operand → ℕ → Type 0
 FitsOperand R n = n < 8
 FitsOperand AtR n = n < 2
-FitsOperand (Imm f byte) n = FitsField f n
-FitsOperand (Plain f byte) n = FitsField f n
-FitsOperand (NotBit f byte) n = FitsField f n
+FitsOperand (Plain f byte) n = FitsAddr11 f n
 FitsOperand operand n = Unit {0}
 
 -- what an operand has room for of a number
@@ -162,28 +123,25 @@ refilled (Plain f byte) own n = kept f n
 refilled (NotBit f byte) own n = kept f n
 refilled operand own n = own
 
--- the instruction is this row with these numbers
-pub record IsInstr (mnemonic : List ℕ) (r : Columns) (a b c : ℕ) (i : Instr) : Type 0 where
-  pub text : text mnemonic (slot_of r.first a) (slot_of r.second b) (slot_of r.third c) ≡ text_of i
-  pub bytes : list_of (bytes_by r a b c) ≡ padded (encoded i)
-  pub flow : r.flow ≡ flow_of i
-  pub fits : OperandsFit i
-  pub first : FitsOperand r.first a
-  pub second : FitsOperand r.second b
-  pub third : FitsOperand r.third c
-  -- with other numbers in its fields it is the row with those
-  pub filled : (x y z : ℕ) →
-      list_of (bytes_by r (refilled r.first a x) (refilled r.second b y) (refilled r.third c z))
-      ≡ padded (encoded (with_numbers i x y z))
-  pub filled_fits : (x y z : ℕ) → OperandsFit (with_numbers i x y z)
+-- the text of a row with these numbers, and its instruction
+abbrev pub row_text : ℕ → ℕ → ℕ → ℕ → Text
+row_text n a b c =
+    let r : Columns = columns_at n in text (mnemonic_at n) (slot_of r.first a) (slot_of r.second b) (slot_of r.third c)
 
--- it is the row of this number, and with what its operands have room for of these numbers
-abbrev pub IsAtRow : ℕ → ℕ → ℕ → ℕ → Instr → Type 0
-IsAtRow n a b c i = IsInstr (mnemonic_at n) (columns_at n) a b c i
+abbrev pub made_at : ℕ → ℕ → ℕ → ℕ → Instr
+made_at n = slice_index_or makers n (λ a b c. Nop)
 
-abbrev pub IsFilledRow : ℕ → ℕ → ℕ → ℕ → Instr → Type 0
-IsFilledRow n a b c i =
-    IsAtRow n (room (columns_at n).first a) (room (columns_at n).second b) (room (columns_at n).third c) i
+-- with what its operands have room for of these numbers
+abbrev pub filled_at : ℕ → ℕ → ℕ → ℕ → Instr
+filled_at n a b c =
+    let r : Columns = columns_at n in made_at n (room r.first a) (room r.second b) (room r.third c)
+
+-- the instruction is the row of this number with these numbers
+pub record IsAtRow (n a b c : ℕ) (i : Instr) : Type 0 where
+  pub is : i ≡ made_at n a b c
+  pub first : FitsOperand (columns_at n).first a
+  pub second : FitsOperand (columns_at n).second b
+  pub third : FitsOperand (columns_at n).third c
 
 -- the kind of an operand, whatever its number
 abbrev pub operand_kind : Operand → ℕ

@@ -3,11 +3,11 @@
 use Rattle.std.specs.Prelude.{ℕ, ◌+◌, ◌-◌, ◌*◌, ◌/◌, ◌%◌, ◌==◌, Bool, ◌&&◌, ◌||◌, nat_le, nat_lt, if◌then◌else◌}
 use Rattle.std.specs.Prelude.{Option, Some, None}
 use Rattle.m51_isa.specs.declared.instr.Instr.{Instr}
-use Rattle.m51_isa.specs.declared.instr.Instr.TheVariants.{JbcBitRel, JbBitRel, JnbBitRel, JcRel, JncRel, JzRel, JnzRel}
-use Rattle.m51_isa.specs.declared.instr.Instr.TheVariants.{SjmpRel, AjmpAddr11, AcallAddr11, LjmpAddr16, LcallAddr16}
-use Rattle.m51_isa.specs.declared.instr.Instr.TheVariants.{CjneADataRel, CjneADirectRel, CjneAtRiDataRel, CjneRnDataRel}
-use Rattle.m51_isa.specs.declared.instr.Instr.TheVariants.{DjnzDirectRel, DjnzRnRel}
-use Rattle.m51_isa.specs.Table.{length_of}
+use Rattle.m51_isa.specs.declared.slot.Field.{Field}
+use Rattle.m51_isa.specs.declared.slot.Field.TheVariants.{Addr11, Addr16, Rel}
+use Rattle.m51_isa.specs.declared.slot.Slot.{Slot}
+use Rattle.m51_isa.specs.declared.slot.Slot.TheVariants.{Plain}
+use Rattle.m51_isa.specs.Table.{Text, length_of, text_of}
 
 -- the address after an instruction at this address
 abbrev pub next_of : Instr → ℕ → ℕ
@@ -45,24 +45,18 @@ bit_address byte bit =
     else if (nat_le 0x80 byte && nat_le byte 0xF8) && byte % 8 == 0 then Some (byte + bit)
     else None
 
+-- where a field leads with this next address, if it is a target, else this
+abbrev led_by : Field → ℕ → ℕ → Option ℕ → Option ℕ
+led_by Rel n next other = Some (relative next n)
+led_by Addr11 n next other = Some (near next n)
+led_by Addr16 n next other = Some n
+led_by f n next other = other
+
+abbrev led : Slot → ℕ → Option ℕ → Option ℕ
+led (Plain f) next other = led_by f.field f.number next other
+led slot next other = other
+
 -- the target of a jump, a branch or a call with this next address; `JMP @A+DPTR` names none
 abbrev pub target_of : Instr → ℕ → Option ℕ
-target_of (JbcBitRel bit rel) next = Some (relative next rel)
-target_of (JbBitRel bit rel) next = Some (relative next rel)
-target_of (JnbBitRel bit rel) next = Some (relative next rel)
-target_of (JcRel rel) next = Some (relative next rel)
-target_of (JncRel rel) next = Some (relative next rel)
-target_of (JzRel rel) next = Some (relative next rel)
-target_of (JnzRel rel) next = Some (relative next rel)
-target_of (SjmpRel rel) next = Some (relative next rel)
-target_of (CjneADataRel value rel) next = Some (relative next rel)
-target_of (CjneADirectRel direct rel) next = Some (relative next rel)
-target_of (CjneAtRiDataRel pointer value rel) next = Some (relative next rel)
-target_of (CjneRnDataRel register value rel) next = Some (relative next rel)
-target_of (DjnzDirectRel direct rel) next = Some (relative next rel)
-target_of (DjnzRnRel register rel) next = Some (relative next rel)
-target_of (AjmpAddr11 address) next = Some (near next address)
-target_of (AcallAddr11 address) next = Some (near next address)
-target_of (LjmpAddr16 address) next = Some address
-target_of (LcallAddr16 address) next = Some address
-target_of _ next = None
+target_of i next =
+    let t : Text = text_of i in led t.first next (led t.second next (led t.third next None))

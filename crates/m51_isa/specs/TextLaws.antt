@@ -1,12 +1,11 @@
 -- What the texts of the instruction table promise.
-use Rattle.std.specs.Prelude.{◌≡◌, ℕ, ◌%◌, List, Option, Some, None, IfSome, option_map}
+use Rattle.std.specs.Prelude.{◌≡◌, ℕ, List, Option, Some, None, IfSome, option_map}
 use Rattle.m51_isa.specs.declared.instr.Instr.{Instr}
 use Rattle.m51_isa.specs.declared.look.Look.{Look}
-use Rattle.m51_isa.specs.declared.slot.Field.{Field}
-use Rattle.m51_isa.specs.declared.slot.Field.TheVariants as field
 use Rattle.m51_isa.specs.declared.slot.FieldSlot.{FieldSlot}
 use Rattle.m51_isa.specs.declared.slot.Slot.{Slot}
 use Rattle.m51_isa.specs.declared.slot.Slot.TheVariants.{Imm, Plain, NotBit}
+pub use Rattle.m51_isa.specs.Operands.{kept}
 use Rattle.m51_isa.specs.Spelling.{look_of, Text, text, text_of}
 use Rattle.m51_isa.specs.Table.{length_of}
 use Rattle.m51_isa.specs.declared.generics.Jump.{Jump}
@@ -14,13 +13,6 @@ use Rattle.m51_isa.specs.declared.generics.Verb.{Verb}
 use Rattle.m51_isa.specs.Generic.{generic, jump_row}
 use Rattle.m51_isa.specs.Search.{search, row_for}
 use Rattle.m51_isa.specs.Filling.{with_numbers}
-
--- what a field holds of a number
-abbrev pub kept : Field → ℕ → ℕ
-kept field.Data16 n = n
-kept field.Addr16 n = n
-kept field.Addr11 n = n % 2048
-kept at n = n % 256
 
 -- a field with what it holds of another number
 abbrev pub refilled : FieldSlot → ℕ → FieldSlot

@@ -7,6 +7,7 @@ ghost use Rattle.m51_isa.specs.TextLaws.{TextsAreRows};
 /// No bytes begin with two rows.
 ///
 /// Source: family manual.
+#[tactic(auto, using(crate::proofs::Distinct::one_row))]
 pub fn rows_are_distinct()
     ensures { OneRow }
 {}
@@ -21,6 +22,7 @@ pub fn none_is_reserved()
 /// Bytes that begin with a row are decoded as its instruction.
 ///
 /// Source: own choice ("Decoding and encoding").
+#[tactic(auto, using(crate::proofs::Distinct::rows_decode))]
 pub fn rows_decode()
     ensures { RowsDecode }
 {}
@@ -35,6 +37,7 @@ pub fn rows_are_short()
 /// What is encoded is decoded again.
 ///
 /// Source: own choice ("Decoding and encoding").
+#[tactic(auto, using(crate::proofs::Codes::codes_decode))]
 pub fn codes_decode()
     ensures { CodesDecode }
 {}
@@ -46,12 +49,13 @@ pub fn fronts_agree()
     ensures { FrontsAgree }
 {}
 
-/// Each of the 111 rows is found by its own text, and with the numbers of the text, which its fields have room for,
-/// it is the row; so two rows that are written alike are one. What is found is written so, and what a generic jump
-/// means is written with the mnemonic of its form; no row is written as a generic jump. Numbers that are put
-/// into the fields of a row change only the numbers of its text, and not its length.
+/// Each row is found by its own text, and with the numbers of the text, which its fields have room for, it is the row;
+/// so two rows that are written alike are one. What is found is written so, and what a generic jump means is written
+/// with the mnemonic of its form; no row is written as a generic jump. Numbers that are put into the fields of a row
+/// change only the numbers of its text, and not its length.
 ///
 /// Source: family manual.
+#[tactic(auto, using(crate::proofs::RowsFilled::texts_are_rows))]
 pub fn texts_are_rows()
     ensures { TextsAreRows }
 {}
@@ -59,6 +63,7 @@ pub fn texts_are_rows()
 /// The mnemonic of each row is one that `is_mnemonic` knows; and each of those but the generic `CALL` is that of a row.
 ///
 /// Source: family manual.
+#[tactic(auto, using(crate::proofs::FoundMnemonics::mnemonics_are_of_rows))]
 pub fn mnemonics_are_of_rows()
     ensures { MnemonicsAreOfRows }
 {}

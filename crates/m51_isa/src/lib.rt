@@ -1,4 +1,4 @@
-//! The instruction table of the MCS-51: bytes, length, cycles, flow and text of its 111 forms, and the ways into it.
+//! The instruction table of the MCS-51: bytes, length, cycles, flow and text of each operand form, and the ways in.
 #![tactic(auto)]
 
 mod changes;

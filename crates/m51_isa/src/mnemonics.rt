@@ -4,25 +4,25 @@ ghost use Rattle.std.specs.List.{list_any};
 ghost use Rattle.std.specs.Str.{bytes_eq};
 ghost use Rattle.m51_isa.specs.Mnemonics.{is_mnemonic};
 
-// The mnemonics that begin with this letter.
+// The mnemonics that begin with this letter, in the order of the table.
 #[tactic(auto, unfolding(crate::specs::Mnemonics::is_mnemonic))]
 fn of_letter(first: u8) -> &'static [&'static [u8]]
     ensures { (rest : List ℕ) → list_any (λ w. bytes_eq w.now (first ∷ rest)) result.now ≡ is_mnemonic (first ∷ rest) }
 {
     match first {
-        b'A' => &[b"ACALL", b"ADD", b"ADDC", b"AJMP", b"ANL"],
-        b'C' => &[b"CALL", b"CJNE", b"CLR", b"CPL"],
-        b'D' => &[b"DA", b"DEC", b"DIV", b"DJNZ"],
+        b'A' => &[b"ANL", b"AJMP", b"ACALL", b"ADD", b"ADDC"],
+        b'C' => &[b"CALL", b"CPL", b"CLR", b"CJNE"],
+        b'D' => &[b"DEC", b"DIV", b"DA", b"DJNZ"],
         b'I' => &[b"INC"],
-        b'J' => &[b"JB", b"JBC", b"JC", b"JMP", b"JNB", b"JNC", b"JNZ", b"JZ"],
-        b'L' => &[b"LCALL", b"LJMP"],
-        b'M' => &[b"MOV", b"MOVC", b"MOVX", b"MUL"],
+        b'J' => &[b"JBC", b"JB", b"JNB", b"JC", b"JNC", b"JZ", b"JNZ", b"JMP"],
+        b'L' => &[b"LJMP", b"LCALL"],
+        b'M' => &[b"MOV", b"MOVX", b"MOVC", b"MUL"],
         b'N' => &[b"NOP"],
         b'O' => &[b"ORL"],
-        b'P' => &[b"POP", b"PUSH"],
-        b'R' => &[b"RET", b"RETI", b"RL", b"RLC", b"RR", b"RRC"],
-        b'S' => &[b"SETB", b"SJMP", b"SUBB", b"SWAP"],
-        b'X' => &[b"XCH", b"XCHD", b"XRL"],
+        b'P' => &[b"PUSH", b"POP"],
+        b'R' => &[b"RET", b"RETI", b"RR", b"RRC", b"RL", b"RLC"],
+        b'S' => &[b"SJMP", b"SETB", b"SUBB", b"SWAP"],
+        b'X' => &[b"XRL", b"XCH", b"XCHD"],
         _ => &[],
     }
 }

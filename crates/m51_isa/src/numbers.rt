@@ -1,6 +1,6 @@
 //! An instruction as its row and the numbers of its operands, and back.
 ghost use Rattle.std.specs.Prelude.{◌≡◌, ◌<◌, ◌%◌};
-ghost use Rattle.m51_isa.specs.Rows.{IsAtRow, IsFilledRow, IsLaid, columns_at, row_count};
+ghost use Rattle.m51_isa.specs.Rows.{IsAtRow, IsLaid, columns_at, filled_at, row_count};
 
 use crate::instr::Instr;
 use crate::operand::{Address11, Pointer, Register};
@@ -192,7 +192,7 @@ fn pointer(number: u16) -> Pointer
 #[inline(always)]
 pub(crate) fn instr_of(row: u8, a: u16, b: u16, c: u16) -> Instr
     requires { row < row_count }
-    ensures { IsFilledRow row a b c result }
+    ensures { result ≡ filled_at row a b c }
 {
     match row {
         0 => Instr::Nop,

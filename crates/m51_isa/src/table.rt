@@ -1,6 +1,7 @@
 //! The instruction table: a row for each instruction.
-ghost use Rattle.std.specs.Prelude.{◌≡◌, ◌<◌, ◌↔◌, IfSome, IsNone, length, map, slice_index};
+ghost use Rattle.std.specs.Prelude.{◌≡◌, ◌<◌, IfSome, is_none, length, map, slice_index};
 ghost use Rattle.m51_isa.specs.Rows.{column_of, columns_at, mnemonic_at, row_among, row_count, row_of_opcode};
+ghost use Rattle.m51_isa.specs.Table.{is_reserved};
 
 use crate::instr::Flow;
 use crate::instr::Flow::{Branch, Call, Next, Ret, Reti};
@@ -267,7 +268,7 @@ fn entry(column: &[u8; 16], high: u8) -> u8
 pub(crate) fn row_of_opcode(opcode: u8) -> Option<u8>
     ensures value { result ≡ row_of_opcode opcode }
     ensures below { IfSome result (λ row. row < row_count) }
-    ensures none { IsNone result ↔ (opcode ≡ 0xA5) }
+    ensures none { is_none result ≡ is_reserved opcode }
 {
     let column = column_of(opcode % 16);
     match entry(&COLUMNS[usize::from(column)], opcode / 16) {

@@ -3,6 +3,7 @@ use Rattle.m51_isa.specs.declared.instr.Instr.{Instr}
 use Rattle.m51_isa.specs.declared.table.Columns.{Columns}
 use Rattle.m51_isa.specs.Rows.{IsLaid, list_of}
 use Rattle.m51_isa.proofs.Codes.{padded_row}
+use Rattle.m51_isa.proofs.NumberedRows.{row_fits}
 use Rattle.m51_isa.proofs.encoding.encode.Goals as goal
 
 -- the columns that were read are those of the row
@@ -27,4 +28,6 @@ returns-clause-bytes c =
     ∙ (by_columns _ _ _ _ _ _ c.row_at.ensures.columns c.numbers_of-numbers.ensures.laid).bytes
 
 pub returns-clause-row : goal.returns-clause-row
-returns-clause-row c = padded_row _ _ (returns-clause-bytes c) c.numbers_of-numbers.ensures.is.fits
+returns-clause-row c =
+    padded_row _ _ (returns-clause-bytes c)
+    (row_fits _ _ _ _ _ c.numbers_of-numbers.ensures.row c.numbers_of-numbers.ensures.is)

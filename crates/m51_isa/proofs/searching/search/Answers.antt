@@ -1,4 +1,4 @@
-use Rattle.std.proofs.Common.{◌∙◌, rules}
+use Rattle.std.proofs.Common.{◌∙◌, Some, ap, rules}
 use Rattle.m51_isa.proofs.RowsSearched.{none_is_found, row_is_found}
 use Rattle.m51_isa.proofs.searching.search.Goals as goal
 
@@ -9,6 +9,7 @@ returns-in_err-row c =
 
 pub returns : goal.returns
 returns c =
-    row_is_found c.args.mnemonic.now c.args.a.now c.args.b.now c.args.c.now c.in_ok-row.row _ _ _ _ (search rules)
+    ap Some c.instr_of.ensures
+    ∙ row_is_found c.args.mnemonic.now c.args.a.now c.args.b.now c.args.c.now c.in_ok-row.row (search rules) _ _ _
     c.number_in.ensures.value c.number_in-2.ensures.value c.number_in-3.ensures.value
-    c.number_in.ensures.is c.number_in-2.ensures.is c.number_in-3.ensures.is c.instr_of.ensures
+    c.number_in.ensures.is c.number_in-2.ensures.is c.number_in-3.ensures.is

@@ -1,9 +1,11 @@
 -- What an acknowledgement keeps.
-use Rattle.std.proofs.Common.{◌≡◌, ◌≢◌, ◌≤◌, ℕ, Bool, true, false, cond, length, length-set, refl, ◌∙◌, arith, lit≤}
+use Rattle.std.proofs.Common.{◌≡◌, ℕ, Bool, true, false, length, length-set, refl, ◌∙◌, arith, lit≤}
+use Rattle.std.specs.Prelude.{not, ◌&&◌, ◌==◌, nat_le}
+use Rattle.std.proofs.lemmas.Bool.{cond_both}
+use Rattle.std.proofs.lemmas.Bool.Decides.{nat_tests}
 use Rattle.m51_flat.specs.declared.state.Cpu.{Cpu}
 use Rattle.m51_flat.specs.declared.state.Source.{Source}
 use Rattle.m51_flat.specs.declared.state.Source.TheVariants.{Ie0, Tf0, Ie1, Tf1, Serial, Timer2}
-use Rattle.m51_flat.specs.DeviceLaws.{KeepsTheRest}
 use Rattle.m51_flat.specs.Flags.{idl, ie0, ie1, it0, it1, tf0, tf1}
 use Rattle.m51_flat.specs.Laws.{HasParity}
 use Rattle.m51_flat.specs.Sfr.{acc, flag, has_register, latch, pcon, psw, sp, tcon, with_flag, with_latch}
@@ -19,46 +21,6 @@ pub record HasShape (old new : Cpu) : Type 0 where
   pub high : new.high ≡ old.high
   pub len : length new.regs ≡ length old.regs
 
-shape_itself : (cpu : Cpu) → HasShape cpu cpu
-shape_itself cpu = record { low = refl; high = refl; len = refl }
-
-shape_twice : (a b c : Cpu) → HasShape a b → HasShape b c → HasShape a c
-shape_twice a b c h k = record { low = k.low ∙ h.low; high = k.high ∙ h.high; len = k.len ∙ h.len }
-
-shape_or : (b : Bool) (old x y : Cpu) → HasShape old x → HasShape old y → HasShape old (cond b x y)
-shape_or true old x y h k = h
-shape_or false old x y h k = k
-
-flag_shape : (a k : ℕ) (b : Bool) (cpu : Cpu) → HasShape cpu (with_flag cpu a k b)
-unfolding with_flag with_latch
-flag_shape a k b cpu =
-    shape_or (has_register a) cpu _ cpu (record { low = refl; high = refl; len = length-set cpu.regs _ _ })
-    (shape_itself cpu)
-
-edge_shape : (k edge : ℕ) (cpu : Cpu) → HasShape cpu (edge_cleared k edge cpu)
-edge_shape k edge cpu = shape_or (flag cpu tcon edge) cpu _ cpu (flag_shape tcon k false cpu) (shape_itself cpu)
-
-cleared_shape : (s : Source) (cpu : Cpu) → HasShape cpu (cleared s cpu)
-unfolding cleared
-cleared_shape Ie0 cpu = edge_shape ie0 it0 cpu
-cleared_shape Tf0 cpu = flag_shape tcon tf0 false cpu
-cleared_shape Ie1 cpu = edge_shape ie1 it1 cpu
-cleared_shape Tf1 cpu = flag_shape tcon tf1 false cpu
-cleared_shape Serial cpu = shape_itself cpu
-cleared_shape Timer2 cpu = shape_itself cpu
-
--- before its level is entered, an acknowledgement keeps them
-pub shape_before : (s : Source) (cpu : Cpu) → HasShape cpu (with_flag (cleared s cpu) pcon idl false)
-shape_before s cpu = shape_twice cpu (cleared s cpu) _ (cleared_shape s cpu) (flag_shape pcon idl false (cleared s cpu))
-
-length_entered : (l : Level) (cpu : Cpu) → length (entered l cpu).regs ≡ length cpu.regs
-length_entered Low cpu = refl
-length_entered High cpu = refl
-
--- and the number of registers to its end
-pub length_acknowledged : (s : Source) (cpu : Cpu) → length (acknowledged s cpu).regs ≡ length cpu.regs
-length_acknowledged s cpu = length_entered (level_of cpu s) _ ∙ (shape_before s cpu).len
-
 -- of 128 registers, SP and the parity stay, and so does PC
 pub record IsKept (old new : Cpu) : Type 0 where
   pub pc : new.pc ≡ old.pc
@@ -66,59 +28,81 @@ pub record IsKept (old new : Cpu) : Type 0 where
   pub len : length new.regs ≡ 128
   pub parity : HasParity old → HasParity new
 
-kept_itself : (cpu : Cpu) → length cpu.regs ≡ 128 → IsKept cpu cpu
-kept_itself cpu len = record { pc = refl; stack = refl; len = len; parity = λ h. h }
+record Keeps (old new : Cpu) : Type 0 where
+  shape : HasShape old new
+  kept : length old.regs ≡ 128 → IsKept old new
 
-kept_twice : (a b c : Cpu) → IsKept a b → IsKept b c → IsKept a c
-kept_twice a b c h k = record {
-  pc = k.pc ∙ h.pc;
-  stack = k.stack ∙ h.stack;
-  len = k.len;
-  parity = λ p. k.parity (h.parity p);
+itself : (cpu : Cpu) → Keeps cpu cpu
+itself cpu = record {
+  shape = record { low = refl; high = refl; len = refl };
+  kept = λ n. record { pc = refl; stack = refl; len = n; parity = λ h. h };
 }
 
-written_or_not : (b : Bool) (old x y : Cpu) → IsKept old x → IsKept old y → IsKept old (cond b x y)
-written_or_not true old x y h k = h
-written_or_not false old x y h k = k
-
--- a register that is none of PSW, ACC and SP
-flag_kept : (a k : ℕ) (b : Bool) (cpu : Cpu) → length cpu.regs ≡ 128 → 128 ≤ a → a ≢ psw → a ≢ acc → sp ≢ a
-    → IsKept cpu (with_flag cpu a k b)
-flag_kept a k b cpu len low p q r =
-    let rest : KeepsTheRest a cpu (with_flag cpu a k b) = flags_keep_the_rest cpu a k b len low in
+twice : {a b c : Cpu} → Keeps a b → Keeps b c → Keeps a c
+twice h k =
+    let one = h.shape in
+    let two = k.shape in
     record {
-      pc = rest.control.pc;
-      stack = rest.others sp (lit≤ tt) r;
-      len = rest.registers;
-      parity = rest.parity p q;
+      shape = record { low = two.low ∙ one.low; high = two.high ∙ one.high; len = two.len ∙ one.len };
+      kept = λ n.
+          let first = h.kept n in
+          let second = k.kept first.len in
+          record {
+            pc = second.pc ∙ first.pc;
+            stack = second.stack ∙ first.stack;
+            len = second.len;
+            parity = λ p. second.parity (first.parity p);
+          };
     }
 
-tcon_kept : (k : ℕ) (b : Bool) (cpu : Cpu) → length cpu.regs ≡ 128 → IsKept cpu (with_flag cpu tcon k b)
-tcon_kept k b cpu len = flag_kept tcon k b cpu len (lit≤ tt) (λ e. omega (arith, e)) (λ e. omega (arith, e))
-    (λ e. omega (arith, e))
+flag_shape : (a k : ℕ) (b : Bool) (cpu : Cpu) → HasShape cpu (with_flag cpu a k b)
+unfolding with_flag with_latch
+flag_shape a k b cpu =
+    cond_both (has_register a) _ cpu (HasShape cpu)
+    (λ e. record { low = refl; high = refl; len = length-set cpu.regs _ _ }) (λ e. (itself cpu).shape)
 
-pcon_kept : (k : ℕ) (b : Bool) (cpu : Cpu) → length cpu.regs ≡ 128 → IsKept cpu (with_flag cpu pcon k b)
-pcon_kept k b cpu len = flag_kept pcon k b cpu len (lit≤ tt) (λ e. omega (arith, e)) (λ e. omega (arith, e))
-    (λ e. omega (arith, e))
+-- a register that is none of PSW, ACC and SP
+flag_keeps : (a k : ℕ) (b : Bool) (cpu : Cpu)
+    → (nat_le 128 a && not (a == psw) && not (a == acc) && not (a == sp)) ≡ true → Keeps cpu (with_flag cpu a k b)
+flag_keeps a k b cpu h = record {
+  shape = flag_shape a k b cpu;
+  kept = λ len.
+      let rest = flags_keep_the_rest cpu a k b len (grind (arith, nat_tests, h)) in
+      record {
+        pc = rest.control.pc;
+        stack = rest.others sp (lit≤ tt) (λ e. grind (arith, nat_tests, h, e));
+        len = rest.registers;
+        parity = rest.parity (λ e. grind (arith, nat_tests, h, e)) (λ e. grind (arith, nat_tests, h, e));
+      };
+}
 
-edge_kept : (k edge : ℕ) (cpu : Cpu) → length cpu.regs ≡ 128 → IsKept cpu (edge_cleared k edge cpu)
-edge_kept k edge cpu len =
-    written_or_not (flag cpu tcon edge) cpu _ cpu (tcon_kept k false cpu len) (kept_itself cpu len)
+edge_keeps : (k edge : ℕ) (cpu : Cpu) → Keeps cpu (edge_cleared k edge cpu)
+edge_keeps k edge cpu =
+    cond_both (flag cpu tcon edge) _ cpu (Keeps cpu) (λ e. flag_keeps tcon k false cpu refl) (λ e. itself cpu)
 
-cleared_kept : (s : Source) (cpu : Cpu) → length cpu.regs ≡ 128 → IsKept cpu (cleared s cpu)
+cleared_keeps : (s : Source) (cpu : Cpu) → Keeps cpu (cleared s cpu)
 unfolding cleared
-cleared_kept Ie0 cpu len = edge_kept ie0 it0 cpu len
-cleared_kept Tf0 cpu len = tcon_kept tf0 false cpu len
-cleared_kept Ie1 cpu len = edge_kept ie1 it1 cpu len
-cleared_kept Tf1 cpu len = tcon_kept tf1 false cpu len
-cleared_kept Serial cpu len = kept_itself cpu len
-cleared_kept Timer2 cpu len = kept_itself cpu len
+cleared_keeps Ie0 cpu = edge_keeps ie0 it0 cpu
+cleared_keeps Tf0 cpu = flag_keeps tcon tf0 false cpu refl
+cleared_keeps Ie1 cpu = edge_keeps ie1 it1 cpu
+cleared_keeps Tf1 cpu = flag_keeps tcon tf1 false cpu refl
+cleared_keeps Serial cpu = itself cpu
+cleared_keeps Timer2 cpu = itself cpu
 
--- before its level is entered, an acknowledgement keeps them all
-before_entry : (s : Source) (cpu : Cpu) → length cpu.regs ≡ 128 → IsKept cpu (with_flag (cleared s cpu) pcon idl false)
-before_entry s cpu len =
-    let one = cleared_kept s cpu len in
-    kept_twice cpu (cleared s cpu) _ one (pcon_kept idl false (cleared s cpu) one.len)
+-- before its level is entered, an acknowledgement keeps them
+before_entry : (s : Source) (cpu : Cpu) → Keeps cpu (with_flag (cleared s cpu) pcon idl false)
+before_entry s cpu = twice (cleared_keeps s cpu) (flag_keeps pcon idl false (cleared s cpu) refl)
+
+pub shape_before : (s : Source) (cpu : Cpu) → HasShape cpu (with_flag (cleared s cpu) pcon idl false)
+shape_before s cpu = (before_entry s cpu).shape
+
+-- and the number of registers to its end
+length_entered : (l : Level) (cpu : Cpu) → length (entered l cpu).regs ≡ length cpu.regs
+length_entered Low cpu = refl
+length_entered High cpu = refl
+
+pub length_acknowledged : (s : Source) (cpu : Cpu) → length (acknowledged s cpu).regs ≡ length cpu.regs
+length_acknowledged s cpu = length_entered (level_of cpu s) _ ∙ (shape_before s cpu).len
 
 entered_kept : (l : Level) (old cpu : Cpu) (held : Bool) → IsKept old cpu
     → IsKept old (record (entered l cpu) { held = held })
@@ -126,7 +110,7 @@ unfolding latch
 entered_kept Low old cpu held k = record { pc = k.pc; stack = k.stack; len = k.len; parity = k.parity }
 entered_kept High old cpu held k = record { pc = k.pc; stack = k.stack; len = k.len; parity = k.parity }
 
--- so does the whole of it
+-- the whole of it keeps PC, SP and the parity
 pub acknowledged_kept : (s : Source) (cpu : Cpu) → length cpu.regs ≡ 128
     → IsKept cpu (record (acknowledged s cpu) { held = false })
-acknowledged_kept s cpu len = entered_kept (level_of cpu s) cpu _ false (before_entry s cpu len)
+acknowledged_kept s cpu len = entered_kept (level_of cpu s) cpu _ false ((before_entry s cpu).kept len)

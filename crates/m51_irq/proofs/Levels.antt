@@ -1,5 +1,5 @@
 -- The levels in progress, after an interrupt is taken and after a return.
-use Rattle.std.proofs.Common.{◌≡◌, ◌-◌, Bool, true, false, not, ◌&&◌, [], ◌∷◌, ◌++◌, length, take, refl, sym, ap, ◌∙◌}
+use Rattle.std.proofs.Common.{◌≡◌, ◌-◌, Bool, true, false, not, ◌&&◌, [], ◌∷◌, ◌++◌, length, take, sym, ◌∙◌, arith}
 use Rattle.m51_flat.specs.declared.state.Cpu.{Cpu}
 use Rattle.m51_flat.specs.Flags.{idl}
 use Rattle.m51_flat.specs.Sfr.{pcon, with_flag}
@@ -18,17 +18,11 @@ allowed_over low high Low = not low && not high
 allowed_over low high High = not high
 
 pub same_allowed : (cpu : Cpu) (l : Level) → is_allowed cpu l ≡ allowed_over cpu.low cpu.high l
-same_allowed cpu Low = refl
-same_allowed cpu High = refl
+same_allowed cpu l = grind arith
 
 one_more : (l : Level) (low high : Bool) (cpu : Cpu) → cpu.low ≡ low → cpu.high ≡ high → allowed_over low high l ≡ true
     → levels_of (entered l cpu) ≡ levels low high ++ l ∷ []
-one_more Low false false cpu p q h = ap (levels true) q
-one_more Low false true cpu p q h = absurd (cc)
-one_more Low true high cpu p q h = absurd (cc)
-one_more High low true cpu p q h = absurd (cc)
-one_more High false false cpu p q h = ap (λ l. levels l true) p
-one_more High true false cpu p q h = ap (λ l. levels l true) p
+one_more l low high cpu p q h = grind (arith, p, q, h)
 
 pub levels_nested : LevelsAreNested
 levels_nested = λ cpu s h.
@@ -38,10 +32,7 @@ levels_nested = λ cpu s h.
     (sym (same_allowed cpu (level_of cpu s)) ∙ w.ready.allowed)
 
 top_ends : (low high : Bool) → levels (high && low) false ≡ take (length (levels low high) - 1) (levels low high)
-top_ends true true = refl
-top_ends true false = refl
-top_ends false true = refl
-top_ends false false = refl
+top_ends low high = grind arith
 
 pub top_level_ends : TopLevelEnds
 top_level_ends = λ cpu. top_ends cpu.low cpu.high

@@ -1,15 +1,9 @@
 pub mod Counts
-pub mod Frames
 pub mod Kept
 pub mod Lines
 pub mod Rates
-pub mod Bounds
-pub mod Told
-pub mod Walk
-pub mod Spared
 pub mod Running
 pub mod InTime
-pub mod Cycles
 pub mod Resting
 pub mod CountsOn
-pub mod Counted
+pub mod Acknowledged

@@ -1,19 +1,114 @@
--- Sending over many machine cycles.
-use Rattle.std.proofs.Common.{◌≡◌, ◌≢◌, ℕ, suc, ◌+◌, ◌-◌, ◌≤◌, Bool, true, cond, List, [], ◌∷◌, length, refl, sym}
-use Rattle.std.proofs.Common.{arith, subst, zero-add}
-use Rattle.std.specs.Prelude.{Option, Some, None, IfSome, IsSome, ◌==◌, nat_le}
+-- Sending over many machine cycles: its numbers stay small, and how far apart bytes are.
+use Rattle.std.proofs.Common.{ℕ, zero, suc, ◌+◌, ◌≤◌, Bool, true, false, cond, List, arith, lit≤, lit<, ◌≡◌, ◌≢◌, ◌-◌}
+use Rattle.std.proofs.Common.{[], ◌∷◌, length, refl, sym, subst, zero-add}
+use Rattle.std.specs.Prelude.{◌==◌, nat_le, Option, Some, None, IfSome, IsSome}
 use Rattle.std.proofs.lemmas.Bool.{cond_both, eqb-true, eqb-false}
+use Rattle.std.proofs.lemmas.Bool.Decides.{nat_tests}
+use Rattle.std.proofs.Math.Nat.{le_trans}
 use Rattle.std.proofs.lemmas.Grind.{common_steps}
+use Rattle.m51_alu.specs.Arithmetic.{bit_of}
 use Rattle.m51_flat.specs.declared.state.Cpu.{Cpu}
-use Rattle.m51_flat.specs.Sfr.{flag, scon}
-use Rattle.m51_flat.specs.Flags.{tb8}
+use Rattle.m51_flat.specs.declared.state.Pins.{Pins}
+use Rattle.m51_flat.specs.Sfr.{flag, scon, th2, tl2}
+use Rattle.m51_flat.specs.Flags.{sm0, sm1, tb8}
+use Rattle.m51_timers_uart.specs.declared.levels.Input.TheVariants.{T2}
+use Rattle.m51_timers_uart.specs.declared.levels.Levels.{Levels}
 use Rattle.m51_timers_uart.specs.declared.periph.Periph.{Periph}
+use Rattle.m51_timers_uart.specs.declared.receiving.Frame.{Frame}
 use Rattle.m51_timers_uart.specs.declared.periph.Sent.{Sent}
-use Rattle.m51_timers_uart.specs.Sending.{begun, bit_time, bit_times, clocked, sent_at_end, growth, has_ninth, moved}
-use Rattle.m51_timers_uart.specs.Sending.{sending_ticked, serial_mode}
-use Rattle.m51_timers_uart.specs.LineLaws.{AreQuiet, OneByteIsSent, Cycle, HasNinth, NinthBitsAreApart, OneBitPasses}
-use Rattle.m51_timers_uart.specs.LineLaws.{PassesOneBit, after_cycles, cycled, written_to}
+use Rattle.m51_timers_uart.specs.Levels.{falls}
+use Rattle.m51_timers_uart.specs.LineLaws.{IsSerialBounded, LineIsBounded, AreQuiet, OneByteIsSent, Cycle, HasNinth}
+use Rattle.m51_timers_uart.specs.LineLaws.{NinthBitsAreApart, OneBitPasses, PassesOneBit, after_cycles, cycled}
+use Rattle.m51_timers_uart.specs.LineLaws.{written_to}
+use Rattle.m51_timers_uart.specs.Timer2.{Overflowed, counted_times, once_more, reload2, times2}
+use Rattle.m51_timers_uart.specs.Timers.{bytes_at}
+use Rattle.m51_timers_uart.specs.Counting.{sixteen_counted}
+use Rattle.m51_timers_uart.specs.Sending.{Ticked, begun, bit_time, clocked, growth, moved, sending_ticked, serial_mode}
+use Rattle.m51_timers_uart.specs.Sending.{bit_times, sent_at_end, has_ninth}
 use Rattle.m51_timers_uart.specs.Tick.{ticked}
+
+-- a bit is 0 or 1
+pub bit_most : (b : Bool) → bit_of b ≤ 1
+bit_most true = lit≤ tt
+bit_most false = lit≤ tt
+
+more_most : (o : Overflowed) (n : ℕ) → o.overflows ≤ n → (once_more o).overflows ≤ suc n
+unfolding once_more
+more_most o n h =
+    let one = bit_most (sixteen_counted (reload2 o.cpu) (bytes_at th2 tl2 o.cpu)).overflow in omega (arith, h, one)
+
+counts_most : (n : ℕ) (cpu : Cpu) → (counted_times n cpu).overflows ≤ n
+counts_most zero cpu = lit≤ tt
+counts_most (suc n) cpu = more_most (counted_times n cpu) n (counts_most n cpu)
+
+times_most : (levels : Levels) (cpu : Cpu) → times2 levels cpu ≤ 6
+unfolding times2
+times_most levels cpu = grind (arith, bit_most (falls levels T2))
+
+growth_most : (cpu : Cpu) (mode : ℕ) (one : Bool) (two : ℕ) → two ≤ 6 → growth cpu mode one two ≤ 12
+unfolding growth
+growth_most cpu mode one two h = grind (arith, h, bit_most one)
+
+time_bounds : (cpu : Cpu) (mode : ℕ) → (16 ≤ bit_time cpu mode) × (bit_time cpu mode ≤ 64)
+unfolding bit_time
+time_bounds cpu mode = (grind arith, grind arith)
+
+clock_bounds : (grown takes : ℕ) (p : Periph) → IsSerialBounded p → grown ≤ 12 → 16 ≤ takes → takes ≤ 64
+    → IsSerialBounded (clocked grown takes p)
+unfolding clocked
+clock_bounds grown takes p b g l m =
+    let left = b.left in
+    let count = b.count in
+    cond_both (nat_le takes (p.count + grown)) _ _ IsSerialBounded
+    (λ e. record { left = omega (arith, left); mode = b.mode; count = omega (arith, count, g, l) })
+    (λ e. record { left = b.left; mode = b.mode; count = grind (arith, nat_tests, m, e) })
+
+move_bounds : (cpu : Cpu) (one : Bool) (two : ℕ) (p : Periph) → two ≤ 6 → IsSerialBounded p
+    → IsSerialBounded (moved cpu one two p)
+unfolding moved
+move_bounds cpu one two p h b =
+    let left = b.left in
+    let time = time_bounds cpu p.mode in
+    cond_both (p.mode == 0) _ _ IsSerialBounded
+    (λ e. record { left = omega (arith, left); mode = b.mode; count = b.count })
+    (λ e. clock_bounds _ _ p b (growth_most cpu p.mode one two h) time.0 time.1)
+
+-- what is kept besides the registers after a tick
+either_bounds : (t : Bool) (x y : Ticked) → IsSerialBounded x.periph → IsSerialBounded y.periph
+    → IsSerialBounded (cond t x y).periph
+either_bounds t x y p q = cond_both t x y (λ (r : Ticked). IsSerialBounded r.periph) (λ e. p) (λ e. q)
+
+line_bounds : (one : Bool) (two : ℕ) (cpu : Cpu) (p : Periph) → two ≤ 6 → IsSerialBounded p
+    → IsSerialBounded (sending_ticked one two cpu p).periph
+unfolding sending_ticked
+line_bounds one two cpu p h b =
+    let m = move_bounds cpu one two p h b in
+    either_bounds (p.left == 0) _ _ b (either_bounds ((moved cpu one two p).left == 0) _ _ m m)
+
+mode_most : (cpu : Cpu) → serial_mode cpu ≤ 3
+unfolding serial_mode
+mode_most cpu = let a = bit_most (flag cpu scon sm0) in let b = bit_most (flag cpu scon sm1) in omega (arith, a, b)
+
+begin_bounds : (cpu : Cpu) (byte : ℕ) (p : Periph) → IsSerialBounded (begun cpu byte p)
+unfolding begun
+begin_bounds cpu byte p = record { left = grind arith; mode = mode_most cpu; count = lit< tt }
+
+six : (levels : Levels) (cpu : Cpu) → (counted_times (times2 levels cpu) cpu).overflows ≤ 6
+six levels cpu = le_trans (counts_most (times2 levels cpu) cpu) (times_most levels cpu)
+
+tick_bounds : (cpu : Cpu) (ext : Pins) (fs : List Frame) (p : Periph) → IsSerialBounded p
+    → IsSerialBounded (ticked cpu ext fs p).periph
+unfolding ticked
+tick_bounds cpu ext fs p b =
+    let q = line_bounds _ _ _ p (six _ _) b in
+    record { left = q.left; mode = q.mode; count = q.count }
+
+pub line_is_bounded : LineIsBounded
+line_is_bounded = record {
+  reset = λ ext. record { left = lit≤ tt; mode = lit≤ tt; count = lit< tt };
+  begin = begin_bounds;
+  tick = tick_bounds;
+}
 
 -- what a tick does to the byte on its way
 record Moves (p q : Periph) : Type 0 where
@@ -23,42 +118,26 @@ record Moves (p q : Periph) : Type 0 where
   byte : q.byte ≡ p.byte
   ninth : q.ninth ≡ p.ninth
 
-falls_by_one : (n : ℕ) → n ≤ n - 1 + 1
-falls_by_one n = omega arith
+-- one bit time passes, or none
+module _ (p : Periph) where
+  one_passes : (n : ℕ) → Moves p (record p { left = p.left - 1; count = n })
+  one_passes n = record { least = omega arith; most = omega arith; mode = refl; byte = refl; ninth = refl }
 
-stays : (n : ℕ) → n ≤ n + 1
-stays n = omega arith
+  none_passes : (n : ℕ) → Moves p (record p { count = n })
+  none_passes n = record { least = omega arith; most = omega arith; mode = refl; byte = refl; ninth = refl }
 
-one_less : (n : ℕ) → n - 1 ≤ n
-one_less n = omega arith
-
-no_more : (n : ℕ) → n ≤ n
-no_more n = omega arith
-
-clock_moves : (grown takes : ℕ) (p : Periph) → Moves p (clocked grown takes p)
-unfolding clocked
-clock_moves grown takes p =
-    cond_both (nat_le takes (p.count + grown)) _ _ (Moves p)
-    (λ e. record { least = falls_by_one p.left; most = one_less p.left; mode = refl; byte = refl; ninth = refl })
-    (λ e. record { least = stays p.left; most = no_more p.left; mode = refl; byte = refl; ninth = refl })
-
-moves : (cpu : Cpu) (one : Bool) (two : ℕ) (p : Periph) → Moves p (moved cpu one two p)
-unfolding moved
-moves cpu one two p =
-    cond_both (p.mode == 0) _ _ (Moves p)
-    (λ e. record { least = falls_by_one p.left; most = one_less p.left; mode = refl; byte = refl; ninth = refl })
-    (λ e. clock_moves (growth cpu p.mode one two) (bit_time cpu p.mode) p)
-
-same_byte : (b c : ℕ) (m n : Option Bool) → b ≡ c → m ≡ n
-    → ◌≡◌ {A = Sent} (record { byte = b; ninth = m }) (record { byte = c; ninth = n })
-same_byte b c m n e f = λ i. record { byte = e i; ninth = f i }
-
-last : (n m : ℕ) → n ≢ 0 → n ≤ m + 1 → m ≡ 0 → n ≡ 1
-last n m ne h e = omega (arith, ne, h, e)
+  moves : (cpu : Cpu) (one : Bool) (two : ℕ) → Moves p (moved cpu one two p)
+  unfolding moved clocked
+  moves cpu one two =
+      cond_both (p.mode == 0) _ _ (Moves p) (λ e. one_passes p.count)
+      (λ e. cond_both (nat_le (bit_time cpu p.mode) (p.count + growth cpu p.mode one two)) _ _ (Moves p)
+      (λ e. one_passes _) (λ e. none_passes _))
 
 -- a byte on its way that passed its last bit time is sent
 end_passes : (cpu : Cpu) (p q : Periph) → p.left ≢ 0 → Moves p q → PassesOneBit p (sent_at_end cpu q)
 end_passes cpu p q ne m =
+    let how : (q.left == 0) ≡ true → (p.left ≡ 1) × (q.left ≡ 0) =
+    λ e. let none = eqb-true q.left 0 e in let l = m.least in (omega (arith, ne, l, none), none) in
     cond_both (q.left == 0) _ _ (PassesOneBit p)
     (λ e. record {
       least = m.least;
@@ -66,11 +145,7 @@ end_passes cpu p q ne m =
       mode = m.mode;
       byte = m.byte;
       ninth = m.ninth;
-      sent = (
-        same_byte q.byte p.byte q.ninth p.ninth m.byte m.ninth,
-        last p.left q.left ne m.least (eqb-true q.left 0 e),
-        eqb-true q.left 0 e,
-      );
+      sent = (rw (m.byte, m.ninth) refl, (how e).0, (how e).1);
     })
     (λ e. record { least = m.least; most = m.most; mode = m.mode; byte = m.byte; ninth = m.ninth; sent = tt })
 
@@ -78,8 +153,8 @@ line_passes : (one : Bool) (two : ℕ) (cpu : Cpu) (p : Periph) → PassesOneBit
 unfolding sending_ticked
 line_passes one two cpu p =
     cond_both (p.left == 0) _ _ (PassesOneBit p)
-    (λ e. record { least = stays p.left; most = no_more p.left; mode = refl; byte = refl; ninth = refl; sent = tt })
-    (λ e. end_passes cpu p (moved cpu one two p) (eqb-false p.left 0 e) (moves cpu one two p))
+    (λ e. record { least = omega arith; most = omega arith; mode = refl; byte = refl; ninth = refl; sent = tt })
+    (λ e. end_passes cpu p (moved cpu one two p) (eqb-false p.left 0 e) (moves p cpu one two))
 
 pub one_bit_passes : OneBitPasses
 unfolding ticked
@@ -109,29 +184,20 @@ write_ten : (k : ℕ) (cpu : Cpu) (o : Option ℕ) (p : Periph) → AreTen k p �
 write_ten k cpu None p g = g
 write_ten k cpu (Some byte) p g = begin_ten k cpu byte p
 
-tick_ten : (k : ℕ) (p q : Periph) → AreTen k p → p.left ≤ q.left + 1 → q.left ≤ p.left → q.ninth ≡ p.ninth
-    → AreTen (k + 1) q
-tick_ten k p q g least most same i ne =
-    let was : p.left ≢ 0 = λ e. ne (omega (arith, e, most)) in
-    let h : 10 ≤ p.left + k = g (subst (λ o. IsSome o) same i) was in
-    omega (arith, h, least)
-
 cycle_ten : (k : ℕ) (c : Cycle) (p : Periph) → AreTen k p → AreTen (k + 1) (cycled c p).periph
-cycle_ten k c p g =
+cycle_ten k c p g i ne =
     let q = written_to c.cpu c.written p in
     let t = one_bit_passes c.cpu c.ext c.frames q in
-    tick_ten k q (cycled c p).periph (write_ten k c.cpu c.written p g) t.least t.most t.ninth
-
-nothing_more : (k n : ℕ) → n ≡ k + 0 → k ≡ n
-nothing_more k n e = omega (arith, e)
-
-one_more : (k n m : ℕ) → n ≡ k + suc m → n ≡ k + 1 + m
-one_more k n m e = omega (arith, e)
+    let least = t.least in
+    let most = t.most in
+    let h : 10 ≤ q.left + k =
+    write_ten k c.cpu c.written p g (subst (λ o. IsSome o) t.ninth i) (λ e. ne (omega (arith, e, most))) in
+    omega (arith, h, least)
 
 cycles_ten : (k n : ℕ) (cs : List Cycle) (p : Periph) → n ≡ k + length cs → AreTen k p → AreTen n (after_cycles cs p)
-cycles_ten k n [] p e g = subst (λ m. AreTen m p) (nothing_more k n e) g
+cycles_ten k n [] p e g = let same : k ≡ n = omega (arith, e) in subst (λ m. AreTen m p) same g
 cycles_ten k n (c ∷ cs) p e g =
-    cycles_ten (k + 1) n cs (cycled c p).periph (one_more k n (length cs) e) (cycle_ten k c p g)
+    cycles_ten (k + 1) n cs (cycled c p).periph (omega (arith, e)) (cycle_ten k c p g)
 
 -- the facts of a byte that was sent
 sent_last : (o : Option Sent) (p q : Periph) → IsSome o
@@ -145,12 +211,6 @@ sent_ninth : (o : Option Sent) (p q : Periph) → HasNinth o
 sent_ninth (Some s) p q h i = (subst (λ (s : Sent). IsSome s.ninth) i.0 h.1, i.1)
 sent_ninth None p q h i = let n = h.0 in absurd (cc n)
 
-nine : (left n : ℕ) → left ≡ 1 → 10 ≤ left + n → 9 ≤ n
-nine left n e h = omega (arith, e, h)
-
-not_none : (left : ℕ) → left ≡ 1 → left ≢ 0
-not_none left e z = omega (arith, e, z)
-
 pub ninth_bits_are_apart : NinthBitsAreApart
 ninth_bits_are_apart first last cs p began sent_at_end =
     let start = (cycled first p).periph in
@@ -163,21 +223,18 @@ ninth_bits_are_apart first last cs p began sent_at_end =
     sent_at_end two.sent in
     let run = cycles_ten 0 (length cs) cs start (sym (zero-add (length cs))) (λ i ne. absurd (ne none)) in
     let g = write_ten (length cs) last.cpu last.written (after_cycles cs start) run in
-    nine q.left (length cs) facts.1 (g facts.0 (not_none q.left facts.1))
+    let h : 10 ≤ q.left + length cs = g facts.0 (λ e. omega (arith, facts.1, e)) in omega (arith, facts.1, h)
 
 -- where no byte is on its way and none begins, none is sent
 quiet_write : (cpu : Cpu) (o : Option ℕ) (p : Periph) → o ≡ None → p.left ≡ 0 → (written_to cpu o p).left ≡ 0
 quiet_write cpu None p e h = h
 quiet_write cpu (Some byte) p e h = absurd (cc e)
 
-none_left : (n m : ℕ) → n ≤ m → m ≡ 0 → n ≡ 0
-none_left n m h e = omega (arith, h, e)
-
 quiet_cycle : (c : Cycle) (p : Periph) → c.written ≡ None → p.left ≡ 0 → (cycled c p).periph.left ≡ 0
 quiet_cycle c p e h =
     let q = written_to c.cpu c.written p in
     let t = one_bit_passes c.cpu c.ext c.frames q in
-    none_left (cycled c p).periph.left q.left t.most (quiet_write c.cpu c.written p e h)
+    let most = t.most in let none = quiet_write c.cpu c.written p e h in omega (arith, most, none)
 
 quiet_cycles : (cs : List Cycle) (p : Periph) → AreQuiet cs → p.left ≡ 0 → (after_cycles cs p).left ≡ 0
 quiet_cycles [] p q h = h
@@ -185,7 +242,7 @@ quiet_cycles (c ∷ cs) p q h = quiet_cycles cs (cycled c p).periph q.1 (quiet_c
 
 sent_none : (o : Option Sent) (p q : Periph) → p.left ≡ 0
     → IfSome o (λ s. (s ≡ record { byte = p.byte; ninth = p.ninth }) × (p.left ≡ 1) × (q.left ≡ 0)) → o ≡ None
-sent_none (Some s) p q h i = absurd (not_none p.left i.1 h)
+sent_none (Some s) p q h i = absurd (omega (arith, i.1, h))
 sent_none None p q h i = refl
 
 pub one_byte_is_sent : OneByteIsSent

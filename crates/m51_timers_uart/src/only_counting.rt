@@ -202,7 +202,7 @@ fn pass_timer2(cpu: &mut Cpu, levels: &Levels) -> u8
 }
 
 /// Timers 0 and 1 in a cycle, where each counts each cycle or does not run: whether timer 1 overflowed.
-#[tactic(auto, using(crate::proofs::Counted::still0, crate::proofs::Counted::still1, crate::proofs::Counted::th0_none))]
+#[tactic(auto, using(crate::proofs::CountsOn::kept0, crate::proofs::CountsOn::kept1, crate::proofs::CountsOn::no_th0))]
 #[inline(always)]
 fn pass_timers(cpu: &mut Cpu, levels: &Levels) -> bool
     requires registers { length cpu.old.regs ≡ 128 }

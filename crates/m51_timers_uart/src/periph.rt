@@ -177,7 +177,7 @@ impl Periph {
     /// it; they count after it too. It answers the byte that was sent.
     ///
     /// Source: own choice ("Cycles in which nothing happens").
-    #[tactic(auto, using(crate::proofs::Counted::counting_tick))]
+    #[tactic(auto, using(crate::proofs::CountsOn::counting_tick))]
     #[inline(always)]
     pub fn count_cycle(&mut self, cpu: &mut Cpu, ext: &Pins) -> Option<Sent>
         requires registers { length cpu.old.regs ≡ 128 }

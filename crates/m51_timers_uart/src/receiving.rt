@@ -67,7 +67,7 @@ fn receive(cpu: &mut Cpu, frames: &[Frame])
 }
 
 /// The frames of a cycle, and then more of them.
-#[tactic(auto, using(crate::proofs::Frames::received_both))]
+#[tactic(auto, using(crate::proofs::Kept::received_both))]
 pub(crate) fn receive_both(cpu: &mut Cpu, frames: &[Frame], more: &[Frame])
     ensures { cpu.new ≡ received (frames.now ++ more.now) cpu.old }
 {

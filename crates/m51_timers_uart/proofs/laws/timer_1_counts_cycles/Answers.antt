@@ -1,4 +1,4 @@
-use Rattle.m51_timers_uart.proofs.Cycles as lemmas
+use Rattle.m51_timers_uart.proofs.InTime as lemmas
 use Rattle.m51_timers_uart.proofs.laws.timer_1_counts_cycles.Goals as goal
 
 pub returns : goal.returns

@@ -1,5 +1,5 @@
 use Rattle.std.proofs.Common.{ap}
-use Rattle.m51_timers_uart.proofs.Counted.{counts_on, with_levels}
+use Rattle.m51_timers_uart.proofs.CountsOn.{counts_on, with_levels}
 use Rattle.m51_timers_uart.proofs.periph.Periph.count_cycle.Goals as goal
 
 pub returns-clause-counting : goal.returns-clause-counting

@@ -1,7 +1,8 @@
--- A board after a reset.
-use Rattle.m51_sim.proofs.Common.{◌≡◌, ℕ, List, [], Option, Some, None, refl, ap, subst, LayoutParts, IsSound, Cpu}
+-- A board after a reset, and what a run from there reports.
+use Rattle.m51_sim.proofs.Common.{◌≡◌, ℕ, List, [], Option, Some, None, refl, subst, LayoutParts, IsSound, Cpu}
 use Rattle.m51_sim.proofs.Common.{Script, unit_found, AreActivations, Monitored, ChipState, IsInOrder, held_memory}
-use Rattle.m51_sim.proofs.Common.{stores_read, inputs_of, reset_with, Separate, separate_start}
+use Rattle.m51_sim.proofs.Common.{stores_read, inputs_of, separate_start}
+use Rattle.m51_sim.proofs.Common.{flat_machine, Machine, State, separate_machine}
 use Rattle.m51_module.specs.Plan.{IsUnitAt}
 use Rattle.m51_module.proofs.Units.{one_unit}
 use Rattle.m51_flat.specs.Reset.{reset_cpu}
@@ -10,9 +11,15 @@ use Rattle.m51_monitor.specs.Monitored.{IsStart}
 use Rattle.m51_monitor.specs.Transfers.{IsFoundAt}
 use Rattle.m51_monitor.proofs.CurrentUnit.{root_covers}
 use Rattle.m51_monitor.proofs.Finding.{unit_found_is}
-use Rattle.m51_sim.specs.Boards.{IsStarted}
+use Rattle.m51_sim.specs.Boards.{IsStarted, BoardState, FlatState, IsFlatStarted, flat_of, separate_of}
 use Rattle.m51_sim.specs.SeparateMachine.{or_zero, reset_unit}
 use Rattle.m51_sim.proofs.StoresRead.{read_same}
+use Rattle.m51_print.specs.Lines.{titles_of}
+use Rattle.m51_sim.specs.declared.runs.RunEnd.{RunEnd}
+use Rattle.m51_sim.specs.Report.{IsFlatReport, IsReport, IsReported, flat_report_of, report_of, reported}
+use Rattle.m51_sim.specs.Run.{Ended}
+use Rattle.m51_sim.specs.Runs.{record_of}
+use Rattle.m51_sim.specs.declared.runs.RunEnd.TheVariants as ends
 
 unit_is : (l : LayoutParts) (u : ℕ) (o : Option ℕ) → IsSound l → IsUnitAt l 0 u → IsFoundAt l 0 o → u ≡ or_zero o
 unit_is l u (Some v) sound at found = one_unit l sound 0 u v at found
@@ -51,7 +58,7 @@ module _ (l : LayoutParts) (fill : ℕ) (m : Monitored) (sound : IsSound m.layou
   start_stores : stores_read m ≡ (separate_start l fill).stores
   start_stores = read_same m sound may _ start.stores
 
-  pub start_memory : held_memory m ≡ separate_start l fill
+  start_memory : held_memory m ≡ separate_start l fill
   start_memory = rw (start_stores, start.records, root_is) refl
 
   pub is_started : (image : List ℕ) (script : Script) (chip : ChipState) → script.fill ≡ fill
@@ -60,5 +67,34 @@ module _ (l : LayoutParts) (fill : ℕ) (m : Monitored) (sound : IsSound m.layou
     layout_is = start.layout;
     image_is = refl;
     script_is = refl;
-    state = ap (λ (s : Separate). reset_with (inputs_of script) s) start_memory;
+    state = rw (start_memory) refl;
   })
+
+reports : {M : Type 0} (before after : Option (List ℕ)) (titles : List (List ℕ)) (machine : Machine M) (n : ℕ)
+    (first now : State M) (end : RunEnd)
+    → Ended before after titles machine n first now end
+    → IsReported (reported titles (record_of machine n first)) before after end
+reports before after titles machine n first now ends.Finished h = (h.event_is, h.text)
+reports before after titles machine n first now (ends.Stopped event) h = (h.event_is, h.text)
+reports before after titles machine n first now ends.WriteFault h = h.front
+
+pub is_report : (l : LayoutParts) (image : List ℕ) (script : Script) (n : ℕ) (before after : Option (List ℕ))
+    (board new : BoardState) (end : RunEnd) → IsStarted l image script board
+    → Ended before after (titles_of board.monitor.layout.placed)
+    (separate_machine board.monitor.layout board.chip.image (inputs_of board.chip.script)) n (separate_of board)
+    (separate_of new) end
+    → IsReport l image script n before after end
+unfolding report_of
+is_report l image script n before after board new end start h =
+    reports _ _ _ _ n _ _ end
+    (rw (start.state, start.layout_is, start.image_is, start.script_is) at h)
+
+pub is_flat_report : (image : List ℕ) (script : Script) (n : ℕ) (before after : Option (List ℕ)) (board new : FlatState)
+    (end : RunEnd) → IsFlatStarted image script board
+    → Ended before after [] (flat_machine board.chip.image (inputs_of board.chip.script)) n (flat_of board)
+    (flat_of new) end
+    → IsFlatReport image script n before after end
+unfolding flat_report_of
+is_flat_report image script n before after board new end start h =
+    reports _ _ _ _ n _ _ end
+    (rw (start.state, start.image_is, start.script_is) at h)

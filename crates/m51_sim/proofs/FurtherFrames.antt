@@ -1,5 +1,5 @@
 -- The further frames of a cycle, one after another.
-use Rattle.m51_sim.proofs.Common.{◌≡◌, ℕ, ◌+◌, ◌≤◌, ◌<◌, Bool, true, false, List, [], ◌∷◌, ◌++◌, length, take, refl}
+use Rattle.m51_sim.proofs.Common.{◌≡◌, ℕ, ◌+◌, ◌≤◌, ◌<◌, Bool, List, [], ◌∷◌, ◌++◌, length, take, refl}
 use Rattle.m51_sim.proofs.Common.{sym, ap, ◌∙◌, arith, length-append, if◌then◌else◌, frames_in}
 use Rattle.std.proofs.Common.{get_or, drop}
 use Rattle.std.specs.Prelude.{◌==◌}
@@ -8,16 +8,15 @@ use Rattle.m51_timers_uart.specs.declared.receiving.Frame.{Frame}
 use Rattle.m51_sim.specs.declared.cycles.Timed.{Timed}
 use Rattle.m51_sim.specs.Cycles.{AreFew}
 
-pub joined : (b : Bool) (f : Frame) (xs ys : List Frame)
+joined : (b : Bool) (f : Frame) (xs ys : List Frame)
     → (if b then f ∷ (xs ++ ys) else xs ++ ys) ≡ (if b then f ∷ xs else xs) ++ ys
-joined true f xs ys = refl
-joined false f xs ys = refl
+joined b f xs ys = grind arith
 
 pub frames_join : (cycle : ℕ) (xs ys : List Timed)
     → frames_in cycle (xs ++ ys) ≡ frames_in cycle xs ++ frames_in cycle ys
 frames_join cycle [] ys = refl
-frames_join cycle (t ∷ ts) ys = ap (λ fs. if t.cycle == cycle then t.frame ∷ fs else fs) (frames_join cycle ts ys)
-    ∙ joined (t.cycle == cycle) t.frame (frames_in cycle ts) (frames_in cycle ys)
+frames_join cycle (t ∷ ts) ys =
+    rw (frames_join cycle ts ys) (joined (t.cycle == cycle) t.frame (frames_in cycle ts) (frames_in cycle ys))
 
 -- with one more
 pub frames_more : (cycle : ℕ) (xs : List Timed) (i : ℕ) (d : Timed) → i < length xs
@@ -48,8 +47,7 @@ frames_fit cycle xs i d count below few is =
 pub frames_step : (cycle : ℕ) (xs : List Timed) (i : ℕ) (d : Timed) (old new : List Frame) → i < length xs
     → old ≡ frames_in cycle (take i xs) → new ≡ old ++ frames_in cycle (get_or xs i d ∷ [])
     → new ≡ frames_in cycle (take (i + 1) xs)
-frames_step cycle xs i d old new below so_far is = is ∙ ap (λ fs. fs ++ frames_in cycle (get_or xs i d ∷ [])) so_far
-    ∙ sym (frames_more cycle xs i d below)
+frames_step cycle xs i d old new below so_far is = rw (frames_more cycle xs i d below, ← so_far) is
 
 pub count_step : (cycle : ℕ) (xs : List Timed) (i : ℕ) (d : Timed) (old new : ℕ) → i < length xs
     → old ≡ length (frames_in cycle (take i xs)) → new ≡ old + length (frames_in cycle (get_or xs i d ∷ []))
@@ -65,8 +63,7 @@ count_step cycle xs i d old new below so_far is =
 
 -- one frame is not too many
 one_or_none : (b : Bool) (f : Frame) → length (if b then f ∷ [] else []) ≤ 7
-one_or_none true f = omega arith
-one_or_none false f = omega arith
+one_or_none b f = grind arith
 
 pub one_is_few : (t : Timed) → AreFew (t ∷ [])
 one_is_few t = record { each = λ cycle. one_or_none (t.cycle == cycle) t.frame }

@@ -1,5 +1,4 @@
 pub mod Common
-pub mod Values
 pub mod Sums
 pub mod Going
 pub mod Decoded
@@ -11,16 +10,10 @@ pub mod Passes
 pub mod Agreeing
 pub mod Keeping
 pub mod Beginning
-pub mod Segments
-pub mod Counting
-pub mod Reporting
 pub mod Flatly
-pub mod Inside
 pub mod FurtherFrames
-pub mod RowCycles
 pub mod StepCycles
 pub mod TakenTypes
-pub mod Alone
+pub mod Taken
 pub mod Quiet
-pub mod Resting
 pub mod Plain

@@ -1,85 +1,68 @@
--- Cycles in which nothing happens.
-use Rattle.m51_sim.proofs.Common.{◌≡◌, ℕ, zero, suc, List, [], Option, refl, sym, subst, ap, ◌∙◌, arith, length}
-use Rattle.m51_sim.proofs.Common.{frames_in, inputs_of, with_extra, Cpu, Inputs, Pins}
-use Rattle.std.specs.Prelude.{◌+◌, ◌-◌, ◌^◌, ◌<◌, ◌≤◌, ◌++◌, ◌==◌, None, Some, min, nat_le}
+-- Cycles in which nothing happens, and those of a plain step before which the devices rest, or count.
+use Rattle.m51_sim.proofs.Common.{◌≡◌, ℕ, zero, suc, ◌+◌, ◌-◌, ◌<◌, ◌≤◌, List, [], ◌∷◌, length, Option, Some, None}
+use Rattle.m51_sim.proofs.Common.{refl, ap, arith, Cpu, Effect, Script, ChipState, frames_in, inputs_of, with_extra}
+use Rattle.std.proofs.Common.{add-one}
+use Rattle.std.specs.Prelude.{◌^◌, min}
 use Rattle.m51_cells.specs.declared.event.Entry.{Entry}
-use Rattle.m51_timers_uart.specs.declared.receiving.Frame.{Frame}
-use Rattle.m51_timers_uart.specs.declared.periph.Periph.{Periph}
-use Rattle.m51_timers_uart.specs.OnlyCounting.{OnlyCount, counted_on}
-use Rattle.m51_timers_uart.specs.Sending.{Ticked}
+use Rattle.m51_timers_uart.specs.OnlyCounting.{counted_on}
 use Rattle.m51_timers_uart.specs.Tick.{ticked}
-use Rattle.m51_timers_uart.proofs.CountsOn.{devices_count_on}
+use Rattle.m51_timers_uart.proofs.CountsOn.{counting_lasts, devices_count_on}
 use Rattle.m51_timers_uart.proofs.Resting.{tick_stays}
-use Rattle.m51_script.specs.declared.script.Script.{Script}
-use Rattle.m51_script.specs.Levels.{all_high, levels_after}
-use Rattle.m51_script.specs.Timing.{those}
+use Rattle.m51_script.specs.Levels.{all_high}
+use Rattle.m51_sim.specs.declared.cycles.Pace.{Pace}
+use Rattle.m51_sim.specs.declared.cycles.Pace.TheVariants.{Resting, Counting}
 use Rattle.m51_sim.specs.declared.cycles.Passing.{Passing}
 use Rattle.m51_sim.specs.declared.cycles.Timed.{Timed}
-use Rattle.m51_sim.specs.Cycles.{Rests, after_tick, cycle_passed, cycles_passed, first_sent, next_cycle}
-use Rattle.m51_sim.proofs.Alone.{none_arrive}
+use Rattle.m51_sim.specs.Boards.{IsPassed}
+use Rattle.m51_sim.specs.Cycles.{Counts, IsPaced, Rests, cycle_passed, cycles_passed, first_sent, next_cycle}
+use Rattle.m51_sim.specs.Effects.{changed_by}
+use Rattle.m51_sim.specs.Plain.{DevicesAre, KeepsDevices, KeepsPace, paced_cpu}
 
--- ticks lead from each of these processors to the next, and send nothing
-abbrev LeadOn : Inputs → (ℕ → Cpu) → ℕ → Passing → Type 0
-LeadOn inputs at count p =
-    (k cycle : ℕ) → k < count → ticked (at k) (inputs.pins cycle) (inputs.frames cycle) p.periph
-    ≡ record { cpu = at (k + 1); periph = p.periph; sent = None }
-
--- a script without lines gives the same in each cycle
-module _ (script : Script) (extra : List Timed) (pins : script.pins.cycles ≡ []) (frames : script.frames.cycles ≡ [])
-    (alone : length extra ≡ 0) where
-  pub same_pins : (cycle : ℕ) → (inputs_of script).pins cycle ≡ all_high
-  same_pins cycle =
-      ap (λ (cs : List ℕ). levels_after all_high (those (λ d. nat_le d cycle) cs script.pins.items)) pins
-
-  pub no_frames : (cycle : ℕ) → (with_extra extra (inputs_of script)).frames cycle ≡ []
-  no_frames cycle =
-      ap (λ (cs : List ℕ). those (λ d. d == cycle) cs script.frames.items ++ frames_in cycle extra) frames
-      ∙ none_arrive extra alone cycle
-
-  silent_tick : (cpu : Cpu) (p : Periph) (t : Ticked) (cycle : ℕ) → ticked cpu all_high [] p ≡ t
-      → ticked cpu ((with_extra extra (inputs_of script)).pins cycle)
-      ((with_extra extra (inputs_of script)).frames cycle) p
-      ≡ t
-  silent_tick cpu p t cycle h =
-      ap (λ (e : Pins). ticked cpu e ((with_extra extra (inputs_of script)).frames cycle) p) (same_pins cycle)
-      ∙ ap (λ (fs : List Frame). ticked cpu all_high fs p) (no_frames cycle)
-      ∙ h
+-- where there are no further frames, none arrives
+pub none_arrive : (extra : List Timed) → length extra ≡ 0 → (cycle : ℕ) → frames_in cycle extra ≡ []
+none_arrive [] h cycle = refl
+none_arrive (t ∷ ts) h cycle = cc h
 
 none_sent : (sent : Option Entry) → first_sent sent None ≡ sent
 none_sent None = refl
 none_sent (Some e) = refl
 
-abbrev later : (p : Passing) → Cpu → ℕ → Passing
+abbrev later : Passing → Cpu → ℕ → Passing
 later p cpu cycle = record { cpu = cpu; periph = p.periph; cycle = cycle; sent = p.sent }
 
-next_is : (c n : ℕ) → next_cycle (min (c + n) (2 ^ 64 - 1)) ≡ min (c + suc n) (2 ^ 64 - 1)
-next_is c n = omega arith
+-- a script without lines gives the same in each cycle
+module _ (script : Script) (extra : List Timed) (pins : script.pins.cycles ≡ []) (frames : script.frames.cycles ≡ [])
+    (alone : length extra ≡ 0) where
+  pub same_pins : (cycle : ℕ) → (inputs_of script).pins cycle ≡ all_high
+  same_pins cycle = rw pins refl
 
-more : (n : ℕ) → n + 1 ≡ suc n
-more n = omega arith
+  pub no_frames : (cycle : ℕ) → (with_extra extra (inputs_of script)).frames cycle ≡ []
+  no_frames cycle = rw (frames, none_arrive extra alone cycle) refl
 
-one_passes : (inputs : Inputs) (p : Passing) (cpu next : Cpu) (cycle : ℕ)
-    → ticked cpu (inputs.pins (next_cycle cycle)) (inputs.frames (next_cycle cycle)) p.periph
-    ≡ record { cpu = next; periph = p.periph; sent = None }
-    → cycle_passed inputs (later p cpu cycle) ≡ later p next (next_cycle cycle)
-unfolding cycle_passed
-one_passes inputs p cpu next cycle h =
-    ap (λ (t : Ticked). after_tick (next_cycle cycle) p.sent t) h
-    ∙ ap (λ (s : Option Entry). record { cpu = next; periph = p.periph; cycle = next_cycle cycle; sent = s })
-    (none_sent p.sent)
+  module _ (p : Passing) (most : p.cycle ≤ 2 ^ 64 - 1) where
+    one_passes : (cpu next : Cpu) (cycle : ℕ)
+        → ticked cpu all_high [] p.periph ≡ record { cpu = next; periph = p.periph; sent = None }
+        → cycle_passed (with_extra extra (inputs_of script)) (later p cpu cycle) ≡ later p next (next_cycle cycle)
+    unfolding cycle_passed
+    one_passes cpu next cycle h =
+        rw (same_pins (next_cycle cycle), no_frames (next_cycle cycle), h, none_sent p.sent) refl
 
-cycles_lead : (inputs : Inputs) (at : ℕ → Cpu) (count : ℕ) (p : Passing) → p.cycle ≤ 2 ^ 64 - 1 → at 0 ≡ p.cpu
-    → LeadOn inputs at count p
-    → record p { cpu = at count; cycle = min (p.cycle + count) (2 ^ 64 - 1) } ≡ cycles_passed inputs count p
-unfolding cycles_passed
-cycles_lead inputs at zero p most start h =
-    ap (later p (at 0)) (omega (arith, most)) ∙ ap (λ (c : Cpu). later p c p.cycle) start
-cycles_lead inputs at (suc n) p most start h =
-    let cycle = min (p.cycle + n) (2 ^ 64 - 1) in
-    ap (later p (at (suc n))) (sym (next_is p.cycle n))
-    ∙ ap (λ m. later p (at m) (next_cycle cycle)) (sym (more n))
-    ∙ sym (one_passes inputs p (at n) (at (n + 1)) cycle (h n (next_cycle cycle) (omega arith)))
-    ∙ ap (cycle_passed inputs) (cycles_lead inputs at n p most start (λ k c less. h k c (omega (arith, less))))
+    -- ticks lead from each of these processors to the next, and send nothing
+    cycles_lead : (at : ℕ → Cpu) (count : ℕ) → at 0 ≡ p.cpu
+        → ((k : ℕ) → k < count
+        → ticked (at k) all_high [] p.periph ≡ record { cpu = at (k + 1); periph = p.periph; sent = None })
+        → later p (at count) (min (p.cycle + count) (2 ^ 64 - 1))
+        ≡ cycles_passed (with_extra extra (inputs_of script)) count p
+    unfolding cycles_passed
+    cycles_lead at zero start h = rw start (ap (later p p.cpu) (omega (arith, most)))
+    cycles_lead at (suc n) start h =
+        let cycle = min (p.cycle + n) (2 ^ 64 - 1) in
+        rw (
+          ← cycles_lead at n start (λ k less. h k (omega (arith, less))),
+          one_passes (at n) (at (n + 1)) cycle (h n (omega arith)),
+          add-one n,
+        )
+        (ap (later p (at (suc n))) (omega arith))
 
 -- where the devices rest and no further frame comes, cycles only pass
 pub rest_passes : (script : Script) (extra : List Timed) (count : ℕ) (p : Passing) → p.cycle ≤ 2 ^ 64 - 1
@@ -87,24 +70,58 @@ pub rest_passes : (script : Script) (extra : List Timed) (count : ℕ) (p : Pass
     → record p { cycle = min (p.cycle + count) (2 ^ 64 - 1) }
     ≡ cycles_passed (with_extra extra (inputs_of script)) count p
 rest_passes script extra count p most alone rest =
-    cycles_lead (with_extra extra (inputs_of script)) (λ k. p.cpu) count p most refl
-    (λ k cycle less. silent_tick script extra rest.pins rest.frames alone p.cpu p.periph _ cycle
-    (tick_stays p.cpu all_high p.periph rest.devices))
+    cycles_lead script extra rest.pins rest.frames alone p most (λ k. p.cpu) count refl
+    (λ k less. tick_stays p.cpu all_high p.periph rest.devices)
 
--- where they only count, the timers that run are counted on
-pub counts_pass : (script : Script) (extra : List Timed) (count : ℕ) (p : Passing) → p.cycle ≤ 2 ^ 64 - 1
-    → length p.cpu.regs ≡ 128 → length extra ≡ 0 → script.pins.cycles ≡ [] → script.frames.cycles ≡ []
-    → OnlyCount count p.cpu all_high p.periph
-    → record p { cpu = counted_on count p.cpu; cycle = min (p.cycle + count) (2 ^ 64 - 1) }
-    ≡ cycles_passed (with_extra extra (inputs_of script)) count p
-counts_pass script extra count p most size alone pins frames h =
-    let counts = devices_count_on count p.cpu all_high p.periph size h in
-    cycles_lead (with_extra extra (inputs_of script)) (λ k. counted_on k p.cpu) count p most counts.start
-    (λ k cycle less. silent_tick script extra pins frames alone (counted_on k p.cpu) p.periph _ cycle
-    (counts.next k less))
-
--- and they rest after them
+-- and the devices rest after them
 pub rest_lasts : (script : Script) (p q : Passing) (cycle : ℕ) → q ≡ record p { cycle = cycle } → Rests script p
     → Rests script q
-rest_lasts script p q cycle e h =
-    subst (Rests script) (sym e) (record { pins = h.pins; frames = h.frames; devices = h.devices })
+rest_lasts script p q cycle e h = rw e (record { pins = h.pins; frames = h.frames; devices = h.devices })
+
+module _ (script : Script) (p : Passing) (size : length p.cpu.regs ≡ 128) where
+  pub devices_kept : (pace : Pace) (e : Effect) → IsPaced pace script p → KeepsDevices p.cpu e
+      → DevicesAre pace e.cpu p.periph
+  devices_kept Resting e h k = k.devices size Resting p.periph h.devices
+  devices_kept Counting e h k = k.devices size Counting p.periph h.devices
+
+  -- devices that count before a plain step count when its cycles begin
+  pub counted_after : (cycle : ℕ) (e : Effect) → IsPaced Counting script p → KeepsDevices p.cpu e
+      → Counts script (changed_by cycle p.periph e)
+  counted_after cycle e h k =
+      record { pins = h.pins; frames = h.frames; devices = rw k.line (devices_kept Counting e h k) }
+
+-- their pace stays as before
+pub paced_after : (pace : Pace) (chip : ChipState) (extra : List Timed) (e : Effect) (q : Passing)
+    → KeepsPace pace chip extra e → q.cpu ≡ paced_cpu pace e → q.periph ≡ chip.periph → IsPaced pace chip.script q
+paced_after Resting chip extra e q h cpu periph =
+    record { pins = h.pins; frames = h.frames; devices = rw (cpu, periph) h.devices }
+paced_after Counting chip extra e q h cpu periph = record {
+  pins = h.pins;
+  frames = h.frames;
+  devices = rw (cpu, periph) (counting_lasts e.cycles e.cpu all_high chip.periph h.devices.counting);
+}
+
+-- and the cycles pass at once
+passes_on : (pace : Pace) (chip : ChipState) (extra : List Timed) (e : Effect) → chip.cycle ≤ 2 ^ 64 - 1
+    → KeepsPace pace chip extra e
+    → record {
+      cpu = paced_cpu pace e;
+      periph = chip.periph;
+      cycle = min (chip.cycle + e.cycles) (2 ^ 64 - 1);
+      sent = None;
+    } ≡ cycles_passed (with_extra extra (inputs_of chip.script)) e.cycles (changed_by chip.cycle chip.periph e)
+passes_on Resting chip extra e most h =
+    rw h.line (rest_passes chip.script extra e.cycles _ most h.alone
+    (record { pins = h.pins; frames = h.frames; devices = h.devices }))
+passes_on Counting chip extra e most h =
+    let counts = devices_count_on e.cycles e.cpu all_high chip.periph h.registers h.devices in
+    rw h.line (cycles_lead chip.script extra h.pins h.frames h.alone _ most (λ k. counted_on k e.cpu) e.cycles
+    counts.start counts.next)
+
+-- so a step is performed that reports nothing
+pub pace_kept : {pace : Pace} {old new : ChipState} {extra : List Timed} {e : Effect} → old.cycle ≤ 2 ^ 64 - 1
+    → KeepsPace pace old extra e
+    → new ≡ record old { cpu = paced_cpu pace e; cycle = min (old.cycle + e.cycles) (2 ^ 64 - 1) }
+    → IsPassed (with_extra extra (inputs_of old.script)) old new e (record { port = None; sent = None })
+pace_kept {pace} {old} {extra} {e} most h is =
+    record { port = rw h.port refl; passed = rw is (passes_on pace old extra e most h) }

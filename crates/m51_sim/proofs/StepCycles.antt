@@ -1,26 +1,74 @@
 -- The machine cycles of a step that is performed.
-use Rattle.m51_sim.proofs.Common.{◌≡◌, ℕ, zero, suc, ◌+◌, ◌-◌, ◌%◌, ◌≤◌, List, Ok, Err, refl, sym, ap, ◌∙◌, arith}
-use Rattle.m51_sim.proofs.Common.{PastEnd, Instr, LayoutParts, Cpu, Effect, Pins, Source, vectored, Stay, current}
-use Rattle.m51_sim.proofs.Common.{Vectoring, Idling, Allowed, Inputs, idle_effect, Performed, Separate, lie_inside}
+use Rattle.m51_sim.proofs.Common.{◌≡◌, ℕ, ◌≤◌, Bool, true, false, ◌&&◌, List, refl, arith, Instr, Cpu, Effect, Pins}
+use Rattle.m51_sim.proofs.Common.{plan_of, sp, zero, suc, ◌+◌, ◌-◌, Result, Ok, Err, Event, LayoutParts, Source}
+use Rattle.m51_sim.proofs.Common.{Vectoring, Idling, Allowed, Inputs, Performed, Separate, State}
+use Rattle.std.proofs.lemmas.Bool.{and_parts, cond_both, ltb-true}
+use Rattle.std.specs.Prelude.{◌==◌, nat_lt, min}
+use Rattle.m51_isa.specs.Table.{cycles_of}
+use Rattle.m51_flat.specs.Actions.{action_of}
+use Rattle.m51_flat.specs.Laws.{Always}
+use Rattle.m51_flat.specs.Meaning.{started}
+use Rattle.m51_flat.specs.Sfr.{has_register, sbuf, with_sfr}
+use Rattle.m51_flat.specs.Transfers.{called, returned, stacked}
+use Rattle.m51_flat.proofs.EveryAction.{IsKept, walk}
 use Rattle.std.proofs.Common.{◌^◌}
-use Rattle.std.specs.Prelude.{min}
-use Rattle.m51_cells.specs.declared.event.Event.TheVariants.{Transfer, Reserved}
-use Rattle.m51_isa.specs.Table.{cycles_of, length_of}
-use Rattle.m51_flat.specs.Sfr.{has_register, with_sfr}
-use Rattle.m51_flat.specs.States.{shut_of}
-use Rattle.m51_flat.specs.Transfers.{stacked}
 use Rattle.m51_irq.specs.Vectoring.{vectoring}
-use Rattle.m51_monitor.specs.Resolved.{outside_of}
 use Rattle.m51_sim.specs.declared.attempt.Attempt.{Attempt}
 use Rattle.m51_sim.specs.declared.attempt.Attempt.TheVariants.{Executing, Refusing}
 use Rattle.m51_sim.specs.declared.cycles.Passing.{Passing}
 use Rattle.m51_sim.specs.Cycles.{cycle_passed, cycles_passed, next_cycle}
-use Rattle.m51_sim.specs.Effects.{attempt_of, changed_by}
-use Rattle.m51_sim.specs.SeparateMachine.{cells_of, concludes, instr_outcome, separate_effect}
-use Rattle.m51_sim.specs.StepLaws.{StepsAreShort, Takes}
-use Rattle.m51_sim.proofs.Keeping.{concluded_ok, inside_ok, performed_ok, vectored_done}
-use Rattle.m51_sim.proofs.Preparing.{done_fact}
-use Rattle.m51_sim.proofs.RowCycles.{row_few, row_some, row_takes}
+use Rattle.m51_sim.specs.Effects.{attempt_of, changed_by, performed}
+use Rattle.m51_sim.specs.SeparateMachine.{memory_after, separate_performs}
+use Rattle.m51_sim.specs.StepLaws.{IsShort, StepsAreShort, Takes}
+use Rattle.m51_sim.proofs.Preparing.{Any, Holds, HoldsIn, always_holds, attempted}
+use Rattle.m51_isa.specs.declared.instr.Instr.TheVariants as row
+
+-- no write of a register and no jump changes their number
+module _ (n : ℕ) where
+  abbrev Lasts : Bool → Effect → Type 0
+  Lasts _ e = e.cycles ≡ n
+
+  sfr_lasts : (a v : ℕ) (e : Effect) → Lasts false e → Lasts false (with_sfr a v e)
+  unfolding with_sfr
+  sfr_lasts a v e h =
+      cond_both (a == sbuf) _ _ (Lasts false) (λ _. h)
+      (λ _. cond_both (has_register a) _ e (Lasts false) (λ _. h) (λ _. h))
+
+  lasts_kept : (next : ℕ) → IsKept (λ _. false) Lasts Lasts next (λ _. Unit {0})
+  lasts_kept next = record {
+    apart = (refl, refl, refl, refl, refl);
+    low = λ a h. refl;
+    register = sfr_lasts;
+    memory = λ put e h. h;
+    ends = λ b e h. h;
+    jump = λ b to e j h. h;
+    branch = λ b rel e j h. h;
+  }
+
+-- every effect of an instruction takes those of its row
+row_takes : (cpu : Cpu) (instr : Instr) (image : List ℕ) (ext : Pins)
+    → Always (λ e. e.cycles ≡ cycles_of instr) (plan_of cpu instr image ext)
+unfolding called returned stacked
+row_takes cpu row.JmpAtADptr image ext = refl
+row_takes cpu (row.LcallAddr16 target) image ext = sfr_lasts _ sp _ (started cpu (row.LcallAddr16 target)) refl
+row_takes cpu (row.AcallAddr11 address) image ext = sfr_lasts _ sp _ (started cpu (row.AcallAddr11 address)) refl
+row_takes cpu row.Ret image ext = λ high low. sfr_lasts _ sp _ (started cpu row.Ret) refl
+row_takes cpu row.Reti image ext = λ high low. sfr_lasts _ sp _ (started cpu row.Reti) refl
+row_takes cpu instr image ext =
+    let e = started cpu instr in
+    walk (λ _. false) (Lasts e.cycles) (Lasts e.cycles) e.cpu.pc (λ _. Unit {0}) (lasts_kept e.cycles e.cpu.pc) image
+    ext e (action_of instr) refl tt refl
+
+-- which are one to four
+short_row : (instr : Instr) → (nat_lt 0 (cycles_of instr) && nat_lt (cycles_of instr) 5) ≡ true
+short_row row.Nop = refl
+short_row _ = refl
+
+row_some : (instr : Instr) → 1 ≤ cycles_of instr
+row_some instr = ltb-true 0 _ (and_parts _ (nat_lt (cycles_of instr) 5) (short_row instr)).0
+
+row_few : (instr : Instr) → cycles_of instr ≤ 4
+row_few instr = omega (arith, ltb-true _ 5 (and_parts (nat_lt 0 (cycles_of instr)) _ (short_row instr)).1)
 
 -- a machine cycle counts one
 pub one_counts : (inputs : Inputs) (p : Passing) → (cycle_passed inputs p).cycle ≡ next_cycle p.cycle
@@ -28,75 +76,52 @@ unfolding cycle_passed
 one_counts inputs p = refl
 
 -- each cycle that passes is counted
-cycles_count : (inputs : Inputs) (more : ℕ) (p : Passing)
-    → (cycles_passed inputs (suc more) p).cycle ≡ min (p.cycle + suc more) (2 ^ 64 - 1)
-unfolding cycles_passed
-cycles_count inputs zero p = one_counts inputs p
-cycles_count inputs (suc more) p =
-    let last = one_counts inputs (cycles_passed inputs (suc more) p) in
-    let before = cycles_count inputs more p in
-    omega (arith, last, before)
-
 some_count : (inputs : Inputs) (count : ℕ) (p : Passing) → 1 ≤ count
     → (cycles_passed inputs count p).cycle ≡ min (p.cycle + count) (2 ^ 64 - 1)
+unfolding cycles_passed
 some_count inputs zero p some = absurd (omega (arith, some))
-some_count inputs (suc more) p some = cycles_count inputs more p
-
--- an attempt takes this number of cycles, which is one to four
-record IsCount (attempt : Attempt) (count : ℕ) : Type 0 where
-  takes : Takes attempt count
-  some : 1 ≤ count
-  few : count ≤ 4
+some_count inputs (suc zero) p some = one_counts inputs p
+some_count inputs (suc (suc more)) p some =
+    let before = some_count inputs (suc more) p (omega arith) in
+    omega (arith, one_counts inputs (cycles_passed inputs (suc more) p), before)
 
 vectoring_takes : (cpu : Cpu) (source : Source) → (vectoring cpu source).cycles ≡ 2
 unfolding vectoring stacked with_sfr has_register
 vectoring_takes cpu source = refl
 
-two : (source : Source) (count : ℕ) → count ≡ 2 → IsCount (Vectoring source) count
-two source count is = record { takes = is; some = omega (arith, is); few = omega (arith, is) }
+-- an attempt that is performed takes one to four cycles
+few : (t : Attempt) (n : ℕ) → Takes t n → (1 ≤ n) × (n ≤ 4)
+few (Vectoring source) n is = (omega (arith, is), omega (arith, is))
+few Idling n is = (omega (arith, is), omega (arith, is))
+few (Executing instr) n is = (omega (arith, is, row_some instr), omega (arith, is, row_few instr))
+few Refusing n is = absurd is
 
-one : (count : ℕ) → count ≡ 1 → IsCount Idling count
-one count is = record { takes = is; some = omega (arith, is); few = omega (arith, is) }
+module _ (l : LayoutParts) (image : List ℕ) (inputs : Inputs) (s : State Separate) where
+  takes : (t : Attempt) → HoldsIn (λ e. Takes t e.cycles) Any l s.cpu s.memory image (inputs.pins s.cycle) t
+  takes (Vectoring source) = vectoring_takes s.cpu source
+  takes Idling = refl
+  takes (Executing instr) =
+      always_holds _ l s.cpu s.memory image _ instr (row_takes s.cpu instr image (inputs.pins s.cycle))
+  takes Refusing = tt
 
-of_row : (instr : Instr) (count : ℕ) → count ≡ cycles_of instr → IsCount (Executing instr) count
-of_row instr count is =
-    record { takes = is; some = omega (arith, is, row_some instr); few = omega (arith, is, row_few instr) }
-
-module _ (l : LayoutParts) (image : List ℕ) (cpu : Cpu) (m : Separate) (pins : Pins) where
-  effect_count : (t : Attempt) (a : Allowed) → separate_effect l image cpu m pins t ≡ Ok a → IsCount t a.effect.cycles
-  unfolding separate_effect
-  effect_count (Vectoring source) a h =
-      let e = vectoring cpu source in
-      let barred = outside_of (cells_of l m) in
-      let same = vectored_done (shut_of barred e.first) (shut_of barred e.second) e a.effect
-      (concluded_ok l m cpu (vectored cpu barred source) a h) in
-      two source a.effect.cycles (ap (λ (e : Effect). e.cycles) (sym same) ∙ vectoring_takes cpu source)
-  effect_count Idling a h = let k : record { effect = idle_effect cpu; step = Stay } ≡ a = cc h in
-      one a.effect.cycles (ap (λ (a : Allowed). a.effect.cycles) (sym k))
-  effect_count (Executing instr) a h =
-      let cells = cells_of l m in
-      let o = instr_outcome l m cpu instr image pins in
-      let is = concluded_ok l m cpu o a
-      (inside_ok (lie_inside l (current m.records) cpu.pc (length_of instr)) (concludes l m cpu o)
-      (Transfer PastEnd cpu.pc ((cpu.pc + length_of instr) % 65536)) a h).1 in
-      of_row instr a.effect.cycles
-      (done_fact (λ e. e.cycles ≡ cycles_of instr) cpu cells (outside_of cells) instr image pins a.effect
-      (row_takes cpu instr image pins) is)
-  effect_count Refusing a h = let k =
-      (inside_ok (lie_inside l (current m.records) cpu.pc 1) (Err (Reserved cpu.pc))
-      (Transfer PastEnd cpu.pc ((cpu.pc + 1) % 65536)) a h).1 in cc k
+  short_by : (r : Result Allowed Event) (done : Performed Separate)
+      → Holds (λ e. Takes (attempt_of image s.cpu) e.cycles) Any r → separate_performs l inputs s r ≡ Ok done
+      → IsShort image s done.state
+  short_by (Ok a) done c h =
+      let e = a.effect in
+      let n = few (attempt_of image s.cpu) e.cycles c in
+      let is : performed inputs s e (memory_after l s.memory a) ≡ done = cc h in
+      rw (← is) (record {
+        count = e.cycles;
+        takes = c;
+        some = n.0;
+        few = n.1;
+        cycle = some_count inputs e.cycles (changed_by s.cycle s.periph e) n.0;
+      })
+  short_by (Err event) done c h = cc h
 
 pub steps_short : StepsAreShort
 steps_short l image inputs s done h =
-    let effect = separate_effect l image s.cpu s.memory (inputs.pins s.cycle) (attempt_of image s.cpu) in
-    let p = performed_ok l image inputs s effect done h in
-    let e = p.0.effect in
-    let c = effect_count l image s.cpu s.memory (inputs.pins s.cycle) (attempt_of image s.cpu) p.0 p.1 in
-    record {
-      count = e.cycles;
-      takes = c.takes;
-      some = c.some;
-      few = c.few;
-      cycle = ap (λ (d : Performed Separate). d.state.cycle) (sym p.2)
-          ∙ some_count inputs e.cycles (changed_by s.cycle s.periph e) c.some;
-    }
+    let t = attempt_of image s.cpu in
+    short_by l image inputs s _ done
+    (attempted _ _ l s.cpu s.memory image (inputs.pins s.cycle) t (takes l image inputs s t)) h

@@ -32,32 +32,23 @@ pub both_written : (a b c : Option (List ℕ)) (told : Entries)
     → Appends a c (flat_map entry_line (entries_of told))
 both_written a b c told p q = rw (two_lines told) (Appends-trans a b c _ _ p q)
 
--- the first is cut
+-- what is cut is a part of more, and may follow what is whole
+abbrev pub cut_before : (a b : Option (List ℕ)) (xs ys : List ℕ) → StopsWithin a b xs → StopsWithin a b (xs ++ ys)
+cut_before a b xs ys q =
+    (q.0, omega (arith, length-append xs ys, q.1), rw (take-append-le q.0 xs ys (omega (arith, q.1))) q.2)
+
+abbrev pub cut_after : (a b c : Option (List ℕ)) (xs ys : List ℕ) → Appends a b xs → StopsWithin b c ys
+    → StopsWithin a c (xs ++ ys)
+cut_after a b c xs ys p q = (
+  length xs + q.0,
+  omega (arith, length-append xs ys, q.1),
+  rw (take-append-add xs ys q.0) (Appends-trans a b c xs (take q.0 ys) p q.2),
+)
+
 pub first_cut : (a b : Option (List ℕ)) (told : Entries)
     → StopsWithin a b (flat_map entry_line (option_to_list told.port))
     → StopsWithin a b (flat_map entry_line (entries_of told))
-first_cut a b told q =
-    let xs = flat_map entry_line (option_to_list told.port) in
-    let ys = flat_map entry_line (option_to_list told.sent) in
-    rw (two_lines told) (
-      q.0,
-      omega (arith, length-append xs ys, q.1),
-      rw (take-append-le q.0 xs ys (omega (arith, q.1))) q.2,
-    )
-
--- the first is whole, and the second is cut
-pub second_cut : (a b c : Option (List ℕ)) (told : Entries)
-    → Appends a b (flat_map entry_line (option_to_list told.port))
-    → StopsWithin b c (flat_map entry_line (option_to_list told.sent))
-    → StopsWithin a c (flat_map entry_line (entries_of told))
-second_cut a b c told p q =
-    let xs = flat_map entry_line (option_to_list told.port) in
-    let ys = flat_map entry_line (option_to_list told.sent) in
-    rw (two_lines told) (
-      length xs + q.0,
-      omega (arith, length-append xs ys, q.1),
-      rw (take-append-add xs ys q.0) (Appends-trans a b c xs (take q.0 ys) p q.2),
-    )
+first_cut a b told q = rw (two_lines told) (cut_before a b _ _ q)
 
 -- the same of what a call answers
 pub cut_on : {T E : Type 0} (r : Result T E) (a b c : Option (List ℕ)) (told : Entries)
@@ -65,6 +56,6 @@ pub cut_on : {T E : Type 0} (r : Result T E) (a b c : Option (List ℕ)) (told :
     → OnErr r (StopsWithin b c (flat_map entry_line (option_to_list told.sent)))
     → OnErr r (StopsWithin a c (flat_map entry_line (entries_of told)))
 cut_on (Ok x) a b c told p q = tt
-cut_on (Err e) a b c told p q = second_cut a b c told p q
+cut_on (Err e) a b c told p q = rw (two_lines told) (cut_after a b c _ _ p q)
 
 pub ruleset tellings = (both_written, cut_on, first_cut)

@@ -14,7 +14,7 @@ use Rattle.m51_timers_uart.specs.declared.periph.Periph.{Periph}
 use Rattle.m51_timers_uart.specs.OnlyCounting.{AreCounting, OnlyCount, counted_on}
 use Rattle.m51_timers_uart.specs.Resting.{AreResting}
 use Rattle.m51_sim.specs.declared.attempt.Attempt.{Attempt}
-use Rattle.m51_sim.specs.declared.attempt.Attempt.TheVariants.{Executing}
+use Rattle.m51_sim.specs.declared.attempt.Attempt.TheVariants.{Executing, Vectoring}
 use Rattle.m51_sim.specs.declared.program.Row.{Row}
 use Rattle.m51_sim.specs.declared.cycles.Pace.{Pace}
 use Rattle.m51_sim.specs.declared.cycles.Pace.TheVariants.{Resting, Counting}
@@ -38,8 +38,10 @@ abbrev pub is_plain : Option Instr → Bool
 is_plain None = false
 is_plain (Some instr) = leaves_others (written_of instr)
 
+-- so is a step: that of a plain instruction, and a vectoring
 abbrev pub is_plain_step : Attempt → Bool
 is_plain_step (Executing instr) = is_plain (Some instr)
+is_plain_step (Vectoring source) = true
 is_plain_step _ = false
 
 -- what is kept of the instruction at an address
@@ -56,6 +58,13 @@ pub record KeepsOthers (old : Cpu) (e : Effect) : Type 0 where
 abbrev pub DevicesAre : Pace → Cpu → Periph → Type 0
 DevicesAre Resting cpu p = AreResting cpu all_high p
 DevicesAre Counting cpu p = AreCounting cpu all_high p
+
+-- of 128 registers, an effect changes nothing that decides whether the devices rest or count, and writes no port and no
+-- byte to be sent
+pub record KeepsDevices (old : Cpu) (e : Effect) : Type 0 where
+  pub devices : length old.regs ≡ 128 → (pace : Pace) (p : Periph) → DevicesAre pace old p → DevicesAre pace e.cpu p
+  pub line : e.sbuf ≡ None
+  pub port : e.port ≡ None
 
 -- in the cycles of an effect the devices rest, or they only count
 abbrev pub DevicesGo : Pace → Periph → Effect → Type 0

@@ -14,7 +14,7 @@ ghost use Rattle.m51_sim.specs.Boards.{separate_of};
 ghost use Rattle.m51_sim.specs.Boards.{state_with, told_in};
 ghost use Rattle.m51_sim.specs.Cycles.{AreFew, inputs_of, with_extra};
 ghost use Rattle.m51_sim.specs.Effects.{attempt_of};
-ghost use Rattle.m51_sim.specs.Plain.{KeepsOthers};
+ghost use Rattle.m51_sim.specs.Plain.{KeepsDevices};
 ghost use Rattle.m51_sim.specs.Report.{IsReport};
 ghost use Rattle.m51_sim.specs.Run.{Ended, IsAdvance, IsStep, IsToldStep, step_told, stopped_by, tally_of, told_by};
 ghost use Rattle.m51_sim.specs.Runs.{record_of};
@@ -295,7 +295,7 @@ fn advance(monitor: &mut Monitor, chip: &mut Chip, draft: &mut Draft, extra: &[T
 #[inline(never)]
 fn pass_slowly(chip: &mut Chip, draft: &mut Draft, extra: &[Timed]) -> bool
     requires few { AreFew extra.now }
-    requires plain { IsTrue draft.old.plain → KeepsOthers chip.old.cpu draft.old.effect }
+    requires plain { IsTrue draft.old.plain → KeepsDevices chip.old.cpu draft.old.effect }
     ensures image { chip.new.image ≡ chip.old.image }
     ensures script { chip.new.script ≡ chip.old.script }
     ensures draft { IsDraftOf draft.new chip.new.cpu }

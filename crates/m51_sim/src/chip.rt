@@ -8,7 +8,7 @@ ghost use Rattle.m51_sim.specs.Boards.{IsDraftOf};
 ghost use Rattle.m51_sim.specs.Cycles.{AreFew, Counts, cycles_passed, inputs_of, with_extra};
 ghost use Rattle.m51_sim.specs.Effects.{attempt_by, attempt_of, changed_by, executing, idle_effect};
 ghost use Rattle.m51_sim.specs.Effects.{instr_at, latch_address, port_entry};
-ghost use Rattle.m51_sim.specs.Plain.{DevicesAre, DevicesGo, KeepsOthers, KeepsPace, is_plain, paced_cpu};
+ghost use Rattle.m51_sim.specs.Plain.{DevicesAre, DevicesGo, KeepsDevices, KeepsPace, is_plain, paced_cpu};
 ghost use Rattle.m51_sim.specs.declared.cycles.Timed.{Timed as TimedFrame};
 ghost use Rattle.m51_timers_uart.specs.declared.periph.Periph.{Periph as PeriphState};
 
@@ -28,8 +28,8 @@ use std::alloc::Global;
 use std::marker::Model;
 
 // Room for the effect of a step, which is made before it is read; `same` says that its processor is known to be that of
-// the chip, and `plain` that it is known to change nothing a device looks at. `told` is what a step reports, where it
-// reports anything.
+// the chip, and `plain` that it is known to change nothing that decides how the devices go. `told` is what a step
+// reports, where it reports anything.
 #[derive(Drop)]
 pub(crate) struct Draft {
     pub(crate) effect: Effect,
@@ -176,7 +176,7 @@ impl Chip {
     // How the devices go in the cycles of a plain step, where that is known and no further frame comes.
     #[inline(always)]
     pub(crate) fn pace_on(&self, draft: &Draft, extra: &[Timed]) -> Option<Pace>
-        requires { IsTrue draft.now.plain → KeepsOthers self.now.cpu draft.now.effect }
+        requires { IsTrue draft.now.plain → KeepsDevices self.now.cpu draft.now.effect }
         ensures { IfSome result (λ pace. KeepsPace pace self.now extra.now draft.now.effect) }
     {
         if !draft.plain || !extra.is_empty() {
@@ -185,6 +185,7 @@ impl Chip {
         match self.pace {
             None => None,
             Some(pace) => {
+                cite_registers(&self.passing.cpu);
                 cite_registers(&draft.effect.cpu);
                 if keeps_pace(pace, &self.passing.periph, &draft.effect) {
                     Some(pace)
@@ -198,7 +199,7 @@ impl Chip {
     // Whether it is known that the devices count in the cycles of a plain step, and no further frame comes.
     #[inline(always)]
     fn is_counted(&self, draft: &Draft, extra: &[Timed]) -> bool
-        requires { IsTrue draft.now.plain → KeepsOthers self.now.cpu draft.now.effect }
+        requires { IsTrue draft.now.plain → KeepsDevices self.now.cpu draft.now.effect }
         ensures alone { IsTrue result → length extra.now ≡ 0 }
         ensures counts { IsTrue result → Counts self.now.script
             (changed_by self.now.cycle self.now.periph draft.now.effect) }
@@ -206,6 +207,7 @@ impl Chip {
         if !extra.is_empty() || !draft.plain {
             return false;
         }
+        cite_registers(&self.passing.cpu);
         match self.pace {
             None => false,
             Some(pace) => is_counting(pace),
@@ -234,7 +236,7 @@ impl Chip {
     #[inline(always)]
     pub(crate) fn pass(&mut self, draft: &mut Draft, extra: &[Timed]) -> Entries
         requires few { AreFew extra.now }
-        requires plain { IsTrue draft.old.plain → KeepsOthers self.old.cpu draft.old.effect }
+        requires plain { IsTrue draft.old.plain → KeepsDevices self.old.cpu draft.old.effect }
         ensures image { self.new.image ≡ self.old.image }
         ensures script { self.new.script ≡ self.old.script }
         ensures draft { IsDraftOf draft.new self.new.cpu }

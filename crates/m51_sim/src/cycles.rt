@@ -124,7 +124,7 @@ fn keep_sent(kept: &mut Option<Entry>, cycle: u64, sent: Option<Sent>)
 }
 
 // A tick with the frames of the script and then with the others of its cycle.
-#[tactic(auto, using(crate::proofs::Alone::none_arrive))]
+#[tactic(auto, using(crate::proofs::Quiet::none_arrive))]
 #[inline(always)]
 fn tick(
     script: &Script,

@@ -133,7 +133,7 @@ fn judge(chip: &Chip, memory: &FlatRam, draft: &mut Draft) -> Result<(), Event>
 {
     match chip.attempt() {
         Attempt::Vectoring(source) => {
-            draft.plain = false;
+            draft.plain = true;
             take(&mut draft.effect, chip.cpu(), memory, source);
             Ok(())
         }

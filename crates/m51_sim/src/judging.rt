@@ -250,7 +250,7 @@ pub(crate) fn judge(monitor: &Monitor, chip: &Chip, draft: &mut Draft) -> Result
 {
     match chip.attempt() {
         Attempt::Vectoring(source) => {
-            draft.plain = false;
+            draft.plain = true;
             vectoring(monitor, chip.cpu(), source, &mut draft.effect)
         }
         Attempt::Idling => {

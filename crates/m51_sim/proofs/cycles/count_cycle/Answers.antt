@@ -1,6 +1,5 @@
 use Rattle.m51_sim.proofs.Common.{[], sym, inputs_of, with_extra}
 use Rattle.m51_script.specs.Levels.{all_high}
-use Rattle.m51_sim.specs.Cycles.{next_cycle}
 use Rattle.m51_sim.proofs.Passes.{cycle_is}
 use Rattle.m51_sim.proofs.Quiet.{no_frames, same_pins}
 use Rattle.m51_sim.proofs.cycles.count_cycle.Goals as goal
@@ -9,11 +8,8 @@ pub returns-clause-passed : goal.returns-clause-passed
 returns-clause-passed c =
     let script = c.args.script.now in
     let extra = c.args.extra.now in
-    let p = c.args.passing.now in
     let counts = c.requires.counts in
-    let cycle = next_cycle p.cycle in
-    cycle_is (with_extra extra (inputs_of script)) p _ all_high [] c.count_cycle-sent.result
-    c.next_cycle-cycle.ensures
+    cycle_is (with_extra extra (inputs_of script)) _ _ all_high [] _ c.next_cycle-cycle.ensures
     (sym (same_pins script extra counts.pins counts.frames c.requires.alone _))
     (sym (no_frames script extra counts.pins counts.frames c.requires.alone _)) c.count_cycle-sent.ensures.tick
     c.keep_sent.ensures

@@ -1,6 +1,6 @@
 use Rattle.m51_sim.proofs.Common.{sym}
 use Rattle.m51_flat.proofs.Flat.{none_shut}
-use Rattle.m51_sim.proofs.Values.{put_map}
+use Rattle.m51_sim.proofs.Flatly.{put_map}
 use Rattle.m51_sim.proofs.flat_board.put_any.Goals as goal
 
 pub put-requires : goal.put-requires

@@ -1,14 +1,13 @@
-use Rattle.m51_sim.proofs.Fitting.{judged_commits, judged_text}
+use Rattle.m51_sim.proofs.Fitting.{judged_may}
 use Rattle.m51_sim.proofs.judging.conclude.Goals as goal
 
 pub returns-in-Ok-clause-may : goal.returns-in-Ok-clause-may
 returns-in-Ok-clause-may c =
-    judged_commits c.args.monitor.now c.args.cpu.now c.args.effect.now c.judge_move.result
-    (rw c.in-Ok.is at c.requires.prepared) c.judge_move.ensures.answers
+    (judged_may _ _ _ c.judge_move.result 0 (rw c.in-Ok.is at c.requires.prepared) c.judge_move.ensures.answers).0
 
 pub returns-in-Ok-clause-text : goal.returns-in-Ok-clause-text
 returns-in-Ok-clause-text c =
-    judged_text c.args.monitor.now c.args.cpu.now c.args.effect.now c.judge_move.result _ c.judge_move.ensures.answers
+    (judged_may _ _ _ c.judge_move.result _ (rw c.in-Ok.is at c.requires.prepared) c.judge_move.ensures.answers).1
 
 pub unwritten-requires : goal.unwritten-requires
 unwritten-requires c =

@@ -1,6 +1,5 @@
 use Rattle.m51_sim.proofs.Common.{stores_read}
 use Rattle.m51_monitor.specs.Shared.{shared_cells}
-use Rattle.m51_flat.specs.Outcome.{outcome_by}
 use Rattle.m51_sim.proofs.Preparing.{vector_ready}
 use Rattle.m51_sim.proofs.judging.vector_outcome.Goals as goal
 
@@ -14,8 +13,6 @@ returns-clause-value c =
 
 pub returns-clause-ready : goal.returns-clause-ready
 returns-clause-ready c =
-    let m = c.args.monitor.now in
-    vector_ready m c.args.cpu.now c.args.source (shared_cells m.store)
-    (outcome_by c.vector_into.result c.vector_into.new.effect) c.requires.order c.requires.taken
+    vector_ready _ _ c.args.source (shared_cells c.args.monitor.now.store) _ c.requires.order c.requires.taken
     (rw c.store.ensures.store at c.vector_into.ensures.outcome)
     (rw c.store.ensures.store at c.vector_into.ensures.missing) c.vector_into.ensures.control

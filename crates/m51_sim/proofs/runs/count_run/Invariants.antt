@@ -1,5 +1,5 @@
 use Rattle.m51_sim.proofs.Common.{◌≡◌}
-use Rattle.m51_sim.proofs.Counting.{IsCounting}
+use Rattle.m51_sim.proofs.Going.{IsCounting}
 use Rattle.m51_sim.proofs.runs.count_run.Given as goal
 
 abbrev pub invariant-loop-done : goal.invariant-loop-done

@@ -5,5 +5,4 @@ pub invariant_of-result : goal.invariant_of-result
 invariant_of-result c = c.blank_draft.ensures c.in_ok-chip.chip.cpu
 
 pub returns : goal.returns
-returns c = flat_started c.args.image c.args.script c.fill.result c.in_ok-chip.chip c.in_ok-memory.memory c.fill.ensures
-    c.in_ok-chip.ensures c.in_ok-memory.ensures
+returns c = flat_started _ _ _ _ _ c.fill.ensures c.in_ok-chip.ensures c.in_ok-memory.ensures

@@ -1,4 +1,4 @@
-use Rattle.m51_sim.proofs.Reporting.{is_flat_report}
+use Rattle.m51_sim.proofs.Beginning.{is_flat_report}
 use Rattle.m51_sim.proofs.flat_board.FlatBoard.run.Goals as goal
 
 pub returns-clause-report : goal.returns-clause-report

@@ -1,27 +1,24 @@
 -- Reads without a value and puts that are shut name cells that exist.
 use Rattle.m51_flat.proofs.Common.{◌≡◌, ℕ, zero, suc, ◌+◌, ◌*◌, ◌<◌, ◌≤◌, Bool, true, false, cond, Option, Some, None}
-use Rattle.m51_flat.proofs.Common.{Result, refl, sym, subst, arith, Cell, Missing, Put, Nothing, Byte, Bit, Xbyte, Seen}
+use Rattle.m51_flat.proofs.Common.{Result, refl, arith, Cell, Missing, Put, Nothing, Byte, Bit, Xbyte, Seen}
 use Rattle.m51_flat.proofs.Common.{Value, States, CellState, Holds, Absent, Fresh, answered, bits_seen, on_value}
 use Rattle.m51_flat.proofs.Common.{ram_cell, xram_cell, value_or_missing}
 use Rattle.std.specs.Prelude.{IfErr, IfSome}
 use Rattle.m51_flat.specs.declared.state.Seen.TheVariants.{Outside, Unset}
 use Rattle.m51_flat.specs.States.{bit_seen, byte_seen}
 use Rattle.m51_flat.specs.States.{first_barred, shut_of, xbyte_seen}
-use Rattle.m51_flat.specs.Causes.{IsMissing, IsBarred}
+use Rattle.m51_cells.specs.Cells.{IsDataCell}
+use Rattle.m51_flat.specs.Causes.{IsMissing, IsBarred, state_at}
 
 -- a read that has no value names a cell that exists and holds none
 abbrev pub Names : States → Seen → Type 0
 Names s r = IfErr (value_or_missing r) (IsMissing s)
 
-ram_names : (s : States) (n : ℕ) (c : CellState) → s.ram n ≡ c → n < 2048 → Names s (answered (ram_cell n) c)
-ram_names s n (Holds v) e h = tt
-ram_names s n Absent e h = ((tt, h), e)
-ram_names s n Fresh e h = ((tt, h), e)
-
-xram_names : (s : States) (n : ℕ) (c : CellState) → s.xram n ≡ c → n < 65536 → Names s (answered (xram_cell n) c)
-xram_names s n (Holds v) e h = tt
-xram_names s n Absent e h = ((tt, h), e)
-xram_names s n Fresh e h = ((tt, h), e)
+cell_names : (s : States) (cell : Cell) (c : CellState) → state_at s cell.space cell.at ≡ c → IsDataCell cell
+    → Names s (answered cell c)
+cell_names s cell (Holds v) e h = tt
+cell_names s cell Absent e h = (h, e)
+cell_names s cell Fresh e h = (h, e)
 
 more_names : (s : States) (first rest : Seen) → Names s first → Names s rest
     → Names s (on_value first (λ b. on_value rest (λ v. Value (b + 2 * v))))
@@ -34,22 +31,21 @@ more_names s (Unset c) rest h k = h
 bits_names : (s : States) (k n : ℕ) → n + k ≤ 2048 → Names s (bits_seen s k n)
 bits_names s zero n h = tt
 bits_names s (suc k) n h =
-    more_names s (bit_seen s n) (bits_seen s k (n + 1)) (ram_names s n (s.ram n) refl (omega arith))
+    more_names s (bit_seen s n) (bits_seen s k (n + 1)) (cell_names s (ram_cell n) (s.ram n) refl (tt, omega arith))
     (bits_names s k (n + 1) (omega arith))
 
 pub byte_missing : (s : States) (a : ℕ) (r : Result ℕ Missing) → a < 256 → r ≡ value_or_missing (byte_seen s a)
     → IfErr r (IsMissing s)
 unfolding byte_seen
-byte_missing s a r h e = subst (λ r. IfErr r (IsMissing s)) (sym e) (bits_names s 8 (8 * a) (omega arith))
+byte_missing s a r h e = rw e (bits_names s 8 (8 * a) (omega arith))
 
 pub bit_missing : (s : States) (n : ℕ) (r : Result ℕ Missing) → n < 128 → r ≡ value_or_missing (bit_seen s (256 + n))
     → IfErr r (IsMissing s)
-bit_missing s n r h e =
-    subst (λ r. IfErr r (IsMissing s)) (sym e) (ram_names s (256 + n) (s.ram (256 + n)) refl (omega arith))
+bit_missing s n r h e = rw e (cell_names s (ram_cell (256 + n)) (s.ram (256 + n)) refl (tt, omega arith))
 
 pub xbyte_missing : (s : States) (a : ℕ) (r : Result ℕ Missing) → a < 65536 → r ≡ value_or_missing (xbyte_seen s a)
     → IfErr r (IsMissing s)
-xbyte_missing s a r h e = subst (λ r. IfErr r (IsMissing s)) (sym e) (xram_names s a (s.xram a) refl h)
+xbyte_missing s a r h e = rw e (cell_names s (xram_cell a) (s.xram a) refl (tt, h))
 
 -- a put of cells that exist
 abbrev pub Fits : Put → Type 0
@@ -82,4 +78,4 @@ shut_is_barred barred (Xbyte address value) h =
 -- the lowest barred cell of a put exists
 pub shut_barred : (barred : Cell → Bool) (put : Put) (r : Option Cell) → Fits put → r ≡ shut_of barred put
     → IfSome r (IsBarred barred)
-shut_barred barred put r h e = subst (λ r. IfSome r (IsBarred barred)) (sym e) (shut_is_barred barred put h)
+shut_barred barred put r h e = rw e (shut_is_barred barred put h)

@@ -1,8 +1,9 @@
 -- What a device that stores a register keeps, and what is on the stack after a call.
-use Rattle.m51_flat.proofs.Common.{◌≡◌, ◌≢◌, ◌+◌, ◌-◌, ◌%◌, ◌≤◌, ℕ, Bool, true, false, cond, length, ap, sym, ◌∙◌, refl}
-use Rattle.m51_flat.proofs.Common.{Cpu, Effect, bit_of, parity_of, bit_at, acc, psw, sp, HasParity}
+use Rattle.m51_flat.proofs.Common.{◌≡◌, ◌≢◌, ◌+◌, ◌-◌, ◌%◌, ◌≤◌, ℕ, Bool, false, length, sym, ◌∙◌, refl}
+use Rattle.m51_flat.proofs.Common.{Cpu, Effect, acc, psw, sp, HasParity}
 use Rattle.std.proofs.Common.{slice_set, length-set}
-use Rattle.std.proofs.Common.{lit≤}
+use Rattle.std.proofs.Common.{lit≤, arith}
+use Rattle.std.proofs.lemmas.Bool.{cond_both}
 use Rattle.std.specs.Prelude.{◌||◌}
 use Rattle.m51_flat.specs.Sfr.{has_register, latch, with_bit, with_flag, with_latch, with_parity}
 use Rattle.m51_flat.specs.Sfr.{with_sfr}
@@ -16,7 +17,7 @@ use Rattle.m51_flat.proofs.RegisterLaws.{apart, other}
 
 same_parity : (old new : Cpu) → latch new psw ≡ latch old psw → latch new acc ≡ latch old acc → HasParity old
     → HasParity new
-same_parity old new p a h = ap (λ n. bit_at n 0) p ∙ h ∙ ap (λ n. bit_of (parity_of n)) (sym a)
+same_parity old new p a h = rw (p, a) h
 
 keeps_itself : (a : ℕ) (cpu : Cpu) → length cpu.regs ≡ 128 → KeepsTheRest a cpu cpu
 keeps_itself a cpu len = record {
@@ -38,23 +39,18 @@ keeps_others a v cpu len low =
       parity = λ p q h. same_parity cpu new (far psw (lit≤ tt) (λ e. p (sym e))) (far acc (lit≤ tt) (λ e. q (sym e))) h;
     }
 
-either : (a : ℕ) (b : Bool) (old x y : Cpu) → KeepsTheRest a old x → KeepsTheRest a old y
-    → KeepsTheRest a old (cond b x y)
-either a true old x y hx hy = hx
-either a false old x y hx hy = hy
-
 pub stores_keep_the_rest : StoresKeepTheRest
 unfolding with_latch
 stores_keep_the_rest cpu a v len low =
-    either a (has_register a) cpu _ cpu (keeps_others a v cpu len low) (keeps_itself a cpu len)
+    cond_both (has_register a) _ cpu (KeepsTheRest a cpu)
+    (λ yes. keeps_others a v cpu len low) (λ no. keeps_itself a cpu len)
 
 pub flags_keep_the_rest : FlagsKeepTheRest
 unfolding with_flag
 flags_keep_the_rest cpu a k b len low = stores_keep_the_rest cpu a (with_bit (latch cpu a) k b) len low
 
 held_on : (h : Bool) → (h || false || false) ≡ h
-held_on true = refl
-held_on false = refl
+held_on h = grind arith
 
 sp_control : (v : ℕ) (e : Effect) → SameControl e.cpu (with_sfr sp v e).cpu
 unfolding with_sfr has_register

@@ -6,7 +6,6 @@ use Rattle.m51_flat.proofs.Common.{JumpIndirect, CallTo, CallNear, Return, Reads
 use Rattle.m51_flat.proofs.Common.{plan, Always}
 use Rattle.std.proofs.lemmas.Bool.{cond_both, ltb-true}
 use Rattle.std.specs.Prelude.{nat_lt, IfSome}
-use Rattle.m51_alu.specs.declared.sum.Sum.{Sum}
 use Rattle.m51_isa.specs.declared.instr.Instr.TheVariants.{Nop}
 use Rattle.m51_isa.specs.declared.instr.Written.{Written}
 use Rattle.m51_isa.specs.declared.instr.Written.TheVariants.{Nothing, Direct as DirectByte, Bit, BitIfSet}
@@ -80,12 +79,16 @@ quiet true h = absurd h
 
 -- a test beside one that holds, or that does not
 beside_true : (a c : Bool) → c ≡ true → a ≡ (a && c)
-beside_true true c e = sym e
-beside_true false c e = refl
+beside_true a c e = grind arith
 
 beside_false : (a c : Bool) → c ≡ false → false ≡ (a && c)
-beside_false true c e = sym e
-beside_false false c e = refl
+beside_false a c e = grind arith
+
+-- what holds of three effects holds of the one that tests choose
+pub one_of : (P : Effect → Type 0) (b c : Bool) (x y z : Effect) → P x → P y → P z → P (cond b x (cond c y z))
+one_of P true c x y z hx hy hz = hx
+one_of P false true x y z hx hy hz = hy
+one_of P false false x y z hx hy hz = hz
 
 -- An action that is no call, return or computed jump may go where it goes; PUSH and POP write SP beside their operand.
 abbrev pub MayGo : (ℕ → Bool) → ℕ → (ℕ → Type 0) → Action → Type 0
@@ -138,10 +141,6 @@ module _ (watched : ℕ → Bool) (P Q : Bool → Effect → Type 0) (n : ℕ) (
     unfolding with_carry
     carry_kept c e h = plain _ _ e k.apart.1 h
 
-    sum_kept : (t : Sum) (e : Effect) → P false e → P false (with_sum t e)
-    unfolding with_sum
-    sum_kept t e h = plain _ _ _ k.apart.0 (plain _ _ e k.apart.1 h)
-
     pair_kept : (t : ℕ × ℕ × Bool) (e : Effect) → P false e → P false (with_pair t e)
     unfolding with_pair
     pair_kept t e h = plain _ _ _ k.apart.0 (plain _ _ _ k.apart.2 (plain _ _ e k.apart.1 h))
@@ -149,14 +148,6 @@ module _ (watched : ℕ → Bool) (P Q : Bool → Effect → Type 0) (n : ℕ) (
     dptr_kept : (word : ℕ) (e : Effect) → P false e → P false (with_dptr word e)
     unfolding with_dptr
     dptr_kept word e h = plain _ _ _ k.apart.4 (plain _ _ e k.apart.3 h)
-
-    turn_kept : (by : _) (e : Effect) → P false e → P false (with_turn by e)
-    unfolding with_turn
-    turn_kept by e h = plain _ _ _ k.apart.0 (carry_kept _ e h)
-
-    code_kept : (image : List ℕ) (e : Effect) (base : _) → P false e → P false (code_loaded image e base)
-    unfolding code_loaded
-    code_kept image e base h = plain _ _ e k.apart.0 h
 
     -- where the operand lies, and what its write keeps
     placed : (w : Bool) (at : Location) (v : ℕ) (e : Effect) → location_watched at ≡ w → P false e
@@ -198,102 +189,6 @@ module _ (watched : ℕ → Bool) (P Q : Bool → Effect → Type 0) (n : ℕ) (
     branched_kept w true rel e j h = k.branch w rel e j h
     branched_kept w false rel e j h = k.ends w e h
 
-    assigned_kept : (ext : Pins) (e : Effect) (addressing : Addressing) (from : _) → P false e
-        → Gives (place_watched e.cpu addressing) (assigned ext e addressing from)
-    unfolding assigned
-    assigned_kept ext e addressing from h =
-        located e.cpu addressing _
-        (λ at m. gives_then _ (operand_value e.cpu ext from) _ (λ v. k.ends _ _ (placed _ at v e m h)))
-
-    summed_kept : (ext : Pins) (e : Effect) (op : _) (from : _) → P false e → Gives false (summed ext e op from)
-    unfolding summed
-    summed_kept ext e op from h = gives_then _ (operand_value e.cpu ext from) _ (λ v. k.ends _ _ (sum_kept _ e h))
-
-    combined_kept : (ext : Pins) (e : Effect) (op : _) (addressing : Addressing) (from : _) → P false e
-        → Gives (place_watched e.cpu addressing) (combined ext e op addressing from)
-    unfolding combined
-    combined_kept ext e op addressing from h =
-        located e.cpu addressing _
-        (λ at m. gives_then _ (latch_at e.cpu at) _
-        (λ v. gives_then _ (operand_value e.cpu ext from) _ (λ w. k.ends _ _ (placed _ at _ e m h))))
-
-    changed_kept : (e : Effect) (count : _) (addressing : Addressing) → P false e
-        → Gives (place_watched e.cpu addressing) (changed e count addressing)
-    unfolding changed
-    changed_kept e count addressing h =
-        located e.cpu addressing _ (λ at m. gives_then _ (latch_at e.cpu at) _ (λ v. k.ends _ _ (placed _ at _ e m h)))
-
-    exchanged_kept : (ext : Pins) (e : Effect) (addressing : Addressing) → P false e
-        → Gives (place_watched e.cpu addressing) (exchanged ext e addressing)
-    unfolding exchanged
-    exchanged_kept ext e addressing h =
-        located e.cpu addressing _
-        (λ at m. gives_then _ (found_at e.cpu ext at) _
-        (λ v. k.ends _ _ (placed _ at _ _ m (plain acc v e k.apart.0 h))))
-
-    digits_exchanged_kept : (ext : Pins) (e : Effect) (addressing : Addressing) → P false e
-        → Gives (place_watched e.cpu addressing) (digits_exchanged ext e addressing)
-    unfolding digits_exchanged
-    digits_exchanged_kept ext e addressing h =
-        located e.cpu addressing _
-        (λ at m. gives_then _ (found_at e.cpu ext at) _
-        (λ v. k.ends _ _ (placed _ at _ _ m (plain acc _ e k.apart.0 h))))
-
-    external_loaded_kept : (e : Effect) (from : _) → P false e → Gives false (external_loaded e from)
-    unfolding external_loaded
-    external_loaded_kept e from h =
-        gives_then _ (external_address e.cpu from) _ (λ a v. k.ends _ _ (plain acc v e k.apart.0 h))
-
-    external_stored_kept : (e : Effect) (to : _) → P false e → Gives false (external_stored e to)
-    unfolding external_stored
-    external_stored_kept e to h =
-        gives_then _ (external_address e.cpu to) (λ a. Ends (record e { first = Xbyte a (latch e.cpu acc) }))
-        (λ a. k.ends _ _ (k.memory _ e h))
-
-    pushed_kept : (ext : Pins) (e : Effect) (addressing : Addressing) → watched sp ≡ false → P false e
-        → Gives false (pushed ext e addressing)
-    unfolding pushed
-    pushed_kept ext e addressing p h =
-        let top = (latch e.cpu sp + 1) % 256 in
-        let raised = with_sfr sp top e in
-        gives_then _ (operand_value raised.cpu ext (At addressing)) (λ v. Ends (with_location (Ram top) v raised))
-        (λ v. k.ends _ _ (placed _ (Ram top) v raised refl (plain sp top e p h)))
-
-    popped_kept : (e : Effect) (addressing : Addressing) → watched sp ≡ false → P false e
-        → Gives (place_watched e.cpu addressing) (popped e addressing)
-    unfolding popped
-    popped_kept e addressing p h =
-        located e.cpu addressing _ (λ at m v. k.ends _ _ (placed _ at v _ m (plain sp _ e p h)))
-
-    carry_merged_kept : (ext : Pins) (e : Effect) (by : _) (bit : ℕ) → P false e
-        → Gives false (carry_merged ext e by bit)
-    unfolding carry_merged
-    carry_merged_kept ext e by bit h = gives_then _ (bit_found_at e.cpu ext bit) _ (λ v. k.ends _ _ (carry_kept _ e h))
-
-    bit_flipped_kept : (e : Effect) (bit : ℕ) → P false e → Gives (watched (byte_of_bit bit)) (bit_flipped e bit)
-    unfolding bit_flipped
-    bit_flipped_kept e bit h = gives_then _ (bit_latch_at e.cpu bit) _ (λ v. k.ends _ _ (bit_kept _ bit _ e refl h))
-
-    branched_on_bit_kept : (ext : Pins) (e : Effect) (test : _) (bit rel : ℕ) → G (relative n rel) → P false e
-        → Gives false (branched_on_bit ext e test bit rel)
-    unfolding branched_on_bit
-    branched_on_bit_kept ext e test bit rel j h =
-        gives_then _ (bit_found_at e.cpu ext bit) _ (λ v. branched_kept _ _ rel e j h)
-
-    compared_kept : (ext : Pins) (e : Effect) (first second : _) (rel : ℕ) → G (relative n rel) → P false e
-        → Gives false (compared ext e first second rel)
-    unfolding compared
-    compared_kept ext e first second rel j h =
-        gives_then _ (operand_value e.cpu ext first) _
-        (λ a. gives_then _ (operand_value e.cpu ext second) _ (λ b. branched_kept _ _ rel _ j (carry_kept _ e h)))
-
-    counted_down_kept : (e : Effect) (addressing : Addressing) (rel : ℕ) → G (relative n rel) → P false e
-        → Gives (place_watched e.cpu addressing) (counted_down e addressing rel)
-    unfolding counted_down
-    counted_down_kept e addressing rel j h =
-        located e.cpu addressing _
-        (λ at m. gives_then _ (latch_at e.cpu at) _ (λ v. branched_kept _ _ rel _ j (placed _ at _ e m h)))
-
     -- a bit of internal RAM is none of the registers; of a register it is written where it is 1
     tested_kept : (e : Effect) (bit rel : ℕ) → G (relative n rel) → P false e
         → Gives (watched (byte_of_bit bit) && flag e.cpu (byte_of_bit bit) (bit % 8)) (tested_and_cleared e bit rel)
@@ -317,36 +212,68 @@ module _ (watched : ℕ → Bool) (P Q : Bool → Effect → Type 0) (n : ℕ) (
     pub walk : (image : List ℕ) (ext : Pins) (e : Effect) (action : Action) → e.cpu.pc ≡ n → MayGo watched n G action
         → P false e
         → Gives (is_written watched e.cpu (written_by action)) (plan image ext e action)
+    unfolding assigned summed combined changed exchanged digits_exchanged external_loaded external_stored pushed popped
+        carry_merged bit_flipped branched_on_bit compared counted_down with_sum with_turn code_loaded
     walk image ext e Skip here m h = k.ends _ _ h
-    walk image ext e (Assign addressing from) here m h = assigned_kept ext e addressing from h
-    walk image ext e (Accumulate op from) here m h = summed_kept ext e op from h
-    walk image ext e (Combine op addressing from) here m h = combined_kept ext e op addressing from h
-    walk image ext e (Change count addressing) here m h = changed_kept e count addressing h
-    walk image ext e (Turn by) here m h = k.ends _ _ (turn_kept by e h)
+    walk image ext e (Assign addressing from) here m h =
+        located e.cpu addressing _
+        (λ at m. gives_then _ (operand_value e.cpu ext from) _ (λ v. k.ends _ _ (placed _ at v e m h)))
+    walk image ext e (Accumulate op from) here m h =
+        gives_then _ (operand_value e.cpu ext from) _
+        (λ v. k.ends _ _ (plain _ _ _ k.apart.0 (plain _ _ e k.apart.1 h)))
+    walk image ext e (Combine op addressing from) here m h =
+        located e.cpu addressing _
+        (λ at m. gives_then _ (latch_at e.cpu at) _
+        (λ v. gives_then _ (operand_value e.cpu ext from) _ (λ w. k.ends _ _ (placed _ at _ e m h))))
+    walk image ext e (Change count addressing) here m h =
+        located e.cpu addressing _ (λ at m. gives_then _ (latch_at e.cpu at) _ (λ v. k.ends _ _ (placed _ at _ e m h)))
+    walk image ext e (Turn by) here m h = k.ends _ _ (plain _ _ _ k.apart.0 (carry_kept _ e h))
     walk image ext e Multiply here m h = k.ends _ _ (pair_kept _ e h)
     walk image ext e Divide here m h = k.ends _ _ (pair_kept _ e h)
-    walk image ext e (Exchange addressing) here m h = exchanged_kept ext e addressing h
-    walk image ext e (ExchangeDigit addressing) here m h = digits_exchanged_kept ext e addressing h
+    walk image ext e (Exchange addressing) here m h =
+        located e.cpu addressing _
+        (λ at m. gives_then _ (found_at e.cpu ext at) _
+        (λ v. k.ends _ _ (placed _ at _ _ m (plain acc v e k.apart.0 h))))
+    walk image ext e (ExchangeDigit addressing) here m h =
+        located e.cpu addressing _
+        (λ at m. gives_then _ (found_at e.cpu ext at) _
+        (λ v. k.ends _ _ (placed _ at _ _ m (plain acc _ e k.apart.0 h))))
     walk image ext e (LoadDptr word) here m h = k.ends _ _ (dptr_kept _ e h)
     walk image ext e AdvanceDptr here m h = k.ends _ _ (dptr_kept _ e h)
-    walk image ext e (LoadExternal from) here m h = external_loaded_kept e from h
-    walk image ext e (StoreExternal to) here m h = external_stored_kept e to h
-    walk image ext e (LoadCode base) here m h = k.ends _ _ (code_kept image e base h)
-    walk image ext e (Push addressing) here m h = pushed_kept ext e addressing (quiet (watched sp) m) h
-    walk image ext e (Pop addressing) here m h = popped_kept e addressing (quiet (watched sp) m) h
+    walk image ext e (LoadExternal from) here m h =
+        gives_then _ (external_address e.cpu from) _ (λ a v. k.ends _ _ (plain acc v e k.apart.0 h))
+    walk image ext e (StoreExternal to) here m h =
+        gives_then _ (external_address e.cpu to) (λ a. Ends (record e { first = Xbyte a (latch e.cpu acc) }))
+        (λ a. k.ends _ _ (k.memory _ e h))
+    walk image ext e (LoadCode base) here m h = k.ends _ _ (plain _ _ e k.apart.0 h)
+    walk image ext e (Push addressing) here m h =
+        let top = (latch e.cpu sp + 1) % 256 in
+        let raised = with_sfr sp top e in
+        gives_then _ (operand_value raised.cpu ext (At addressing)) (λ v. Ends (with_location (Ram top) v raised))
+        (λ v. k.ends _ _ (placed _ (Ram top) v raised refl (plain sp top e (quiet (watched sp) m) h)))
+    walk image ext e (Pop addressing) here m h =
+        located e.cpu addressing _
+        (λ at w v. k.ends _ _ (placed _ at v _ w (plain sp _ e (quiet (watched sp) m) h)))
     walk image ext e (ChangeCarry by) here m h = k.ends _ _ (carry_kept _ e h)
-    walk image ext e (CarryWith by bit) here m h = carry_merged_kept ext e by bit h
+    walk image ext e (CarryWith by bit) here m h =
+        gives_then _ (bit_found_at e.cpu ext bit) _ (λ v. k.ends _ _ (carry_kept _ e h))
     walk image ext e (StoreBit from bit) here m h = k.ends _ _ (bit_kept _ bit _ e refl h)
-    walk image ext e (FlipBit bit) here m h = bit_flipped_kept e bit h
+    walk image ext e (FlipBit bit) here m h =
+        gives_then _ (bit_latch_at e.cpu bit) _ (λ v. k.ends _ _ (bit_kept _ bit _ e refl h))
     walk image ext e (JumpTo target) here m h = k.jump _ _ e m h
     walk image ext e (JumpNear address) here m h = k.jump _ _ e (subst (λ next. G (near next address)) (sym here) m) h
     walk image ext e (JumpBy rel) here m h = branched_kept _ true rel e m h
     walk image ext e JumpIndirect here m h = absurd m
     walk image ext e (BranchOn condition rel) here m h = branched_kept _ _ rel e m h
-    walk image ext e (BranchOnBit test bit rel) here m h = branched_on_bit_kept ext e test bit rel m h
+    walk image ext e (BranchOnBit test bit rel) here m h =
+        gives_then _ (bit_found_at e.cpu ext bit) _ (λ v. branched_kept _ _ rel e m h)
     walk image ext e (TestAndClear bit rel) here m h = tested_kept e bit rel m h
-    walk image ext e (Compare first second rel) here m h = compared_kept ext e first second rel m h
-    walk image ext e (CountDown addressing rel) here m h = counted_down_kept e addressing rel m h
+    walk image ext e (Compare first second rel) here m h =
+        gives_then _ (operand_value e.cpu ext first) _
+        (λ a. gives_then _ (operand_value e.cpu ext second) _ (λ b. branched_kept _ _ rel _ m (carry_kept _ e h)))
+    walk image ext e (CountDown addressing rel) here m h =
+        located e.cpu addressing _
+        (λ at w. gives_then _ (latch_at e.cpu at) _ (λ v. branched_kept _ _ rel _ m (placed _ at _ e w h)))
     walk image ext e (CallTo target) here m h = absurd m
     walk image ext e (CallNear address) here m h = absurd m
     walk image ext e (Return from) here m h = absurd m

@@ -13,8 +13,7 @@ pub same_states : (s t : States) → ((n : ℕ) → s.ram n ≡ t.ram n) → ((n
 same_states s t p q i = record { ram = λ n. p n i; xram = λ n. q n i }
 
 same_inside : (inside : Bool) (c d : CellState) → (inside ≡ true → c ≡ d) → cond inside c Absent ≡ cond inside d Absent
-same_inside true c d h = h refl
-same_inside false c d h = refl
+same_inside inside c d h = grind arith
 
 -- bytes that are all the fill make the cells that are filled
 pub cells_filled : (m : FlatBytes) (fill : ℕ) → ((n : ℕ) → n < 256 → slice_index m.ram n ≡ fill)

@@ -1,23 +1,21 @@
 -- Each action ends as its flow says.
 use Rattle.m51_flat.proofs.Common.{◌≡◌, ◌≢◌, ◌+◌, ◌*◌, ◌%◌, ◌<◌, ◌∙◌, arith, lit<, length, get_or-set_same}
-use Rattle.m51_flat.proofs.Common.{get_or-set_other, ℕ, Bool, true, false, cond, List, refl, subst, ◌==◌, ◌&&◌}
+use Rattle.m51_flat.proofs.Common.{get_or-set_other, ℕ, Bool, true, false, List, refl, subst, ◌==◌, ◌&&◌}
 use Rattle.m51_flat.proofs.Common.{slice_index, slice_set, Instr, parity_of, Cpu, Pins, Effect, ReturnFrom, Subroutine}
 use Rattle.m51_flat.proofs.Common.{Interrupt, Action, JumpIndirect, CallTo, CallNear, Return, sbuf, sp, action_of, plan}
 use Rattle.m51_flat.proofs.Common.{plan_of, started, Always}
-use Rattle.std.proofs.Common.{◌⊎◌, inl, inr}
+use Rattle.std.proofs.Common.{◌⊎◌, inr, Option, Some, None}
 use Rattle.m51_isa.specs.declared.instr.Flow.{Flow}
 use Rattle.m51_isa.specs.declared.instr.Flow.TheVariants.{Next as FlowNext, Branch, Call as FlowCall, Ret as FlowRet}
 use Rattle.m51_isa.specs.declared.instr.Flow.TheVariants.{Reti as FlowReti}
 use Rattle.m51_isa.specs.declared.instr.Instr.TheVariants.{Nop}
 use Rattle.m51_isa.specs.Table.{flow_of}
 use Rattle.m51_flat.specs.declared.state.Transfer.TheVariants.{Next, Jump}
-use Rattle.m51_flat.specs.declared.actions.Action.TheVariants.{JumpTo, JumpNear, JumpBy, BranchOn}
-use Rattle.m51_flat.specs.declared.actions.Action.TheVariants.{BranchOnBit, TestAndClear, Compare, CountDown}
 use Rattle.m51_flat.specs.Sfr.{has_register, latch, with_bit, with_parity, with_sfr}
 use Rattle.m51_flat.specs.Parts.{jumped}
 use Rattle.m51_flat.specs.Transfers.{called, returned, stacked}
 use Rattle.m51_flat.specs.Laws.{FlowIsKept, Follows, FallsThrough, IsCall, next_address}
-use Rattle.m51_flat.proofs.EveryAction.{IsKept, walk}
+use Rattle.m51_flat.proofs.EveryAction.{IsKept, one_of, target_by, walk}
 
 -- control continues with the next instruction, or jumps by a branch
 abbrev Goes : Flow → ℕ → Effect → Type 0
@@ -29,24 +27,14 @@ MayJump Branch = Unit {0}
 MayJump _ = ⊥
 
 goes_on : (flow : Flow) (n : ℕ) (e : Effect) → FallsThrough n e → Goes flow n e
-goes_on Branch n e h = inl h
-goes_on FlowNext n e h = h
-goes_on _ n e h = h
+goes_on flow n e h = grind arith
 
 goes_jumped : (flow : Flow) (n to : ℕ) (e : Effect) → MayJump flow → Goes flow n (jumped to Jump e)
-goes_jumped Branch n to e j = inr refl
-goes_jumped FlowNext n to e j = absurd j
-goes_jumped _ n to e j = absurd j
-
-pick : (n : ℕ) (b c : Bool) (x y z : Effect) → FallsThrough n x → FallsThrough n y → FallsThrough n z
-    → FallsThrough n (cond b x (cond c y z))
-pick n true c x y z hx hy hz = hx
-pick n false true x y z hx hy hz = hy
-pick n false false x y z hx hy hz = hz
+goes_jumped flow n to e j = grind arith
 
 sfr_next : (n : ℕ) (a v : ℕ) (e : Effect) → FallsThrough n e → FallsThrough n (with_sfr a v e)
 unfolding with_sfr
-sfr_next n a v e h = pick n (a == sbuf) (has_register a) _ _ e h h h
+sfr_next n a v e h = one_of (FallsThrough n) (a == sbuf) (has_register a) _ _ e h h h
 
 goes_kept : (flow : Flow) (n : ℕ)
     → IsKept (λ _. false) (λ _ e. FallsThrough n e) (λ _ e. Goes flow n e) n (λ _. MayJump flow)
@@ -116,21 +104,17 @@ returned_returns next e Interrupt len = λ high low.
           ∙ sp_written ((latch e.cpu sp + 254) % 256) e len;
     }
 
--- the flow of an action
+-- the flow of an action: a branch where there is an address to which it may jump
+abbrev flow_to : Option ℕ → Flow
+flow_to (Some target) = Branch
+flow_to None = FlowNext
+
 abbrev pub action_flow : Action → Flow
-action_flow (JumpTo target) = Branch
-action_flow (JumpNear address) = Branch
-action_flow (JumpBy rel) = Branch
 action_flow JumpIndirect = Branch
-action_flow (BranchOn condition rel) = Branch
-action_flow (BranchOnBit test bit rel) = Branch
-action_flow (TestAndClear bit rel) = Branch
-action_flow (Compare first second rel) = Branch
-action_flow (CountDown addressing rel) = Branch
 action_flow (CallTo target) = FlowCall
 action_flow (CallNear address) = FlowCall
 action_flow (Return from) = returns_by from
-action_flow _ = FlowNext
+action_flow action = flow_to (target_by action 0)
 
 plan_flow : (image : List ℕ) (ext : Pins) (e : Effect) (action : Action) → length e.cpu.regs ≡ 128 → e.transfer ≡ Next
     → Always (λ end. Follows (action_flow action) e.cpu.pc (latch e.cpu sp) end) (plan image ext e action)

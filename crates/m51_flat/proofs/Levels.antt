@@ -1,21 +1,18 @@
 -- Every action but the return from an interrupt keeps both levels in progress, and holds interrupts off where it writes
 -- IE or IP.
-use Rattle.m51_flat.proofs.Common.{◌≡◌, ℕ, Bool, true, false, cond, List, refl, subst, sym, ap, ◌∙◌, ◌<◌, arith, ◌==◌}
+use Rattle.m51_flat.proofs.Common.{◌≡◌, ℕ, Bool, true, false, List, refl, subst, sym, ap, ◌∙◌, ◌<◌, arith, ◌==◌}
 use Rattle.m51_flat.proofs.Common.{◌&&◌, Cpu, Pins, Effect, ReturnFrom, Subroutine, Interrupt, Action, JumpIndirect}
 use Rattle.m51_flat.proofs.Common.{CallTo, CallNear, Return, Reads, sbuf, sp, action_of, plan, plan_of, started, Always}
 use Rattle.std.proofs.lemmas.Bool.{eqb-true, ne_eqb}
 use Rattle.std.specs.Prelude.{◌+◌, ◌%◌, ◌||◌}
-use Rattle.m51_isa.specs.declared.instr.Written.{Written}
-use Rattle.m51_isa.specs.Changes.{written_of}
 use Rattle.m51_flat.specs.Sfr.{flag, has_register, ie, ip, latch, with_sfr}
 use Rattle.m51_flat.specs.Transfers.{called, returned, stacked}
 use Rattle.m51_flat.specs.LevelLaws.{KeepsLevels, LevelsAreKept, LevelsFollow, holds_off, is_written, writes_ie_or_ip}
-use Rattle.m51_flat.proofs.EveryAction.{IsKept, same_written, walk, written_by}
+use Rattle.m51_flat.proofs.EveryAction.{IsKept, one_of, same_written, walk, written_by}
 use Rattle.m51_flat.proofs.Flows.{action_flow, returns_by, same_flow}
 
 same_held : (h b c : Bool) → (b || c) ≡ false → (h || b || c) ≡ h
-same_held true b c e = refl
-same_held false b c e = e
+same_held h b c e = grind arith
 
 -- one of the two registers is meant, or neither
 by_register : (X : Bool → Type 0) (b c : Bool) → (b ≡ true → X (true || c)) → (c ≡ true → X (b || true))
@@ -32,15 +29,10 @@ module _ (old : Cpu) where
   abbrev Keeps : Bool → Effect → Type 0
   Keeps w e = KeepsLevels w old e
 
-  pick : (w b c : Bool) (x y z : Effect) → Keeps w x → Keeps w y → Keeps w z → Keeps w (cond b x (cond c y z))
-  pick w true c x y z hx hy hz = hx
-  pick w false true x y z hx hy hz = hy
-  pick w false false x y z hx hy hz = hz
-
   plain_keeps : (w : Bool) (a v : ℕ) (e : Effect) → holds_off a ≡ false → Keeps w e → Keeps w (with_sfr a v e)
   unfolding with_sfr
   plain_keeps w a v e p h =
-      pick w (a == sbuf) (has_register a) _ _ e
+      one_of (Keeps w) (a == sbuf) (has_register a) _ _ e
       (record { low = h.low; high = h.high; held = h.held })
       (record { low = h.low; high = h.high; held = same_held e.cpu.held (a == ie) (a == ip) p ∙ h.held })
       h
@@ -102,22 +94,13 @@ module _ (old : Cpu) where
   plan_levels image ext e action h =
       walk holds_off Keeps Keeps e.cpu.pc (λ _. Unit {0}) (levels_kept e.cpu.pc) image ext e action refl tt h
 
--- what is written depends only on the registers
-same_writes : (cpu : Cpu) (pc : ℕ) (held : Bool) (w : Written)
-    → is_written holds_off (record cpu { pc = pc; held = held }) w ≡ is_written holds_off cpu w
-unfolding flag latch
-same_writes cpu pc held w = refl
-
+-- the levels of interrupts follow the flow, whatever an instruction reads
 pub levels_are_kept : LevelsAreKept
+unfolding flag latch
 levels_are_kept cpu instr image ext =
     let action = action_of instr in
-    let old : Cpu = (started cpu instr).cpu in
     let p : Reads Effect = plan_of cpu instr image ext in
-    let follows : Always (λ e. LevelsFollow (action_flow action) (is_written holds_off old (written_by action)) cpu e) p
-    = plan_levels cpu image ext (started cpu instr) action (record { low = refl; high = refl; held = refl }) in
-    let column : Always (λ e. LevelsFollow (action_flow action) (is_written holds_off old (written_of instr)) cpu e) p
-    = subst (λ w. Always (λ e. LevelsFollow (action_flow action) (is_written holds_off old w) cpu e) p)
-    (same_written instr) follows in
     subst (λ flow. Always (λ e. LevelsFollow flow (writes_ie_or_ip cpu instr) cpu e) p) (same_flow instr)
-    (subst (λ w. Always (λ e. LevelsFollow (action_flow action) w cpu e) p) (same_writes cpu _ false (written_of instr))
-    column)
+    (subst (λ w. Always (λ e. LevelsFollow (action_flow action) (is_written holds_off cpu w) cpu e) p)
+    (same_written instr)
+    (plan_levels cpu image ext (started cpu instr) action (record { low = refl; high = refl; held = refl })))

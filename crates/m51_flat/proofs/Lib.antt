@@ -1,11 +1,10 @@
 pub mod Common
-pub mod Readings
-pub mod Bytes
 pub mod Flat
 pub mod EveryAction
 pub mod Parity
 pub mod Outcomes
 pub mod Flows
+pub mod Readings
 pub mod BitLaws
 pub mod Causes
 pub mod Whole

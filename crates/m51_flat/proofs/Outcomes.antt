@@ -1,6 +1,6 @@
 -- From what holds of every plan to what holds of every outcome.
 use Rattle.m51_flat.proofs.Common.{◌≡◌, ℕ, Bool, true, false, cond, List, length, Option, Some, None, Result, Ok, Err}
-use Rattle.m51_flat.proofs.Common.{refl, ap, ◌∙◌, sym, subst, Cell, and_then, Instr, Cpu, Pins, Effect, Missing, States}
+use Rattle.m51_flat.proofs.Common.{refl, ap, Cell, and_then, Instr, Cpu, Pins, Effect, Missing, States}
 use Rattle.m51_flat.proofs.Common.{Reads, Ends, Read, CellMap, Agrees, access_seen, value_or_missing, sp, action_of}
 use Rattle.m51_flat.proofs.Common.{concluded, plan_of, started, unless_shut, Always, HasParity}
 use Rattle.m51_flat.specs.declared.state.Missing.TheVariants.{Outside as MissingOutside, Unset as MissingUnset}
@@ -90,31 +90,11 @@ pub reset_parity : HasParity reset_cpu
 unfolding latch has_register lib.Count.ones
 reset_parity = refl
 
--- the same of what a call answers, where it answers the outcome
-pub over_map : (r : Outcome) (m : CellMap) (cpu : Cpu) (s : States) (barred : Cell → Bool) (instr : Instr)
-    (image : List ℕ) (ext : Pins) → r ≡ instruction_outcome cpu s barred instr image ext → Agrees s m
-    → r ≡ outcome_over m cpu s barred instr image ext
-over_map r m cpu s barred instr image ext e g = e ∙ outcomes_agree m cpu s barred instr image ext g
-
-pub keeps_parity : (r : Outcome) (cpu : Cpu) (s : States) (barred : Cell → Bool) (instr : Instr) (image : List ℕ)
-    (ext : Pins) → r ≡ instruction_outcome cpu s barred instr image ext → length cpu.regs ≡ 128 → HasParity cpu
-    → IfDone r (λ e. HasParity e.cpu)
-keeps_parity r cpu s barred instr image ext e len h =
-    subst (λ r. IfDone r (λ e. HasParity e.cpu)) (sym e) (outcome_parity cpu s barred instr image ext len h)
-
-pub keeps_control : (r : Outcome) (cpu : Cpu) (s : States) (barred : Cell → Bool) (instr : Instr) (image : List ℕ)
-    (ext : Pins) → r ≡ instruction_outcome cpu s barred instr image ext → length cpu.regs ≡ 128
-    → IfDone r (λ e. Follows (flow_of instr) (next_address cpu instr) (latch cpu sp) e)
-keeps_control r cpu s barred instr image ext e len =
-    subst (λ r. IfDone r (λ e. Follows (flow_of instr) (next_address cpu instr) (latch cpu sp) e)) (sym e)
-    (outcome_control cpu s barred instr image ext len)
-
--- so are the levels in progress
-pub keeps_levels : (r : Outcome) (cpu : Cpu) (s : States) (barred : Cell → Bool) (instr : Instr) (image : List ℕ)
-    (ext : Pins) → r ≡ instruction_outcome cpu s barred instr image ext
-    → IfDone r (λ e. LevelsFollow (flow_of instr) (writes_ie_or_ip cpu instr) cpu e)
+-- so do the levels in progress
+pub outcome_levels : (cpu : Cpu) (s : States) (barred : Cell → Bool) (instr : Instr) (image : List ℕ) (ext : Pins)
+    → IfDone (instruction_outcome cpu s barred instr image ext)
+    (λ e. LevelsFollow (flow_of instr) (writes_ie_or_ip cpu instr) cpu e)
 unfolding instruction_outcome
-keeps_levels r cpu s barred instr image ext e =
-    subst (λ r. IfDone r (λ e. LevelsFollow (flow_of instr) (writes_ie_or_ip cpu instr) cpu e)) (sym e)
-    (always_done (λ e. LevelsFollow (flow_of instr) (writes_ie_or_ip cpu instr) cpu e) barred s
-    (plan_of cpu instr image ext) (levels_are_kept cpu instr image ext))
+outcome_levels cpu s barred instr image ext =
+    always_done (λ e. LevelsFollow (flow_of instr) (writes_ie_or_ip cpu instr) cpu e) barred s
+    (plan_of cpu instr image ext) (levels_are_kept cpu instr image ext)

@@ -1,5 +1,5 @@
 -- Every write of a register leaves bit 0 of PSW the parity of ACC, and so does every action.
-use Rattle.m51_flat.proofs.Common.{◌≡◌, ◌≢◌, ℕ, ◌+◌, ◌-◌, ◌%◌, ◌<◌, Bool, true, false, cond, List, length, refl, sym}
+use Rattle.m51_flat.proofs.Common.{◌≡◌, ◌≢◌, ℕ, ◌+◌, ◌-◌, ◌%◌, ◌<◌, Bool, false, List, length, refl, sym}
 use Rattle.m51_flat.proofs.Common.{ap, ◌∙◌, arith, lit<, get_or-set_same, get_or-set_other, slice_index, slice_set}
 use Rattle.m51_flat.proofs.Common.{◌==◌, bit_at, bit_of, parity_of, Cpu, Pins, Effect, ReturnFrom, Subroutine}
 use Rattle.m51_flat.proofs.Common.{Interrupt, Action, JumpIndirect, CallTo, CallNear, Return, Reads, acc, psw, sbuf, sp}
@@ -7,8 +7,8 @@ use Rattle.m51_flat.proofs.Common.{plan, Always}
 use Rattle.std.proofs.Common.{length-set}
 use Rattle.m51_flat.specs.Sfr.{has_register, latch, with_bit, with_parity, with_sfr}
 use Rattle.m51_flat.specs.Transfers.{called, returned, stacked}
-use Rattle.m51_flat.proofs.Bytes.{bit_same}
-use Rattle.m51_flat.proofs.EveryAction.{IsKept, walk}
+use Rattle.m51_flat.proofs.BitLaws.{bit_same}
+use Rattle.m51_flat.proofs.EveryAction.{IsKept, one_of, walk}
 
 -- there are 128 registers, and bit 0 of PSW is the parity of ACC
 pub record IsRight (cpu : Cpu) : Type 0 where
@@ -37,29 +37,25 @@ parity_right cpu regs len e =
           ∙ ap (λ n. bit_of (parity_of n)) (sym at96);
     }
 
-pick : (b c : Bool) (x y z : Effect) → IsRight x.cpu → IsRight y.cpu → IsRight z.cpu
-    → IsRight (cond b x (cond c y z)).cpu
-pick true c x y z hx hy hz = hx
-pick false true x y z hx hy hz = hy
-pick false false x y z hx hy hz = hz
-
 pub sfr_right : (a v : ℕ) (e : Effect) → IsRight e.cpu → IsRight (with_sfr a v e).cpu
 unfolding with_sfr
 sfr_right a v e r =
-    pick (a == sbuf) (has_register a) _ _ e r
+    one_of (λ e. IsRight e.cpu) (a == sbuf) (has_register a) _ _ e r
     (parity_right _ (slice_set e.cpu.regs (a - 128) v) (length-set e.cpu.regs (a - 128) v ∙ r.len) refl) r
+
+-- only the registers count
+same_right : {old : Cpu} {pc : ℕ} {low high held : Bool} → IsRight old
+    → IsRight (record old { pc = pc; low = low; high = high; held = held })
+same_right r = record { len = r.len; parity = r.parity }
 
 pub called_right : (e : Effect) (target : ℕ) → IsRight e.cpu → IsRight (called e target).cpu
 unfolding called stacked
-called_right e target r = let s = sfr_right sp ((latch e.cpu sp + 2) % 256) e r in
-    record { len = s.len; parity = s.parity }
+called_right e target r = same_right (sfr_right sp ((latch e.cpu sp + 2) % 256) e r)
 
 returned_right : (e : Effect) (from : ReturnFrom) → IsRight e.cpu → AlwaysRight (returned e from)
 unfolding returned
-returned_right e Interrupt r = λ high low. let s = sfr_right sp ((latch e.cpu sp + 254) % 256) e r in
-    record { len = s.len; parity = s.parity }
-returned_right e Subroutine r = λ high low. let s = sfr_right sp ((latch e.cpu sp + 254) % 256) e r in
-    record { len = s.len; parity = s.parity }
+returned_right e Interrupt r high low = same_right (sfr_right sp ((latch e.cpu sp + 254) % 256) e r)
+returned_right e Subroutine r high low = same_right (sfr_right sp ((latch e.cpu sp + 254) % 256) e r)
 
 abbrev Right : Bool → Effect → Type 0
 Right _ e = IsRight e.cpu
@@ -72,13 +68,13 @@ right_kept n = record {
   register = sfr_right;
   memory = λ put e r. r;
   ends = λ b e r. r;
-  jump = λ b to e j r. record { len = r.len; parity = r.parity };
-  branch = λ b rel e j r. record { len = r.len; parity = r.parity };
+  jump = λ b to e j r. same_right r;
+  branch = λ b rel e j r. same_right r;
 }
 
 pub plan_right : (image : List ℕ) (ext : Pins) (e : Effect) (action : Action) → IsRight e.cpu
     → AlwaysRight (plan image ext e action)
-plan_right image ext e JumpIndirect r = record { len = r.len; parity = r.parity }
+plan_right image ext e JumpIndirect r = same_right r
 plan_right image ext e (CallTo target) r = called_right e _ r
 plan_right image ext e (CallNear address) r = called_right e _ r
 plan_right image ext e (Return from) r = returned_right e from r

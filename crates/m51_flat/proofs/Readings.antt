@@ -1,10 +1,9 @@
 -- The two readings of a plan, and plans one after another.
-use Rattle.m51_flat.proofs.Common.{◌≡◌, ℕ, zero, suc, ◌+◌, ◌*◌, List, ◌∷◌, Result, Ok, Err, refl, sym, ap, ◌∙◌, Seen}
-use Rattle.m51_flat.proofs.Common.{Value, Cell, and_then, Missing, States, CellState, Holds, Absent, Fresh, answered}
+use Rattle.m51_flat.proofs.Common.{◌≡◌, ℕ, zero, suc, ◌+◌, ◌*◌, List, Result, refl, Seen}
+use Rattle.m51_flat.proofs.Common.{Value, Cell, and_then, Missing, States, CellState, Holds, answered}
 use Rattle.m51_flat.proofs.Common.{on_value, bits_seen, ram_cell, xram_cell, Access, Reads, Ends, Read}
 use Rattle.m51_flat.proofs.Common.{value_or_missing, access_seen, CellMap, result_over, accesses_over, first_missing}
-use Rattle.m51_flat.proofs.Common.{Agrees}
-use Rattle.m51_flat.specs.declared.state.Seen.TheVariants.{Outside, Unset}
+use Rattle.m51_flat.proofs.Common.{Agrees, arith}
 use Rattle.m51_flat.specs.States.{byte_seen}
 use Rattle.m51_flat.specs.Reads.{ByteAt, BitAt, XbyteAt, then_read}
 use Rattle.m51_flat.specs.Reads.{answer, bits_in, access_value}
@@ -12,8 +11,7 @@ use Rattle.m51_flat.specs.Reads.{goes_on, up_to_missing}
 
 bind_step : {A B : Type 0} (r : Result ℕ Missing) (f : ℕ → Result A Missing) (g h : A → Result B Missing)
     (k : ℕ → Result B Missing) → ((v : ℕ) → k v ≡ and_then (f v) g) → and_then r k ≡ and_then (and_then r f) g
-bind_step (Ok v) f g h k e = e v
-bind_step (Err e) f g h k i = refl
+bind_step r f g h k e = grind arith
 
 -- a store's answer to one plan after another
 pub answer_then : {A B : Type 0} (s : States) (p : Reads A) (go : A → Reads B)
@@ -27,21 +25,13 @@ answer_then s (Read x more) go =
 one_read : {A : Type 0} (r : Seen) (m : ℕ) (f : ℕ → Result A Missing) (a : Result A Missing)
     → ((v : ℕ) → r ≡ Value v → m ≡ v) → f m ≡ a
     → and_then (value_or_missing r) f ≡ and_then (value_or_missing r) (λ v. a)
-one_read (Value v) m f a agrees e = ap f (sym (agrees v refl)) ∙ e
-one_read (Outside c) m f a agrees e = refl
-one_read (Unset c) m f a agrees e = refl
+one_read r m f a agrees e = grind arith
 
 -- one more bit is read as the map has it
 more_bits : (c : CellState) (r : Seen) (x y : ℕ) (cell : Cell) → ((u : ℕ) → c ≡ Holds u → x ≡ u)
     → ((w : ℕ) → r ≡ Value w → y ≡ w) → (v : ℕ) → on_value (answered cell c) (λ b. on_value r (λ w. Value (b + 2 * w)))
     ≡ Value v → x + 2 * y ≡ v
-more_bits (Holds u) (Value w) x y cell here rest v e =
-    let whole : u + 2 * w ≡ v = cc e in
-    ap (λ n. n + 2 * y) (here u refl) ∙ ap (λ n. u + 2 * n) (rest w refl) ∙ whole
-more_bits (Holds u) (Outside c) x y cell here rest v e = cc e
-more_bits (Holds u) (Unset c) x y cell here rest v e = cc e
-more_bits Absent r x y cell here rest v e = cc e
-more_bits Fresh r x y cell here rest v e = cc e
+more_bits c r x y cell here rest v e = grind arith
 
 bits_agree : (s : States) (m : CellMap) → Agrees s m → (k n v : ℕ) → bits_seen s k n ≡ Value v → bits_in m k n ≡ v
 bits_agree s m g zero n v e = cc e
@@ -51,9 +41,7 @@ bits_agree s m g (suc k) n v e =
 
 one_cell : (c : CellState) (x : ℕ) (cell : Cell) → ((u : ℕ) → c ≡ Holds u → x ≡ u) → (v : ℕ) → answered cell c ≡ Value v
     → x ≡ v
-one_cell (Holds u) x cell here v e = let same : u ≡ v = cc e in here u refl ∙ same
-one_cell Absent x cell here v e = cc e
-one_cell Fresh x cell here v e = cc e
+one_cell c x cell here v e = grind arith
 
 -- where the store answers a read, the map has its value
 value_agrees : (s : States) (m : CellMap) → Agrees s m → (x : Access) (v : ℕ) → access_seen s x ≡ Value v
@@ -75,9 +63,7 @@ readings (Read x go) s m g =
 
 goes_same : (r : Seen) (x : Access) (k k' : ℕ) (f f' : ℕ → List Access) → ((v : ℕ) → r ≡ Value v → k ≡ v)
     → ((v : ℕ) → r ≡ Value v → k' ≡ v) → ((v : ℕ) → f v ≡ f' v) → goes_on r x (f k) ≡ goes_on r x (f' k')
-goes_same (Value v) x k k' f f' h h' same = ap (λ xs. x ∷ xs) (ap f (h v refl) ∙ same v ∙ sym (ap f' (h' v refl)))
-goes_same (Outside c) x k k' f f' h h' same = refl
-goes_same (Unset c) x k k' f f' h h' same = refl
+goes_same r x k k' f f' h h' same = grind arith
 
 -- the reads up to the first that has no value are the same
 pub same_accesses : {A : Type 0} (p : Reads A) (s : States) (m m' : CellMap) → Agrees s m → Agrees s m'

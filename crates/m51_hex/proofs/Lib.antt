@@ -1,11 +1,7 @@
-pub mod AcceptedLines
 pub mod DigitLaws
 pub mod LineSteps
 pub mod LowRecords
 pub mod RecordLaws
 pub mod RoundTrip
-pub mod RunLines
-pub mod RunRecords
 pub mod Spelling
 pub mod StoredBytes
-pub mod WrittenLines

@@ -1,9 +1,7 @@
 -- Reading a file line by line.
-use Rattle.std.proofs.Common.{◌≡◌, ℕ, ◌+◌, List, [], ◌∷◌, fold, Result, Ok, Err, refl, ap, sym, ◌∙◌}
+use Rattle.std.proofs.Common.{◌≡◌, ℕ, ◌+◌, List, [], ◌∷◌, fold, Result, Ok, Err, refl, sym, ◌∙◌}
 use Rattle.std.specs.Str.Lines.{lines}
-use Rattle.m51_cells.specs.Outcome.{RefusesWith}
-use Rattle.m51_cells.specs.Outcome.{◌>>=◌}
-use Rattle.m51_cells.proofs.Passing.{same_Ok, same_Err}
+use Rattle.m51_cells.specs.Outcome.{◌>>=◌, RefusesWith}
 use Rattle.m51_hex.specs.declared.error.HexError.{HexError}
 use Rattle.m51_hex.specs.declared.error.HexError.TheVariants.{H5, Memory as WantsMemory}
 use Rattle.m51_hex.specs.declared.records.RecordType.{RecordType}
@@ -13,121 +11,54 @@ use Rattle.m51_hex.specs.Line.{hex_record_of}
 use Rattle.m51_hex.specs.Reading.{records_after, records_from, line_read, memory_from, image_refusal}
 use Rattle.m51_hex.specs.Record.{HexRecord}
 
--- a memory, or an error, as a result
-abbrev pub memory_as : Memory → Result Memory HexError
-memory_as m = Ok m
-
-abbrev refused_as : HexError → Result Memory HexError
-refused_as e = Err e
-
 -- what a line with this record gives over a memory
 abbrev line_answer : Memory → HexRecord → Result (RecordType × Memory) HexError
 line_answer memory r = Ok (r.kind, stored memory r)
 
--- the memory after the records of these lines, which count from that number, are put over a memory
-abbrev pub after_lines : Memory → ℕ → List (List ℕ) → Result Memory HexError
-after_lines memory number more = records_from number more >>= λ records. Ok (fold stored memory records)
+-- what comes after a record of this type: the other lines, or the end with the memory as it is
+abbrev after_line : RecordType → Memory → Result Memory HexError → Result Memory HexError
+after_line Data memory others = others
+after_line EndOfFile memory others = Ok memory
 
-abbrev pub going_on : Memory → ℕ → List ℕ → Result Memory HexError
-going_on memory number text = after_lines memory number (lines text)
+-- the memory after lines, which count from that number, are read over a memory one after the other
+abbrev pub read_on : Memory → ℕ → List (List ℕ) → Result Memory HexError
+read_on memory number [] = Err H5
+read_on memory number (line ∷ lines) =
+    line_read memory number line >>= λ read. after_line read.0 read.1 (read_on read.1 (number + 1) lines)
+
+-- it is the memory of the records of all lines
+read_on_is : (memory : Memory) (number : ℕ) (text : List (List ℕ))
+    → read_on memory number text ≡ (records_from number text >>= λ records. Ok (fold stored memory records))
+unfolding line_read
+read_on_is memory number [] = refl
+read_on_is memory number (line ∷ text) =
+    by_record (hex_record_of number line) (λ r. read_on_is (stored memory r) (number + 1) text) where
+      by_rest : (r : HexRecord) (kind : RecordType) (others : Result (List HexRecord) HexError)
+          → read_on (stored memory r) (number + 1) text
+          ≡ (others >>= λ records. Ok (fold stored (stored memory r) records))
+          → after_line kind (stored memory r) (read_on (stored memory r) (number + 1) text)
+          ≡ ((records_after kind others >>= λ records. Ok (r ∷ records)) >>= λ records. Ok (fold stored memory records))
+      by_rest r Data (Ok records) h = h
+      by_rest r Data (Err e) h = h
+      by_rest r EndOfFile others h = refl
+
+      by_record : (one : Result HexRecord HexError)
+          → ((r : HexRecord) → read_on (stored memory r) (number + 1) text
+          ≡ (records_from (number + 1) text >>= λ records. Ok (fold stored (stored memory r) records)))
+          → ((one >>= line_answer memory) >>= λ read. after_line read.0 read.1 (read_on read.1 (number + 1) text))
+          ≡ ((one >>= λ r. records_after r.kind (records_from (number + 1) text) >>= λ others. Ok (r ∷ others))
+          >>= λ records. Ok (fold stored memory records))
+      by_record (Ok r) others = by_rest r r.kind (records_from (number + 1) text) (others r)
+      by_record (Err e) others = refl
 
 -- a file is read from its first line on, over an erased memory
-pub begins : (memory : Memory) (text : List ℕ) → memory ≡ erased → going_on memory 1 text ≡ memory_from text
+pub begins : (memory : Memory) (text : List ℕ) → memory ≡ erased → read_on memory 1 (lines text) ≡ memory_from text
 unfolding memory_from
-begins memory text e = ap (λ (m : Memory). going_on m 1 text) e
-
--- what is read of a line and of those after it
-line_then : (memory : Memory) (number : ℕ) (line : List ℕ) (more : List (List ℕ)) (read : Result HexRecord HexError)
-    → hex_record_of number line ≡ read
-    → after_lines memory number (line ∷ more)
-    ≡ ((read >>= λ r. records_after r.kind (records_from (number + 1) more) >>= λ others. Ok (r ∷ others))
-    >>= λ records. Ok (fold stored memory records))
-line_then memory number line more read is =
-    ap (λ (x : Result HexRecord HexError).
-    (x >>= λ r. records_after r.kind (records_from (number + 1) more) >>= λ others. Ok (r ∷ others))
-    >>= λ records. Ok (fold stored memory records)) is
-
-one_before : (memory : Memory) (r : HexRecord) (others : Result (List HexRecord) HexError)
-    → ((others >>= λ records. Ok (r ∷ records)) >>= λ records. Ok (fold stored memory records))
-    ≡ (others >>= λ records. Ok (fold stored (stored memory r) records))
-one_before memory r (Ok records) = refl
-one_before memory r (Err e) = refl
-
--- a line whose record is read, and the lines after it
-read_then : (memory : Memory) (number : ℕ) (line : List ℕ) (more : List (List ℕ)) (r : HexRecord)
-    → hex_record_of number line ≡ Ok r
-    → after_lines memory number (line ∷ more)
-    ≡ (records_after r.kind (records_from (number + 1) more) >>= λ records. Ok (fold stored (stored memory r) records))
-read_then memory number line more r is =
-    line_then memory number line more (Ok r) is
-    ∙ one_before memory r (records_after r.kind (records_from (number + 1) more))
-
--- the record of a line that was read over a memory
-pub record LineHas (memory : Memory) (number : ℕ) (line : List ℕ) (kind : RecordType) (new : Memory) : Type 0 where
-  pub one : HexRecord
-  pub is : hex_record_of number line ≡ Ok one
-  pub kind_is : one.kind ≡ kind
-  pub new_is : stored memory one ≡ new
-
-line_has_by : (memory : Memory) (number : ℕ) (line : List ℕ) (kind : RecordType) (new : Memory)
-    (read : Result HexRecord HexError) → hex_record_of number line ≡ read
-    → (read >>= line_answer memory) ≡ Ok (kind, new) → LineHas memory number line kind new
-line_has_by memory number line kind new (Ok r) is e = record {
-  one = r;
-  is = is;
-  kind_is = ap (λ (p : RecordType × Memory). p.0) (same_Ok {E = HexError} (r.kind, stored memory r) (kind, new) e);
-  new_is = ap (λ (p : RecordType × Memory). p.1) (same_Ok {E = HexError} (r.kind, stored memory r) (kind, new) e);
-}
-line_has_by memory number line kind new (Err d) is e = absurd cc
-
-line_has : (memory : Memory) (number : ℕ) (line : List ℕ) (kind : RecordType) (new : Memory)
-    → line_read memory number line ≡ Ok (kind, new) → LineHas memory number line kind new
-unfolding line_read
-line_has memory number line kind new e = line_has_by memory number line kind new (hex_record_of number line) refl e
-
--- after a record of data the lines are read on
-pub goes_on : (memory new : Memory) (number : ℕ) (text line rest : List ℕ) (whole : Result Memory HexError) → lines text
-    ≡ line ∷ lines rest → line_read memory number line ≡ Ok (Data, new)
-    → going_on memory number text ≡ whole → going_on new (number + 1) rest ≡ whole
-goes_on memory new number text line rest whole front read so_far =
-    let h = line_has memory number line Data new read in
-    ap (λ (m : Memory). going_on m (number + 1) rest) (sym h.new_is)
-    ∙ ap (λ (k : RecordType). records_after k (records_from (number + 1) (lines rest)) >>= λ records. Ok
-    (fold stored (stored memory h.one) records)) (sym h.kind_is)
-    ∙ sym (ap (after_lines memory number) front ∙ read_then memory number line (lines rest) h.one h.is)
-    ∙ so_far
-
--- a record of type 01 ends the file
-pub ends : (memory new : Memory) (number : ℕ) (text line rest : List ℕ) (whole : Result Memory HexError) → lines text
-    ≡ line ∷ lines rest → line_read memory number line ≡ Ok (EndOfFile, new)
-    → going_on memory number text ≡ whole → whole ≡ Ok new
-ends memory new number text line rest whole front read so_far =
-    let h = line_has memory number line EndOfFile new read in
-    sym so_far
-    ∙ ap (after_lines memory number) front
-    ∙ read_then memory number line (lines rest) h.one h.is
-    ∙ ap (λ (k : RecordType). records_after k (records_from (number + 1) (lines rest)) >>= λ records. Ok
-    (fold stored (stored memory h.one) records)) h.kind_is
-    ∙ ap (λ (m : Memory). memory_as m) h.new_is
+begins memory text e = rw e (read_on_is erased 1 (lines text))
 
 -- a line that is refused is the answer
-refused_by : (e : HexError) (memory : Memory) (number : ℕ) (line : List ℕ) (more : List (List ℕ))
-    (read : Result HexRecord HexError) → hex_record_of number line ≡ read
-    → (read >>= line_answer memory) ≡ Err e → after_lines memory number (line ∷ more) ≡ Err e
-refused_by e memory number line more (Ok r) is h = absurd cc
-refused_by e memory number line more (Err d) is h = line_then memory number line more (Err d) is
-    ∙ ap (λ (x : HexError). refused_as x) (same_Err {A = RecordType × Memory} d e h)
-
-pub refused : (e : HexError) (memory : Memory) (number : ℕ) (text line rest : List ℕ) (whole : Result Memory HexError)
-    → lines text ≡ line ∷ lines rest → RefusesWith (image_refusal e) (line_read memory number line)
-    → going_on memory number text ≡ whole → RefusesWith (image_refusal e) whole
-unfolding line_read
-refused WantsMemory memory number text line rest whole front h so_far = tt
-refused e memory number text line rest whole front h so_far =
-    sym so_far ∙ ap (after_lines memory number) front
-    ∙ refused_by e memory number line (lines rest) (hex_record_of number line) refl h
-
--- no line is left
-pub no_end : (memory : Memory) (number : ℕ) (text : List ℕ) (whole : Result Memory HexError) → text ≡ []
-    → going_on memory number text ≡ whole → whole ≡ Err H5
-no_end memory number text whole none so_far = sym so_far ∙ ap (going_on memory number) none
+pub refused : (e : HexError) (memory : Memory) (number : ℕ) (line : List ℕ) (more all : List (List ℕ))
+    (whole : Result Memory HexError) → all ≡ line ∷ more → RefusesWith (image_refusal e) (line_read memory number line)
+    → read_on memory number all ≡ whole → RefusesWith (image_refusal e) whole
+refused WantsMemory memory number line more all whole front h so_far = tt
+refused e memory number line more all whole front h so_far = sym so_far ∙ rw (front, h) refl

@@ -1,13 +1,15 @@
 -- The memory of a HEX file is that of an image: past the last address nothing is stored.
-use Rattle.std.proofs.Common.{◌≡◌, ℕ, ◌+◌, ◌<◌, ◌≤◌, inl, inr, List, [], ◌∷◌, length, map, fold, Result, Ok, refl, ap}
-use Rattle.std.proofs.Common.{sym, subst, ◌∙◌, arith}
+use Rattle.std.proofs.Common.{◌≡◌, ℕ, ◌+◌, ◌<◌, ◌≤◌, inl, inr, List, [], ◌∷◌, length, map, fold, Result, Ok, Err, refl}
+use Rattle.std.proofs.Common.{ap}
+use Rattle.std.proofs.Common.{sym, ◌∙◌, arith}
 use Rattle.std.specs.List.{range_with_len}
 use Rattle.std.specs.Str.Lines.{lines}
 use Rattle.std.proofs.lemmas.Bool.Decides.{leb_tells}
 use Rattle.std.proofs.lemmas.List.{get_or_past}
 use Rattle.std.proofs.lemmas.List.FromFn.{get_or-map-range_with_len, length-map-range_with_len}
-use Rattle.m51_cells.proofs.Passing.{same_Ok, step_value}
-use Rattle.m51_hex.proofs.AcceptedLines.{read_is_text}
+use Rattle.m51_cells.specs.Outcome.{◌>>=◌}
+use Rattle.m51_cells.proofs.Passing.{same_Ok}
+use Rattle.m51_hex.proofs.RecordLaws.{read_is_text}
 use Rattle.m51_hex.proofs.StoredBytes.{same_memory, stored_after}
 use Rattle.m51_hex.specs.declared.error.HexError.{HexError}
 use Rattle.m51_hex.specs.declared.records.RecordType.{RecordType}
@@ -23,39 +25,42 @@ ends_low : (kind : RecordType) (at count : ℕ) → at < 0x10000 → TakesData k
 ends_low Data at count low takes = takes
 ends_low EndOfFile at count low takes = omega (arith, low, takes)
 
-record_low : (r : HexRecord) → IsRecord r → r.address + length r.bytes ≤ 0x10000
-record_low r is = ends_low r.kind r.address (length r.bytes) is.address is.data_fit
+-- records that are read store nothing at the address
+abbrev IsFar : ℕ → Result (List HexRecord) HexError → Type 0
+IsFar address (Ok records) = (m : Memory) → fold stored m records address ≡ m address
+IsFar address (Err e) = Unit {0}
 
--- what follows a record
-abbrev Far : ℕ → List HexRecord → Type 0
-Far address records = (m : Memory) → fold stored m records address ≡ m address
+-- nor do those of lines, past the last address
+far : (address number : ℕ) (text : List (List ℕ)) → 0x10000 ≤ address → IsFar address (records_from number text)
+far address number [] high = tt
+far address number (line ∷ text) high =
+    by_record (hex_record_of number line) (λ r is. (read_is_text number line r is).0)
+    (far address (number + 1) text high) where
+      by_rest : (r : HexRecord) (kind : RecordType) (others : Result (List HexRecord) HexError)
+          → ((m : Memory) → stored m r address ≡ m address) → IsFar address others
+          → IsFar address (records_after kind others >>= λ records. Ok (r ∷ records))
+      by_rest r Data (Ok records) one h = λ m. h (stored m r) ∙ one m
+      by_rest r Data (Err e) one h = tt
+      by_rest r EndOfFile others one h = one
 
-far_after : (kind : RecordType) (rest : Result (List HexRecord) HexError) (others : List HexRecord) (address : ℕ)
-    → ((records : List HexRecord) → rest ≡ Ok records → Far address records) → records_after kind rest ≡ Ok others
-    → Far address others
-far_after Data rest others address each h = each others h
-far_after EndOfFile rest others address each h = subst (Far address) (same_Ok {E = HexError} [] others h) (λ m. refl)
-
--- records that are read store nothing at an address past the last one
-far_stays : (number : ℕ) (text : List (List ℕ)) (records : List HexRecord) (address : ℕ) → 0x10000 ≤ address
-    → records_from number text ≡ Ok records → Far address records
-far_stays number [] records address far h = absurd (cc h)
-far_stays number (line ∷ text) records address far h =
-    let first = step_value (hex_record_of number line) _ records h in
-    let rest = step_value (records_after first.0.kind (records_from (number + 1) text)) _ records first.2 in
-    let low = record_low first.0 (read_is_text number line first.0 first.1).0 in
-    subst (Far address) (same_Ok {E = HexError} (first.0 ∷ rest.0) records rest.2)
-    (λ m. far_after first.0.kind (records_from (number + 1) text) rest.0 address
-    (λ found is. far_stays (number + 1) text found address far is) rest.1 (stored m first.0)
-    ∙ stored_after m first.0 address (omega (arith, low, far)))
+      by_record : (one : Result HexRecord HexError) → ((r : HexRecord) → one ≡ Ok r → IsRecord r)
+          → IsFar address (records_from (number + 1) text)
+          → IsFar address (one >>= λ r. records_after r.kind (records_from (number + 1) text)
+          >>= λ others. Ok (r ∷ others))
+      by_record (Err e) is others = tt
+      by_record (Ok r) is others =
+          let low = ends_low r.kind r.address (length r.bytes) (is r refl).address (is r refl).data_fit in
+          by_rest r r.kind (records_from (number + 1) text) (λ m. stored_after m r address (omega (arith, low, high)))
+          others
 
 far_erased : (text : List ℕ) (m : Memory) (address : ℕ) → 0x10000 ≤ address → memory_from text ≡ Ok m
     → m address ≡ 0xFF
 unfolding memory_from
-far_erased text m address far h =
-    let read = step_value (records_from 1 (lines text)) _ m h in
-    subst (λ (n : Memory). n address ≡ 0xFF) (same_Ok {E = HexError} (memory_of read.0) m read.2)
-    (far_stays 1 (lines text) read.0 address far read.1 erased)
+far_erased text m address high h = by_records (records_from 1 (lines text)) (far address 1 (lines text) high) h where
+  by_records : (read : Result (List HexRecord) HexError) → IsFar address read
+      → (read >>= λ records. Ok (memory_of records)) ≡ Ok m → m address ≡ 0xFF
+  by_records (Ok records) stays e = ap (λ (n : Memory). n address) (sym (same_Ok {E = HexError} _ m e)) ∙ stays erased
+  by_records (Err d) stays e = absurd cc
 
 -- an image with the first bytes of a memory
 module _ (m : Memory) (size : ℕ) where

@@ -28,7 +28,7 @@ fn record_at<'a>(image: &'a [u8], run: &Run, number: u32) -> HexRecord<'a>
 }
 
 // Appends the lines of a run.
-#[tactic(auto, using(crate::proofs::RunLines::first_lines_more), unfolding(crate::specs::Writing::records_of))]
+#[tactic(auto, using(crate::proofs::Spelling::first_lines_more), unfolding(crate::specs::Writing::records_of))]
 fn push_run(text: &mut Vec<u8>, image: &[u8], run: &Run) -> Result<(), NoMemory>
     requires whole { length image.now ≡ 0x10000 }
     requires within { IsRunWithin run.now }

@@ -13,7 +13,7 @@ use Rattle.m51_monitor.specs.Shared.{cells_put}
 use Rattle.m51_monitor.specs.Stores.{AreStores}
 use Rattle.m51_monitor.specs.Turning.{AreBetween}
 use Rattle.m51_flat.specs.States.{written_in, written_to}
-use Rattle.m51_monitor.proofs.Putting.{Tells, put_tells, put_lives}
+use Rattle.m51_monitor.proofs.Reading.{Tells, put_tells, put_lives}
 use Rattle.m51_monitor.proofs.Resolving.{MayPut, put_resolves}
 
 -- one cell after a put

@@ -1,17 +1,15 @@
 -- The current unit covers PC, before a move and after it.
-use Rattle.m51_monitor.proofs.Common.{◌≡◌, ℕ, ◌<◌, Option, List, [], ◌∷◌, refl, sym, subst, arith, Covers, Effect}
+use Rattle.m51_monitor.proofs.Common.{◌≡◌, ℕ, ◌<◌, Option, List, [], ◌∷◌, refl, arith, Covers, Effect}
 use Rattle.m51_monitor.proofs.Common.{Transfer, sp, LayoutParts, IsRootAt, IsUnitAt, IsSound, Move, ReturnRecord}
-use Rattle.m51_monitor.proofs.Common.{Records, current, IsFoundAt, IsRootFound, jumped, moved}
-use Rattle.std.proofs.Common.{◌≤◌, ◌%◌, ◌+◌, ◌-◌, ◌∙◌, ap}
-use Rattle.m51_cells.specs.Cells.{cells_in}
-use Rattle.m51_cells.specs.declared.cell.Cell.{Cell}
+use Rattle.m51_monitor.proofs.Common.{Records, current, IsFoundAt, jumped, moved}
+use Rattle.std.proofs.Common.{◌≤◌, ◌%◌, ◌+◌, ◌-◌}
 use Rattle.m51_cells.specs.declared.kind.Kind.TheVariants.{Code}
-use Rattle.m51_cells.specs.Extent.{extent_of}
 use Rattle.m51_module.specs.Cells.{extent_at}
 use Rattle.m51_module.specs.declared.placed.Placed.{Placed}
 use Rattle.m51_module.specs.Plan.{IsUnit}
 use Rattle.m51_monitor.specs.Frames.{EndsAt, IsPast}
 use Rattle.m51_flat.specs.Sfr.{latch}
+use Rattle.m51_module.proofs.Units.{root_at}
 use Rattle.m51_module.specs.Cells.{code_cell}
 use Rattle.m51_monitor.specs.Laws.{CoversIsKept, GoesToVector}
 use Rattle.m51_monitor.specs.Transfers.{IsRootWanted}
@@ -25,31 +23,22 @@ jumped_current reset (r ∷ rs) u = refl
 
 -- a root covers its vector
 pub root_covers : (l : LayoutParts) (vector u : ℕ) → IsSound l → IsRootAt l vector u → IsUnitAt l vector u
-root_covers l vector u sound h =
-    let some : 0 < h.is.size = (sound.fit h.unit_is.segment h.is h.unit_is.placed).absolute h.absolute in
-    record {
-      is = h.is;
-      unit_is = h.unit_is;
-      covers = subst (λ k. Covers (extent_of k h.is.base h.is.size) (code_cell vector)) (sym h.code)
-          (record { space = refl; from = omega (arith, h.base); below = omega (arith, h.base, some) });
-    }
+root_covers l vector u sound h = root_at l sound vector u h
 
 -- after a move
 covers : (l : LayoutParts) (a : Records) (e : Effect) (top new to : ℕ) (t : Transfer) (at root : Option ℕ) (m : Move)
     → IsSound l → GoesToVector t e.cpu.pc → IsFoundAt l e.cpu.pc at → IsRootWanted l t root
     → Taken l a top new to at root t m → IsUnitAt l e.cpu.pc (current (moved a e m))
-covers l a e top new to t at root m sound there h w (Continues is above) = subst (IsFoundAt l e.cpu.pc) is h
-covers l a e top new to t at root m sound there h w (Stays is above) = subst (IsFoundAt l e.cpu.pc) is h
-covers l a e top new to t at root m sound there h w (Jumps u edge is above) =
-    rw (jumped_current a.reset a.returns u) (subst (IsFoundAt l e.cpu.pc) is h)
-covers l a e top new to t at root m sound there h w (Nears is above) = subst (IsFoundAt l e.cpu.pc) is h
-covers l a e top new to t at root m sound there h w (Calls u edge is above) = subst (IsFoundAt l e.cpu.pc) is h
-covers l a e top new to t at root m sound there h w (Returns r rs are call same back is) =
-    rw are (subst (IsFoundAt l e.cpu.pc) is h)
-covers l a e top new to t at root m sound there h w (Ends r rs are call same back is) =
-    rw are (subst (IsFoundAt l e.cpu.pc) is h)
 covers l a e top new to t at root m sound there h w (Vectors source u is fresh above) =
-    rw there (root_covers l (vector_of source) u sound (subst (IsRootFound l (vector_of source)) is w))
+    rw there (root_at l sound (vector_of source) u (rw is at w))
+covers l a e top new to t at root m sound there h w (Jumps u edge is above) =
+    rw (jumped_current a.reset a.returns u) (rw is at h)
+covers l a e top new to t at root m sound there h w (Returns r rs are call same back is) = rw are (rw is at h)
+covers l a e top new to t at root m sound there h w (Ends r rs are call same back is) = rw are (rw is at h)
+covers l a e top new to t at root m sound there h w (Continues is above) = rw is at h
+covers l a e top new to t at root m sound there h w (Stays is above) = rw is at h
+covers l a e top new to t at root m sound there h w (Nears is above) = rw is at h
+covers l a e top new to t at root m sound there h w (Calls u edge is above) = rw is at h
 
 pub covers_is_kept : CoversIsKept
 covers_is_kept m cpu e step sound at j =
@@ -63,13 +52,11 @@ same_unit l unit p q h k = let e : h.segment ≡ k.segment = cc (h.unit_is, k.un
 -- the addresses of an extent of program memory
 code_range : (p : Placed) (a : ℕ) → p.kind ≡ Code → Covers (extent_at p) (code_cell a)
     → (p.base ≤ a) × (a < p.base + p.size)
-code_range p a code h =
-    let k = subst (λ k. Covers (extent_of k p.base p.size) (code_cell a)) code h in (k.from, k.below)
+code_range p a code h = let k = rw code at h in (k.from, k.below)
 
 code_covers : (p : Placed) (a : ℕ) → p.kind ≡ Code → p.base ≤ a → a < p.base + p.size
     → Covers (extent_at p) (code_cell a)
-code_covers p a code low high = subst (λ k. Covers (extent_of k p.base p.size) (code_cell a)) (sym code)
-    (record { space = refl; from = low; below = high })
+code_covers p a code low high = rw code (record { space = refl; from = low; below = high })
 
 module _ (l : LayoutParts) (sound : IsSound l) (from unit end : ℕ) (at : IsUnitAt l from unit)
     (ends : EndsAt l unit end) where
@@ -77,21 +64,18 @@ module _ (l : LayoutParts) (sound : IsSound l) (from unit end : ℕ) (at : IsUni
   code =
       let k = sound.is_code unit ends.unit_is.segment ends.unit_is.unit_is in
       let e : ends.is ≡ k.0 = cc (ends.unit_is.placed, k.1) in
-      ap (λ (p : Placed). p.kind) e ∙ k.2.kind
+      rw e k.2.kind
 
   range : (a : ℕ) → IsUnitAt l a unit → (ends.is.base ≤ a) × (a < ends.is.base + ends.is.size)
-  range a k = code_range ends.is a code
-      (subst (λ (p : Placed). Covers (extent_at p) (code_cell a))
-      (same_unit l unit k.is ends.is k.unit_is ends.unit_is) k.covers)
+  range a k = code_range ends.is a code (rw (same_unit l unit k.is ends.is k.unit_is ends.unit_is) at k.covers)
 
   -- it ends inside program memory
   low_end : ends.is.base + ends.is.size ≤ 65536
   low_end =
       let r = range from at in
       let last = ends.is.base + ends.is.size - 1 in
-      let inside = (sound.fit ends.unit_is.segment ends.is ends.unit_is.placed).inside in
-      let h = subst (λ k. (c : Cell) → Covers (extent_of k ends.is.base ends.is.size) c
-      → c.at < cells_in (extent_of k ends.is.base ends.is.size).space) code inside (code_cell last)
+      let inside = rw code at (sound.fit ends.unit_is.segment ends.is ends.unit_is.placed).inside in
+      let h = inside (code_cell last)
       (record { space = refl; from = omega (arith, r.0, r.1); below = omega (arith, r.0, r.1) }) in
       omega (arith, h)
 

@@ -84,8 +84,7 @@ same_unit_found l address o some only = by_found (unit_found l address) (unit_fo
     by_found : (f : Option ℕ) → IsFoundAt l address f → (o : Option ℕ) → IfSome o (λ u. IsUnitAt l address u)
         → ((u : ℕ) → IsUnitAt l address u → o ≡ Some u) → o ≡ f
     by_found (Some u) found o some only = only u found
-    by_found None found (Some v) some only = absurd (found v some)
-    by_found None found None some only = refl
+    by_found None found o some only = grind arith
 
 pub same_root_found : (l : LayoutParts) (source : Source) (o : Option ℕ)
     → IfSome o (λ u. IsRootAt l (vector_of source) u) → ((u : ℕ) → IsRootAt l (vector_of source) u → o ≡ Some u)
@@ -97,5 +96,4 @@ same_root_found l source o some only =
         → IfSome o (λ u. IsRootAt l (vector_of source) u) → ((u : ℕ) → IsRootAt l (vector_of source) u → o ≡ Some u)
         → o ≡ f
     by_found (Some u) found o some only = only u found
-    by_found None found (Some v) some only = absurd (found v some)
-    by_found None found None some only = refl
+    by_found None found o some only = grind arith

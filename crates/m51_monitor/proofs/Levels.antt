@@ -1,6 +1,6 @@
 -- Levels in progress and SP after a move.
 use Rattle.m51_monitor.proofs.Common.{◌≡◌, ℕ, ◌+◌, ◌%◌, Option, List, [], ◌∷◌}
-use Rattle.m51_monitor.proofs.Common.{refl, subst, arith, Effect, Transfer, sp, LayoutParts, Move}
+use Rattle.m51_monitor.proofs.Common.{subst, arith, Effect, Transfer, sp, LayoutParts, Move}
 use Rattle.m51_monitor.proofs.Common.{ReturnRecord, Records, HeightsRise, interrupts, jumped, moved}
 use Rattle.m51_monitor.proofs.Common.{without_top}
 use Rattle.m51_flat.specs.declared.state.Level.{Level}
@@ -8,7 +8,7 @@ use Rattle.m51_flat.specs.Sfr.{latch}
 use Rattle.m51_monitor.specs.Laws.{CountsInterrupts, FollowsLevels, InterruptsAreCounted, LevelsAreKept, Pops}
 use Rattle.m51_monitor.specs.Laws.{StackIsKept}
 use Rattle.m51_monitor.specs.Rising.{HaveLevels, IsAbove, levels, taken_after}
-use Rattle.m51_monitor.proofs.Moving.{Taken, Continues, Stays, Jumps, Nears, Calls, Returns, Ends, Vectors}
+use Rattle.m51_monitor.proofs.Moving.{Taken}
 use Rattle.m51_monitor.proofs.Moving.{judged_taken}
 
 pub jumped_count : (reset : List ℕ) (rs : List ReturnRecord) (u : ℕ)
@@ -19,25 +19,11 @@ module _ (l : LayoutParts) (a : Records) (top new to : ℕ) (at root : Option �
   kept : (e : Effect) (before after taken : List Level) (t : Transfer) (m : Move) → Taken l a top new to at root t m
       → FollowsLevels t before after
       → HaveLevels a.returns taken before → HaveLevels (moved a e m).returns (taken_after a after m taken) after
-  kept e before after taken t m (Continues is above) f h = grind arith
-  kept e before after taken t m (Stays is above) f h = grind arith
-  kept e before after taken t m (Jumps u edge is above) f h = grind arith
-  kept e before after taken t m (Nears is above) f h = grind arith
-  kept e before after taken t m (Calls u edge is above) f h = grind arith
-  kept e before after taken t m (Returns r rs are call same back here) f h = grind arith
-  kept e before after taken t m (Ends r rs are call same back here) f h = grind arith
-  kept e before after taken t m (Vectors source u is fresh above) f h = grind arith
+  kept e before after taken t m is f h = grind arith
 
   counted : (e : Effect) (t : Transfer) (m : Move) → Taken l a top new to at root t m
       → CountsInterrupts t (interrupts a.returns) (interrupts (moved a e m).returns)
-  counted e t m (Continues is above) = refl
-  counted e t m (Stays is above) = refl
-  counted e t m (Jumps u edge is above) = grind arith
-  counted e t m (Nears is above) = refl
-  counted e t m (Calls u edge is above) = refl
-  counted e t m (Returns r rs are call same back here) = rw are (grind arith)
-  counted e t m (Ends r rs are call same back here) = rw are (grind arith)
-  counted e t m (Vectors source u is fresh above) = refl
+  counted e t m is = grind arith
 
 -- the levels of the records are those in progress
 pub levels_are_kept : LevelsAreKept
@@ -52,11 +38,6 @@ interrupts_are_counted m cpu e step j =
     counted m.layout m.records (latch cpu sp) (latch e.cpu sp) e.cpu.pc j.at j.root e e.transfer step
     (grind (arith, judged_taken))
 
-jumped_above : (reset : List ℕ) (rs : List ReturnRecord) (u new : ℕ) → IsAbove rs 0 new
-    → IsAbove (jumped reset rs u).returns 0 new
-jumped_above reset [] u new h = tt
-jumped_above reset (r ∷ rs) u new h = h
-
 above_left : (returns : List ReturnRecord) (r : ReturnRecord) (rs : List ReturnRecord) (top new : ℕ) → returns ≡ r ∷ rs
     → top ≡ r.sp → HeightsRise returns → new ≡ (top + 254) % 256 → IsAbove (without_top returns) 0 new
 above_left returns r [] top new are same rise e = rw are tt
@@ -66,16 +47,7 @@ above_left returns r (q ∷ rs) top new are same rise e =
 above : (l : LayoutParts) (a : Records) (e : Effect) (top to : ℕ) (at root : Option ℕ) (t : Transfer) (m : Move)
     → HeightsRise a.returns → Pops t top (latch e.cpu sp) → Taken l a top (latch e.cpu sp) to at root t m
     → IsAbove (moved a e m).returns 0 (latch e.cpu sp)
-above l a e top to at root t m rise pops (Continues is h) = h
-above l a e top to at root t m rise pops (Stays is h) = h
-above l a e top to at root t m rise pops (Jumps u edge is h) = jumped_above a.reset a.returns u (latch e.cpu sp) h
-above l a e top to at root t m rise pops (Nears is h) = omega arith
-above l a e top to at root t m rise pops (Calls u edge is h) = omega arith
-above l a e top to at root t m rise pops (Returns r rs are call same back here) =
-    above_left a.returns r rs top (latch e.cpu sp) are same rise pops
-above l a e top to at root t m rise pops (Ends r rs are call same back here) =
-    above_left a.returns r rs top (latch e.cpu sp) are same rise pops
-above l a e top to at root t m rise pops (Vectors source u is fresh h) = omega arith
+above l a e top to at root t m rise pops is = grind (arith, above_left)
 
 -- SP is not below that of the topmost record
 pub stack_is_kept : StackIsKept

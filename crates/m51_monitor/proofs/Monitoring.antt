@@ -1,25 +1,24 @@
 -- A monitor is frames and the activity of units.
-use Rattle.m51_monitor.proofs.Common.{◌≡◌, true, false, IfSome, Option, Some, None, ℕ, ◌<◌, ◌≤◌, List, [], ◌∷◌, ◌++◌}
-use Rattle.m51_monitor.proofs.Common.{length, refl, sym, ap, subst, ◌∙◌, arith, slice_index, slice_get_within}
+use Rattle.m51_monitor.proofs.Common.{◌≡◌, true, false, IfSome, Option, Some, None, ℕ, ◌<◌, List, [], ◌∷◌, ◌++◌}
+use Rattle.m51_monitor.proofs.Common.{length, refl, ap, ◌∙◌, arith, slice_get_within}
 use Rattle.m51_monitor.proofs.Common.{and_parts, IsDataCell, Cell, LayoutParts, IsRootAt, IsSound, Effect, Put, Cause}
-use Rattle.m51_monitor.proofs.Common.{ReturnFrame, AreTimes, KeepsStores, answers_in, times, records_of, Monitored}
-use Rattle.m51_monitor.proofs.Common.{AreActivations, Records, units_named, shared_cells, IsOver, Stores, StandsFor}
-use Rattle.m51_monitor.proofs.Common.{filled_stores, has_cell, live_by, put_into, unset_dead, jumped, return_pushed}
+use Rattle.m51_monitor.proofs.Common.{ReturnFrame, AreTimes, KeepsStores, answers_in, records_of, Monitored}
+use Rattle.m51_monitor.proofs.Common.{AreActivations, units_named, shared_cells, IsOver, Stores, StandsFor}
+use Rattle.m51_monitor.proofs.Common.{filled_stores, has_cell, live_by, put_into, jumped, return_pushed}
 use Rattle.std.proofs.Common.{IfNone}
 use Rattle.m51_monitor.specs.Activity.{Activity, MayEnter}
 use Rattle.m51_monitor.specs.Frames.{AreFrames}
-use Rattle.m51_monitor.specs.Monitored.{AnswersAt, AreNumbers, IsStart, started, StandsAfter}
+use Rattle.m51_monitor.specs.Monitored.{AnswersAt, AreNumbers, IsStart, StandsAfter}
 use Rattle.m51_monitor.specs.Monitored.{MonitorStandsFor, live_in, stores_after, stores_changed}
 use Rattle.m51_monitor.specs.Resolved.{resolved_cells}
 use Rattle.m51_monitor.proofs.Changing.{same_stands}
-use Rattle.m51_monitor.proofs.Counting.{may_enter, named_rare, naming_times}
 use Rattle.m51_monitor.proofs.Entering.{plain_lives}
 use Rattle.m51_monitor.proofs.Framing.{units_are, jumped_is, call_is}
-use Rattle.m51_monitor.proofs.Heights.{room_above}
+use Rattle.m51_monitor.proofs.Framing.{room_above}
 use Rattle.m51_monitor.proofs.Liveness.{one_live}
 use Rattle.m51_monitor.proofs.Resolved.{cells_resolved}
 use Rattle.m51_monitor.proofs.Resolving.{has_cell_data, has_cell_is, is_has_cell}
-use Rattle.m51_monitor.proofs.Standing.{all_related}
+use Rattle.m51_monitor.proofs.Standing.{all_related, may_enter, named_rare, naming_times}
 use Rattle.m51_monitor.proofs.Starting.{filled_unset}
 
 abbrev pub monitored : List ReturnFrame → Activity → Monitored
@@ -30,9 +29,7 @@ pub kept : (frames frames' : List ReturnFrame) (old new : Activity) → KeepsSto
     → StandsAfter (stores_changed new.layout (records_of frames' new.units)) (monitored frames old)
     (monitored frames' new)
 kept frames frames' old new keeps s h =
-    subst (λ us. StandsFor new.layout (live_by new.layout us) new.store (unset_dead (live_by new.layout us) s))
-    (sym (units_are frames' new.units))
-    (keeps s (subst (λ us. StandsFor old.layout (live_by old.layout us) old.store s) (units_are frames old.units) h))
+    rw (units_are frames' new.units) (keeps s (rw (units_are frames old.units) at h))
 
 -- the same units under other frames
 pub kept_same : (frames frames' : List ReturnFrame) (a : Activity)
@@ -51,20 +48,12 @@ pub kept_put : (frames : List ReturnFrame) (old new : Activity) (put : Put) → 
     → StandsAfter (put_into old.layout (live_in old.layout (records_of frames old.units)) put) (monitored frames old)
     (monitored frames new)
 kept_put frames old new put layout units keeps s h =
-    let named = units_are frames old.units in
-    let first = keeps s (subst (λ us. StandsFor old.layout (live_by old.layout us) old.store s) named h) in
-    let again = subst (λ us. StandsFor old.layout (live_by old.layout us) new.store
-    (put_into old.layout (live_by old.layout us) put s)) (sym named) first in
-    let there = subst (λ us. StandsFor old.layout (live_in old.layout (records_of frames us)) new.store
-    (put_into old.layout (live_in old.layout (records_of frames old.units)) put s)) (sym units) again in
-    subst (λ (l : LayoutParts). StandsFor l (live_in l (records_of frames new.units)) new.store
-    (put_into old.layout (live_in old.layout (records_of frames old.units)) put s)) (sym layout) there
+    rw (layout, units, units_are frames old.units) (keeps s (rw (units_are frames old.units) at h))
 
 pub jump_enters : (l : LayoutParts) (frames : List ReturnFrame) (us : List ℕ) (u : ℕ) → IsSound l → AreFrames frames us
     → AreActivations l (jumped (records_of frames us).reset (records_of frames us).returns u) → MayEnter l us u
 jump_enters l frames us u sound are may =
-    may_enter l sound (records_of frames (u ∷ us)) u us (units_are frames (u ∷ us))
-    (subst (AreActivations l) (sym (jumped_is frames us u are)) may)
+    may_enter l sound (records_of frames (u ∷ us)) u us (units_are frames (u ∷ us)) (rw (jumped_is frames us u are) may)
 
 pub call_enters : (l : LayoutParts) (frames : List ReturnFrame) (us : List ℕ) (f : ReturnFrame) (u : ℕ) → IsSound l
     → f.start ≡ length us
@@ -72,7 +61,7 @@ pub call_enters : (l : LayoutParts) (frames : List ReturnFrame) (us : List ℕ) 
     → MayEnter l us u
 call_enters l frames us f u sound e may =
     may_enter l sound (records_of (frames ++ f ∷ []) (u ∷ us)) u us (units_are (frames ++ f ∷ []) (u ∷ us))
-    (subst (AreActivations l) (sym (call_is frames us f u e)) may)
+    (rw (call_is frames us f u e) may)
 
 pub push_room : (l : LayoutParts) (frames : List ReturnFrame) (us : List ℕ) (cause : Cause) (return_address top : ℕ)
     (units : List ℕ) → AreActivations l (return_pushed (records_of frames us) cause return_address top units)
@@ -89,13 +78,7 @@ pub commit_keeps : (m0 m1 m2 m3 : Monitored) (e : Effect) → m1.layout ≡ m0.l
     → StandsAfter (stores_changed m3.layout m3.records) m2 m3
     → StandsAfter (stores_after m0.layout m0.records m3.records e) m0 m3
 commit_keeps m0 m1 m2 m3 e layout records last first second change s h =
-    let x = put_into m0.layout (live_in m0.layout m0.records) e.first s in
-    let put : (l : LayoutParts) → Records → Stores = λ l a. put_into l (live_in l a) e.second x in
-    let two = second x (first s h) in
-    let same : put m1.layout m1.records ≡ put m0.layout m0.records = ap (λ (l : LayoutParts). put l m1.records) layout
-    ∙ ap (put m0.layout) records in
-    let done = change (put m0.layout m0.records) (subst (MonitorStandsFor m2) same two) in
-    subst (λ (l : LayoutParts). MonitorStandsFor m3 (stores_changed l m3.records (put m0.layout m0.records))) last done
+    rw (← last) (change _ (rw (layout, records, ← last) at (second _ (first s h))))
 
 -- the segment that answers in a cell
 answers_are : (l : LayoutParts) (us : List ℕ) (c : Cell) (t : ℕ) → answers_in l us c t ≡ true
@@ -115,7 +98,7 @@ segment_some frames a c (Some t) h =
     record {
       of_data = k.0;
       over = k.1;
-      live = subst (λ us. live_by a.layout us t ≡ true) (sym (units_are frames a.units)) k.2;
+      live = rw (units_are frames a.units) k.2;
     }
 
 pub segment_only : (frames : List ReturnFrame) (a : Activity) (c : Cell) (o : Option ℕ) → IsSound a.layout
@@ -124,7 +107,7 @@ pub segment_only : (frames : List ReturnFrame) (a : Activity) (c : Cell) (o : Op
     → IfNone o ((t : ℕ) → t < length a.layout.placed → answers_in a.layout a.units c t ≡ false)
     → (t : ℕ) → AnswersAt (monitored frames a) c t → o ≡ Some t
 segment_only frames a c None sound may some none t h =
-    let live = subst (λ us. live_by a.layout us t ≡ true) (units_are frames a.units) h.live in
+    let live = rw (units_are frames a.units) at h.live in
     cc (
       none t (slice_get_within a.layout.placed t h.over.is h.over.placed),
       are_answers a.layout a.units c t h.of_data h.over live,
@@ -140,47 +123,31 @@ segment_only frames a c (Some u) sound may some none t h =
 pub numbers_are : (frames : List ReturnFrame) (a : Activity) (numbers : List ℕ) → IsSound a.layout
     → AreActivations a.layout (records_of frames a.units) → AreTimes a.layout a.units numbers
     → AreNumbers (monitored frames a) numbers
-numbers_are frames a numbers sound may are =
-    let named = units_are frames a.units in
-    let b = records_of frames a.units in
-    let number = λ (u : ℕ) (h : u < length a.layout.units). are.number u h ∙ ap (λ us. times us u) (sym named) in
-    record {
-      len = are.len;
-      number = λ u h. number u h ∙ sym (naming_times a.layout sound b u may.stand);
-      most = λ u h. let few : times (units_named b) u ≤ 3 = named_rare a.layout sound b u may in
-          let e : slice_index numbers u ≡ times (units_named b) u = number u h in omega (arith, few, e);
-    }
+numbers_are frames a numbers sound may are = record {
+  len = are.len;
+  number = λ u h. rw (naming_times a.layout sound _ u may.stand, units_are frames a.units) (are.number u h);
+  most = λ u h. omega (arith, rw (units_are frames a.units) at (named_rare a.layout sound _ u may), are.number u h);
+}
 
 -- the start
-pub start_may_be : (l : LayoutParts) (root : ℕ) → IsRootAt l 0 root → AreActivations l (started root)
-start_may_be l root h = record { stand = record { over = h }; heights = tt; levels = omega arith }
-
-pub start_enters : (l : LayoutParts) (root : ℕ) → IsSound l → IsRootAt l 0 root → MayEnter l [] root
-start_enters l root sound h = may_enter l sound (started root) root [] refl (start_may_be l root h)
-
 pub is_start : (l : LayoutParts) (fill root : ℕ) (old new : Activity) → IsRootAt l 0 root → old.layout ≡ l
     → old.units ≡ [] → StandsFor l (live_by l []) old.store (filled_stores l fill)
     → new.layout ≡ old.layout → new.units ≡ root ∷ old.units → KeepsStores old new → IsStart l fill (monitored [] new)
-is_start l fill root old new h layout units stands same entered keeps =
-    let lay : new.layout ≡ l = same ∙ layout in
-    let us : new.units ≡ root ∷ [] = entered ∙ ap (λ us. root ∷ us) units in
-    let was = subst (λ us. StandsFor l (live_by l us) old.store (filled_stores l fill)) (sym units) stands in
-    let were = subst (λ (k : LayoutParts). StandsFor k (live_by k old.units) old.store (filled_stores l fill))
-    (sym layout) was in
-    let now = keeps (filled_stores l fill) were in
-    let there : Stores = filled_stores new.layout fill in
-    let alike : filled_stores l fill ≡ there = ap (λ (k : LayoutParts). filled_stores k fill) (sym lay) in
-    let kept = subst (StandsFor new.layout (live_by new.layout new.units) new.store)
-    (ap (unset_dead (live_by new.layout new.units)) alike ∙ filled_unset new.layout new.units fill ∙ sym alike)
-    now in
-    record { layout = lay; root = root; is_root = h; records = ap (λ us. records_of [] us) us; stores = kept }
+is_start l fill root old new h layout units stands same entered keeps = record {
+  layout = same ∙ layout;
+  root = root;
+  is_root = h;
+  records = rw (entered, units) refl;
+  stores = rw (same, layout) (rw (same, layout, filled_unset l new.units fill) at
+      (keeps (filled_stores l fill) (rw (layout, units) stands)));
+}
 
 -- the memory represents some stores, and answers as they do
 pub stands_for : (frames : List ReturnFrame) (a : Activity)
     → (s : Stores) × StandsFor a.layout (live_by a.layout a.units) a.store s
     → (s : Stores) × MonitorStandsFor (monitored frames a) s
 stands_for frames a h =
-    (h.0, subst (λ us. StandsFor a.layout (live_by a.layout us) a.store h.0) (sym (units_are frames a.units)) h.1)
+    (h.0, rw (units_are frames a.units) h.1)
 
 pub answers_by : (frames : List ReturnFrame) (a : Activity) → IsSound a.layout
     → AreActivations a.layout (records_of frames a.units) → (s : Stores) → MonitorStandsFor (monitored frames a) s

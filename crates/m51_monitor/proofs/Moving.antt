@@ -1,27 +1,26 @@
 -- What the records are after an allowed move.
-use Rattle.m51_monitor.proofs.Common.{◌≡◌, ◌≢◌, ◌⊎◌, inl, inr, ℕ, ◌+◌, ◌<◌, Bool, true, false, not, ◌||◌, Option, Some}
+use Rattle.m51_monitor.proofs.Common.{◌≡◌, ◌⊎◌, inl, inr, ℕ, ◌+◌, ◌<◌, Bool, true, false, Option, Some}
 use Rattle.m51_monitor.proofs.Common.{nat_eq}
-use Rattle.m51_monitor.proofs.Common.{None, Ok, List, [], ◌∷◌, refl, sym, ap, subst, ⊎_elim, arith}
-use Rattle.m51_monitor.proofs.Common.{not-false, eqb-true, if◌then◌else◌, Contains, eqb_tells, NoEdge, NotCalled}
-use Rattle.m51_monitor.proofs.Common.{WrongAddress, SpMoved, SpBelow, RootBusy, PastEnd, Effect, Source, Transfer, Next}
-use Rattle.m51_monitor.proofs.Common.{Jump, Ret, Reti, Vector, sp, LayoutParts, IsRootAt, HasEdge, has_edge, Cause}
+use Rattle.m51_monitor.proofs.Common.{None, Ok, List, [], ◌∷◌, refl, ap, arith}
+use Rattle.m51_monitor.proofs.Common.{not-false, eqb-true, Contains}
+use Rattle.m51_monitor.proofs.Common.{Effect, Source, Transfer, Next}
+use Rattle.m51_monitor.proofs.Common.{Jump, Ret, Reti, Vector, sp, LayoutParts, IsRootAt, HasEdge}
 use Rattle.m51_monitor.proofs.Common.{Move, Stay, Local, Return, JumpTo, CallTo, InterruptTo, ReturnRecord, Records}
 use Rattle.m51_monitor.proofs.Common.{named_over, first_or, current, running}
 use Rattle.m51_monitor.proofs.Common.{AreWalks, HeightsRise, refused_if, is_sp_below, is_at}
-use Rattle.m51_monitor.proofs.Common.{jump_or_call, within, move_to, returns_to, is_by, return_move, is_busy}
-use Rattle.m51_monitor.proofs.Common.{interrupts_to, judged_as, IsRootFound, jumped, without_top, moved}
+use Rattle.m51_monitor.proofs.Common.{jump_or_call, within, move_to, is_by, return_move, is_busy}
+use Rattle.m51_monitor.proofs.Common.{interrupts_to, judged_as, jumped, without_top, moved}
 use Rattle.m51_monitor.proofs.Common.{none_in_empty}
-use Rattle.std.proofs.lemmas.Bool.{ltb-false, not-true}
+use Rattle.std.proofs.lemmas.Bool.{cases_Bool, ltb-false, not-true}
+use Rattle.std.proofs.lemmas.Bool.Decides.{nat_tests}
 use Rattle.std.specs.declared.result.Result.{Result}
 use Rattle.m51_cells.specs.declared.event.Why.{Why}
 use Rattle.m51_flat.specs.declared.state.Transfer.TheVariants.{Call}
 use Rattle.m51_flat.specs.declared.state.Cpu.{Cpu}
 use Rattle.m51_flat.specs.Sfr.{latch}
 use Rattle.m51_module.proofs.EdgeTests.{edge_from_test}
-use Rattle.m51_monitor.specs.declared.cause.Cause.TheVariants.{Call as ByCall, Interrupt as ByInterrupt}
-use Rattle.m51_monitor.specs.Records.{runs_also}
 use Rattle.m51_monitor.specs.Rising.{IsAbove}
-use Rattle.m51_monitor.specs.Transfers.{IsRootWanted, Judges, is_call, is_of_root}
+use Rattle.m51_monitor.specs.Transfers.{IsRootWanted, Judges, is_call}
 use Rattle.m51_flat.specs.Vectors.{vector_of}
 use Rattle.m51_monitor.proofs.Lists.{contains_cases}
 use Rattle.m51_monitor.specs.Laws.{MovesAreKept}
@@ -54,28 +53,8 @@ vector_is_some source e = grind arith
 
 not_busy : (rs : List ReturnRecord) (source : Source) → is_busy rs (vector_of source) ≡ false
     → Contains (running rs) (vector_of source) → ⊥
-not_busy [] source e h =
-    ⊎_elim (λ (k : vector_of source ≡ 0). vector_is_some source k)
-    (λ (k : Contains [] (vector_of source)). none_in_empty (vector_of source) k)
-    (contains_cases (vector_of source) 0 [] h)
-not_busy (r ∷ rs) source e h =
-    by_cause r.cause (is_of_root (vector_of source) r.cause) refl (is_busy rs (vector_of source)) e h
-    (not_busy rs source)
-  where
-    by_cause : (cause : Cause) (b : Bool) → b ≡ is_of_root (vector_of source) cause → (rest : Bool)
-        → (b || rest) ≡ false → Contains (runs_also cause (running rs)) (vector_of source)
-        → (rest ≡ false → Contains (running rs) (vector_of source) → ⊥) → ⊥
-    by_cause cause true f rest e h behind = cc e
-    by_cause ByCall false f rest e h behind = behind e h
-    by_cause (ByInterrupt other) false f rest e h behind = ⊎_elim
-        (λ (k : vector_of source ≡ vector_of other). ⊎_elim
-        (λ (t : (nat_eq (vector_of other) (vector_of source) ≡ true) × (vector_of other ≡ vector_of source)). cc
-        (f, t.0))
-        (λ (t : (nat_eq (vector_of other) (vector_of source) ≡ false) × (vector_of other ≢ vector_of source)). absurd
-        (t.1 (sym k)))
-        (eqb_tells (vector_of other) (vector_of source)))
-        (λ (k : Contains (running rs) (vector_of source)). behind e k)
-        (contains_cases (vector_of source) (vector_of other) (running rs) h)
+not_busy [] source e h = grind (arith, vector_is_some, none_in_empty, contains_cases)
+not_busy (r ∷ rs) source e h = grind (arith, nat_tests, contains_cases, not_busy rs source)
 
 -- Each move that the table allows, with what its tests say.
 pub data Allowed (l : LayoutParts) (a : Records) (top new to : ℕ) (at root : Option ℕ) : Move → Type 0 where
@@ -126,25 +105,12 @@ module _ (l : LayoutParts) (a : Records) (top new to : ℕ) (at root : Option �
       (((o ≡ Some (current a)) × (m ≡ within call)) ⊎
       ((u : ℕ) × HasEdge l.edges (current a) u × (o ≡ Some u) × (m ≡ move_to call u)))
   gone more call None m e = cc e
-  gone more call (Some u) m e = by_unit (nat_eq u (current a)) refl e
-    where
-      low : Bool
-      low = is_sp_below a.returns more new
-
-      by_unit : (same : Bool) → nat_eq u (current a) ≡ same →
-          Ok m ≡ (if same then refused_if low SpBelow (Ok (within call))
-          else refused_if (not (has_edge l.edges (current a) u)) NoEdge
-          (refused_if low SpBelow (Ok (move_to call u)))) →
-          IsAbove a.returns more new ×
-          (((Some u ≡ Some (current a)) × (m ≡ within call)) ⊎
-          ((v : ℕ) × HasEdge l.edges (current a) v × (Some u ≡ Some v) × (m ≡ move_to call v)))
-      by_unit true h e = let p = unless_ok low SpBelow (Ok (within call)) m e in
-          (low_above a.returns more new p.0, inl (ap Some (eqb-true u (current a) h), ok_is m (within call) p.1))
-      by_unit false h e =
-          let p = both_ok (not (has_edge l.edges (current a) u)) low NoEdge SpBelow (move_to call u) m e in (
-            low_above a.returns more new p.1,
-            inr (u, edge_from_test l.edges (current a) u (not-false (has_edge l.edges (current a) u) p.0), refl, p.2),
-          )
+  gone more call (Some u) m e = elim (cases_Bool (nat_eq u (current a))) [
+    | inl same ↦ let p = unless_ok _ _ _ _ (rw same at e) in
+        (low_above a.returns more new p.0, inl (ap Some (eqb-true _ _ same), ok_is _ _ p.1))
+    | inr other ↦ let p = both_ok _ _ _ _ _ _ (rw other at e) in
+        (low_above a.returns more new p.1, inr (u, edge_from_test _ _ _ (not-false _ p.0), refl, p.2))
+  ]
 
   jumps : (m : Move) → Ok m ≡ jump_or_call l (current a) (is_sp_below a.returns 0 new) false at
       → Taken l a top new to at root Jump m
@@ -177,20 +143,17 @@ module _ (l : LayoutParts) (a : Records) (top new to : ℕ) (at root : Option �
       → IsBack call rs m
   back call [] m e = cc e
   back call (r ∷ rs) m e =
-      let inside = is_at at (first_or (named_over a.reset rs) 0) in
-      let p = unless_ok (not (is_by call r.cause)) NotCalled (returns_to r.sp r.return_address top to inside) m e in
-      let q = unless_ok (not (nat_eq top r.sp)) SpMoved
-      (refused_if (not (nat_eq to r.return_address)) WrongAddress (refused_if (not inside) PastEnd (Ok Return))) m
-      p.1 in
-      let s = both_ok (not (nat_eq to r.return_address)) (not inside) WrongAddress PastEnd Return m q.1 in
+      let p = unless_ok _ _ _ _ e in
+      let q = unless_ok _ _ _ _ p.1 in
+      let s = both_ok _ _ _ _ _ _ q.1 in
       record {
         r = r;
         below = rs;
         are = refl;
-        by = not-false (is_by call r.cause) p.0;
-        top_is = eqb-true top r.sp (not-false (nat_eq top r.sp) q.0);
-        to_is = eqb-true to r.return_address (not-false (nat_eq to r.return_address) s.0);
-        at_is = at_is at (first_or (named_over a.reset rs) 0) (not-false inside s.1);
+        by = not-false _ p.0;
+        top_is = eqb-true _ _ (not-false _ q.0);
+        to_is = eqb-true _ _ (not-false _ s.0);
+        at_is = at_is _ _ (not-false _ s.1);
         is = s.2;
       }
 
@@ -198,14 +161,13 @@ module _ (l : LayoutParts) (a : Records) (top new to : ℕ) (at root : Option �
       → Ok m ≡ interrupts_to a source (is_sp_below a.returns 2 new) o → Taken l a top new to at root (Vector source) m
   vectors_by source None m same e = cc e
   vectors_by source (Some u) m same e =
-      let p = both_ok (is_busy a.returns (vector_of source)) (is_sp_below a.returns 2 new) RootBusy SpBelow
-      (InterruptTo source u) m e in
+      let p = both_ok _ _ _ _ _ _ e in
       rw p.2 (Vectors source u same p.0 (low_above a.returns 2 new p.1))
 
   taken : (t : Transfer) (m : Move) → Ok m ≡ judged_as l a top new to t at root → Taken l a top new to at root t m
   taken Next m e =
-      let p = both_ok (not (is_at at (current a))) (is_sp_below a.returns 0 new) PastEnd SpBelow Stay m e in
-      rw p.2 (Continues (at_is at (current a) (not-false (is_at at (current a)) p.0)) (low_above a.returns 0 new p.1))
+      let p = both_ok _ _ _ _ _ _ e in
+      rw p.2 (Continues (at_is _ _ (not-false _ p.0)) (low_above a.returns 0 new p.1))
   taken Jump m e = jumps m e
   taken Call m e = calls m e
   taken Ret m e = let b = back true a.returns m e in rw b.is (Returns b.r b.below b.are b.by b.top_is b.to_is b.at_is)
@@ -215,6 +177,8 @@ module _ (l : LayoutParts) (a : Records) (top new to : ℕ) (at root : Option �
 
   allowed_by : (t : Transfer) (m : Move) → IsRootWanted l t root → Taken l a top new to at root t m
       → Allowed l a top new to at root m
+  allowed_by t m found (Vectors source u is fresh above) =
+      IsInterrupt source u (rw is at found) (not_busy a.returns source fresh) above
   allowed_by t m found (Continues is above) = IsStay above
   allowed_by t m found (Stays is above) = IsStay above
   allowed_by t m found (Jumps u edge is above) = IsJump u edge is above
@@ -222,8 +186,6 @@ module _ (l : LayoutParts) (a : Records) (top new to : ℕ) (at root : Option �
   allowed_by t m found (Calls u edge is above) = IsCall u edge is above
   allowed_by t m found (Returns r rs are by same back here) = IsReturn r rs are same back
   allowed_by t m found (Ends r rs are by same back here) = IsReturn r rs are same back
-  allowed_by t m found (Vectors source u is fresh above) =
-      IsInterrupt source u (subst (IsRootFound l (vector_of source)) is found) (not_busy a.returns source fresh) above
 
 pub judged_taken : (l : LayoutParts) (a : Records) (cpu : Cpu) (e : Effect) (m : Move) (j : Judges l a cpu e (Ok m))
     → Taken l a (latch cpu sp) (latch e.cpu sp) e.cpu.pc j.at j.root e.transfer m
@@ -239,8 +201,8 @@ allowed l a top new to t at root m found e =
 module _ (l : LayoutParts) (a : Records) (e : Effect) (top to : ℕ) (at root : Option ℕ) where
   pub allowed_stands : (m : Move) → AreWalks l a → Allowed l a top (latch e.cpu sp) to at root m
       → AreWalks l (moved a e m)
-  allowed_stands m h (IsStay above) = h
   allowed_stands m h (IsJump u edge is above) = jump_stands l a u h edge
+  allowed_stands m h (IsStay above) = h
   allowed_stands m h (IsLocal is above) = grind arith
   allowed_stands m h (IsCall u edge is above) = grind arith
   allowed_stands m h (IsInterrupt source u root fresh above) = grind arith

@@ -1,7 +1,7 @@
 -- Segments of a sound layout turn live or outside.
 use Rattle.std.proofs.lemmas.Grind.{common_steps}
 use Rattle.m51_monitor.proofs.Common.{◌≡◌, ◌≢◌, ◌⊎◌, ℕ, Bool, ◌+◌, ◌<◌, false, List}
-use Rattle.m51_monitor.proofs.Common.{length, ◌∙◌, ⊎_elim, arith, slice_index}
+use Rattle.m51_monitor.proofs.Common.{length, inl, inr, ◌∙◌, arith, slice_index}
 use Rattle.m51_monitor.proofs.Common.{slice_index_or, Contains, slice_get_within, Cell, Covers, LayoutParts}
 use Rattle.m51_monitor.proofs.Common.{Placed, extent_at, IsPlaced, IsSound, CellState, Shared, cell_state, IsTurned}
 use Rattle.m51_monitor.proofs.Common.{Turned, Under, Beside, AreTurned, IsLocalAmong}
@@ -10,6 +10,7 @@ use Rattle.std.proofs.lemmas.List.Elements.{Contains-get_or}
 use Rattle.m51_module.specs.Plan.{AreLocals}
 use Rattle.m51_module.specs.Sound.{IsFit}
 use Rattle.m51_monitor.specs.Turning.{IsLocalOf}
+use Rattle.m51_monitor.proofs.Reading.{covers_or_not}
 
 pub placed_at : (l : LayoutParts) (t : ℕ) (p : Placed) → t < length l.placed → slice_index_or l.placed t p ≡ p
     → IsPlaced l t p
@@ -17,11 +18,6 @@ placed_at l t p h e = grind (arith, slice_get-get_or)
 
 pub fit_at : (l : LayoutParts) (t : ℕ) (p : Placed) → IsSound l → IsPlaced l t p → IsFit p
 fit_at l t p sound at = sound.fit t p at
-
--- nothing has turned yet
-pub none_among : (l : LayoutParts) (Is : ℕ → Type 0) (to : CellState) (m : Shared) → ((t : ℕ) → Is t → ⊥)
-    → AreTurned l Is to m m
-none_among l Is to m none = grind arith
 
 -- the same of other words for the same segments
 pub turned_as : (l : LayoutParts) (Is As : ℕ → Type 0) (to : CellState) (m m' : Shared) → ((t : ℕ) → Is t → As t)
@@ -37,10 +33,10 @@ module _ (l : LayoutParts) (Is As : ℕ → Type 0) (to : CellState) (s : ℕ) (
     (here : As s) (into : (t : ℕ) → Is t → As t) (from : (t : ℕ) → As t → (t ≡ s) ⊎ Is t) where
   next_cell : (c : Cell) (old mid new : CellState) → (Covers (extent_at p) c → new ≡ to)
       → ((Covers (extent_at p) c → ⊥) → new ≡ mid) → Turned l Is to c old mid → Turned l As to c old new
-  next_cell c old mid new inside outside h = ⊎_elim
-      (λ (k : Covers (extent_at p) c). Under s here p at k (inside k))
-      (λ (k : Covers (extent_at p) c → ⊥). beside c old mid new k (outside k) h)
-      (grind arith)
+  next_cell c old mid new inside outside h = elim (covers_or_not (extent_at p) c) [
+    | inl k ↦ Under s here p at k (inside k)
+    | inr k ↦ beside c old mid new k (outside k) h
+  ]
     where
       beside : (c : Cell) (old mid new : CellState) → (Covers (extent_at p) c → ⊥) → new ≡ mid
           → Turned l Is to c old mid → Turned l As to c old new
@@ -59,9 +55,6 @@ module _ (l : LayoutParts) (Is As : ℕ → Type 0) (to : CellState) (s : ℕ) (
 -- inside a list the default does not matter
 pub get_or_same : (xs : List ℕ) (k d : ℕ) → k < length xs → slice_index xs k ≡ slice_index_or xs k d
 get_or_same xs k d h = grind (arith, common_steps)
-
-pub last_or_before : (t k : ℕ) → t < k + 1 → (t ≡ k) ⊎ (t < k)
-last_or_before t k h = grind arith
 
 module _ (l : LayoutParts) (holders locals : List ℕ) (index : ℕ) (to : CellState) (below : index < length locals) where
   before : (t : ℕ) → IsLocalAmong holders locals index t → IsLocalAmong holders locals (index + 1) t

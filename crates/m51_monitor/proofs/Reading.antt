@@ -1,30 +1,21 @@
--- What the cells of a shared RAM answer.
+-- What the cells of a shared RAM answer, and what they are after a put.
 use Rattle.std.proofs.lemmas.Grind.{common_steps}
-use Rattle.m51_monitor.proofs.Common.{◌≡◌, ◌⊎◌, ℕ, zero, suc, ◌+◌, ◌*◌, ◌/◌, ◌%◌, ◌<◌, ◌≤◌, Bool, true}
-use Rattle.m51_monitor.proofs.Common.{false, nat_lt, List, length, Some, None, refl, sym, ap, ◌∙◌}
-use Rattle.m51_monitor.proofs.Common.{⊎_elim, arith, slice_index, slice_index_or, if◌then◌else◌, bit_at, lt-ltb}
-use Rattle.m51_monitor.proofs.Common.{cases_lt, Cell, Space, Ram, Xram, Code, Extent, Covers, state_at, flat_cells}
-use Rattle.m51_monitor.proofs.Common.{CellState, Holds, Absent, Fresh, ram_cell, xram_cell, same_states, IsDataCell}
-use Rattle.m51_monitor.proofs.Common.{IsCellAt, Mask, flag_in, flag_of, IsMarked, Shared, masked, shared_cells}
-use Rattle.m51_monitor.proofs.Common.{shared_barred, IsTurned, turned_to}
+use Rattle.m51_monitor.proofs.Common.{◌≡◌, ◌⊎◌, ℕ, zero, suc, ◌+◌, ◌*◌, ◌/◌, ◌%◌, ◌<◌, ◌≤◌, Bool, true, false, nat_lt}
+use Rattle.m51_monitor.proofs.Common.{Some, None, refl, sym, ap, ◌∙◌, arith, slice_index}
+use Rattle.m51_monitor.proofs.Common.{if◌then◌else◌, bit_at, lt-ltb, cases_lt, Cell, Space, Ram, Xram}
+use Rattle.m51_monitor.proofs.Common.{Extent, Covers, flat_cells, CellState, Holds, Absent, Fresh}
+use Rattle.m51_monitor.proofs.Common.{ram_cell, xram_cell, same_states, IsDataCell, IsCellAt, Mask, flag_in, flag_of}
+use Rattle.m51_monitor.proofs.Common.{IsMarked, Shared, masked, shared_cells, shared_barred, IsTurned, turned_to}
+use Rattle.m51_monitor.proofs.Common.{Option, inl, inr, eqb_tells, Put, state_over}
 use Rattle.m51_flat.specs.declared.state.Seen.TheVariants.{Outside, Unset}
 use Rattle.m51_flat.specs.Flat.{FlatBytes, filled_cells}
-use Rattle.m51_flat.specs.States.{States, answered}
-use Rattle.m51_flat.specs.States.{bit_seen, bits_seen, byte_seen, xbyte_seen, first_barred}
+use Rattle.m51_flat.specs.States.{States, answered, bit_seen, bits_seen, byte_seen, xbyte_seen, first_barred}
+use Rattle.m51_flat.specs.States.{states_after, shut_of, written_in}
 use Rattle.m51_monitor.specs.Masks.{IsMask}
-use Rattle.m51_monitor.specs.Shared.{IsShared, unwritten}
-use Rattle.m51_monitor.specs.Shared.{Blocks}
-
--- what holds of a cell of each memory
-pub by_space : (P : Space → ℕ → Type 0) → ((n : ℕ) → P Ram n) → ((n : ℕ) → P Xram n) → ((n : ℕ) → P Code n)
-    → (s : Space) (n : ℕ) → P s n
-by_space P r x c Ram n = r n
-by_space P r x c Xram n = x n
-by_space P r x c Code n = c n
-
--- no flag is set past the end
-pub none_behind : (flags : List Bool) (n : ℕ) → length flags ≤ n → slice_index_or flags n false ≡ false
-none_behind flags n h = grind (arith, common_steps)
+use Rattle.m51_monitor.specs.Shared.{IsShared, unwritten, Blocks, cells_put}
+use Rattle.m51_alu.specs.Arithmetic.{bit_of}
+use Rattle.m51_flat.specs.declared.state.Put.TheVariants.{Byte, Bit, Xbyte}
+use Rattle.m51_module.specs.Sound.{IsInside}
 
 -- only cells have flags
 pub flag_is_of_cell : (m : Mask) → IsMask m → (s : Space) (n : ℕ) → flag_in m s n ≡ true → IsCellAt s n
@@ -34,9 +25,6 @@ flag_is_of_cell m is s n e = grind (arith, common_steps)
 pub flat_holds : (m : FlatBytes) (n : ℕ) → n < 2048
     → (flat_cells m).ram n ≡ Holds (bit_at (slice_index m.ram (n / 8)) (n % 8))
 flat_holds m n h = rw (lt-ltb n 2048 h) refl
-
-pub flat_xholds : (m : FlatBytes) (n : ℕ) → n < 65536 → (flat_cells m).xram n ≡ Holds (slice_index m.xram n)
-flat_xholds m n h = rw (lt-ltb n 65536 h) refl
 
 -- a cell that is not live
 pub dead : (m : Shared) (n : ℕ) → flag_of m.live (ram_cell n) ≡ false → (shared_cells m).ram n ≡ Absent
@@ -131,10 +119,7 @@ pub barred_at : (m : Shared) (count first k : ℕ) → first ≤ k → k < first
     → ((i : ℕ) → first ≤ i → i < k → flag_of m.live (ram_cell i) ≡ true) → flag_of m.live (ram_cell k) ≡ false
     → Some (ram_cell k) ≡ first_barred (shared_barred m) count first
 barred_at m zero first k low high before here = grind arith
-barred_at m (suc count) first k low high before here = ⊎_elim
-    (grind (arith, barred_at m count))
-    (grind arith)
-    (cases_lt first k)
+barred_at m (suc count) first k low high before here = grind (arith, cases_lt first k, barred_at m count)
 
 pub barred_none : (m : Shared) (count first : ℕ)
     → ((i : ℕ) → first ≤ i → i < first + count → flag_of m.live (ram_cell i) ≡ true)
@@ -177,25 +162,8 @@ pub turned_cells : (e : Extent) (on : Bool) (memory : FlatBytes) (live live' wri
     (record { memory = memory; live = live'; written = written' })
 turned_cells e on memory live live' written written' l w = record {
   inside = grind arith;
-  outside = λ c out. by_space
-      (λ s n. flag_in live' s n ≡ flag_in live s n → flag_in written' s n ≡ flag_in written s n
-      → state_at (shared_cells new) s n ≡ state_at (shared_cells old) s n)
-      (λ n p q. rw (p, q) refl)
-      (λ n p q. rw (p, q) refl)
-      (λ n p q. refl)
-      c.space c.at (l.outside c out) (w.outside c out);
+  outside = λ c out. grind (arith, l.outside c out, w.outside c out);
 }
-  where
-    new : Shared
-    new = record { memory = memory; live = live'; written = written' }
-
-    old : Shared
-    old = record { memory = memory; live = live; written = written }
-
-    turned_state : (on l w : Bool) (state : CellState) (v : ℕ) → state ≡ Holds v → l ≡ on → w ≡ false
-        → masked l w state ≡ turned_to on
-    turned_state true l w state v h p q = rw (p, q) (fresh_state state v h)
-    turned_state false l w state v h p q = rw p refl
 
 pub covers_or_not : (e : Extent) (c : Cell) → Covers e c ⊎ (Covers e c → ⊥)
 covers_or_not e c = grind arith
@@ -206,3 +174,64 @@ pub turned_lives : (e : Extent) (on : Bool) (live live' written written' : Mask)
     → ((c : Cell) → flag_of written c ≡ true → flag_of live c ≡ true)
     → (c : Cell) → flag_of written' c ≡ true → flag_of live' c ≡ true
 turned_lives e on live live' written written' is l w only c h = grind (arith, common_steps)
+
+-- the cells of a put that is not shut are live
+pub put_lives : (m : Shared) (put : Put) → shut_of (shared_barred m) put ≡ None → (c : Cell) → Covers (cells_put put) c
+    → flag_of m.live c ≡ true
+unfolding shut_of
+put_lives m put e c h = grind arith
+
+-- a put writes a value into a cell that it covers, and into no other
+pub data Tells (put : Put) (c : Cell) (w : Option ℕ) : Type 0 where
+  Inside : Covers (cells_put put) c → (v : ℕ) → w ≡ Some v → Tells put c w
+  Beside : (Covers (cells_put put) c → ⊥) → w ≡ None → Tells put c w
+
+pub put_tells : (put : Put) (s : Space) (n : ℕ) → Tells put (record { space = s; at = n }) (written_in put s n)
+put_tells (Byte a v) Ram n = elim (eqb_tells (n / 8) a) [
+  | inl t ↦ Inside (grind arith) (bit_at v (n % 8)) (cc)
+  | inr t ↦ grind arith
+]
+put_tells (Bit a b) Ram n = elim (eqb_tells n (256 + a)) [
+  | inl t ↦ Inside (grind arith) (bit_of b) (cc)
+  | inr t ↦ grind arith
+]
+put_tells (Xbyte a v) Xram n = elim (eqb_tells n a) [
+  | inl t ↦ Inside (grind arith) v (rw t.0 refl)
+  | inr t ↦ grind arith
+]
+put_tells put s n = grind arith
+
+-- one cell: a put that covers it finds it live and leaves it written, any other leaves its flags
+over_masked : (put : Put) (c : Cell) (w : Option ℕ) (live written' written : Bool) (state : CellState) → Tells put c w
+    → (Covers (cells_put put) c → live ≡ true) → (Covers (cells_put put) c → written' ≡ true)
+    → ((Covers (cells_put put) c → ⊥) → written' ≡ written)
+    → masked live written' (state_over w state) ≡ state_over w (masked live written state)
+over_masked put c w live written' written state h7 alive set kept = grind arith
+
+module _ (m : Shared) (put : Put) (memory' : FlatBytes) (written' : Mask) (open_ : shut_of (shared_barred m) put ≡ None)
+    (mark : IsMarked (cells_put put) true m.written written') where
+  abbrev new : Shared
+  new = record { memory = memory'; live = m.live; written = written' }
+
+  pub put_cells : flat_cells memory' ≡ states_after put (flat_cells m.memory)
+      → ((c : Cell) → Covers (cells_put put) c → IsDataCell c) → shared_cells new ≡ states_after put (shared_cells m)
+  put_cells e are =
+      same_states (shared_cells new) (states_after put (shared_cells m))
+      (λ n. ap (λ (s : States). masked (flag_in m.live Ram n) (flag_in written' Ram n) (s.ram n)) e
+      ∙ over_masked put (ram_cell n) _ _ _ _ _ (put_tells put Ram n) (put_lives m put open_ _)
+      (λ h. mark.inside _ (are _ h) h) (mark.outside _))
+      (λ n. ap (λ (s : States). masked (flag_in m.live Xram n) (flag_in written' Xram n) (s.xram n)) e
+      ∙ over_masked put (xram_cell n) _ _ _ _ _ (put_tells put Xram n) (put_lives m put open_ _)
+      (λ h. mark.inside _ (are _ h) h) (mark.outside _))
+
+  -- only live cells were written
+  pub put_keeps_live : ((c : Cell) → flag_of m.written c ≡ true → flag_of m.live c ≡ true) → (c : Cell)
+      → flag_of written' c ≡ true → flag_of m.live c ≡ true
+  put_keeps_live only c h = elim (covers_or_not (cells_put put) c) [
+    | inl k ↦ put_lives m put open_ c k
+    | inr k ↦ only c (sym (mark.outside c k) ∙ h)
+  ]
+
+-- the cells of a put are cells of data memory
+pub put_is_data : (put : Put) → IsInside (cells_put put) → (c : Cell) → Covers (cells_put put) c → IsDataCell c
+put_is_data put inside c h = grind arith

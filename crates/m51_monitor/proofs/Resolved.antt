@@ -1,7 +1,7 @@
 -- The functions answer as the relation says.
 use Rattle.std.proofs.lemmas.Grind.{common_steps}
-use Rattle.m51_monitor.proofs.Common.{◌≡◌, ℕ, suc, ◌+◌, ◌<◌, Bool, true, false, not, ◌&&◌, Option, Some}
-use Rattle.m51_monitor.proofs.Common.{None, List, [], ◌∷◌, refl, ◌∙◌, ⊎_elim, arith, slice_get}
+use Rattle.m51_monitor.proofs.Common.{◌≡◌, ℕ, suc, ◌+◌, Bool, true, false, not, ◌&&◌, Option, Some}
+use Rattle.m51_monitor.proofs.Common.{None, List, [], ◌∷◌, inl, inr, refl, ◌∙◌, arith, slice_get}
 use Rattle.m51_monitor.proofs.Common.{if◌then◌else◌, and_parts, cases_lt, Cell, Space, LayoutParts}
 use Rattle.m51_monitor.proofs.Common.{Placed, state_at, ram_cell, xram_cell}
 use Rattle.m51_monitor.proofs.Common.{same_states, IsDataCell, flag_in, OneLive, Shared, shared_cells, shared_barred}
@@ -66,27 +66,25 @@ resolves l live s c is = by_segment (segments_over l live c)
 
     by_segment : Segments l live c (segment_over l live c) → Resolves l live s c (resolved l live s c)
     by_segment (One t over alive e) = InSegment t over alive (plain (Some t) e)
-    by_segment (NoOne none e) = ⊎_elim
-        (grind arith)
-        (λ (k : (is_common l c ≡ false) × ((t : ℕ) × IsOver l t c)). Nowhere k.1.0 k.1.1 none
-        (grind arith))
-        (common_or_over l c is)
+    by_segment (NoOne none e) = elim (common_or_over l c is) [
+      | inl k ↦ grind arith
+      | inr k ↦ Nowhere k.1.0 k.1.1 none (grind arith)
+    ]
 
 -- the one memory answers what the separate stores answer
 pub cells_resolved : (l : LayoutParts) (live : Live) (m : Shared) (s : Stores) → OneLive l live → StandsFor l live m s
     → shared_cells m ≡ resolved_cells l live s
 cells_resolved l live m s one h =
     same_states (shared_cells m) (resolved_cells l live s)
-    (λ n. ⊎_elim
-    (λ (lt : n < 2048). one_answer l live s (ram_cell n) ((shared_cells m).ram n) (resolved l live s (ram_cell n)) one
-    (h.cells (ram_cell n) (tt, lt)) (resolves l live s (ram_cell n) (tt, lt)))
-    (grind arith)
-    (cases_lt n 2048))
-    (λ n. ⊎_elim
-    (λ (lt : n < 65536). one_answer l live s (xram_cell n) ((shared_cells m).xram n) (resolved l live s (xram_cell n))
-    one (h.cells (xram_cell n) (tt, lt)) (resolves l live s (xram_cell n) (tt, lt)))
-    (grind arith)
-    (cases_lt n 65536))
+    (λ n. elim (cases_lt n 2048) [
+      | inl lt ↦ one_answer l live s _ _ _ one (h.cells (ram_cell n) (tt, lt)) (resolves l live s (ram_cell n) (tt, lt))
+      | inr end ↦ grind arith
+    ])
+    (λ n. elim (cases_lt n 65536) [
+      | inl lt ↦ one_answer l live s _ _ _ one (h.cells (xram_cell n) (tt, lt))
+          (resolves l live s (xram_cell n) (tt, lt))
+      | inr end ↦ grind arith
+    ])
 
 bars_cell : (m : Shared) → IsMask m.live → (s : Space) (n : ℕ)
     → not (flag_in m.live s n) ≡ is_absent (state_at (shared_cells m) s n)

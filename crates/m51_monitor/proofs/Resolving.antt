@@ -1,23 +1,20 @@
 -- What the separate stores answer after a put, and after segments turned live or died.
 use Rattle.std.proofs.Common.{arith}
 use Rattle.std.proofs.lemmas.Grind.{common_steps}
-use Rattle.m51_monitor.proofs.Common.{◌≡◌, ◌≢◌, ◌⊎◌, inl, ℕ, zero, suc, Bool, true, false, ◌||◌}
-use Rattle.m51_monitor.proofs.Common.{Option, Some, None, List, [], ◌∷◌, refl, sym, ◌∙◌, ⊎_elim, slice_get}
+use Rattle.m51_monitor.proofs.Common.{◌≡◌, ◌≢◌, ◌⊎◌, inl, inr, ℕ, zero, suc, Bool, true, false}
+use Rattle.m51_monitor.proofs.Common.{Option, Some, None, List, [], ◌∷◌, refl, slice_get}
 use Rattle.m51_monitor.proofs.Common.{list_any, Cell, Extent, Covers}
 use Rattle.m51_monitor.proofs.Common.{LayoutParts, Placed, extent_at}
 use Rattle.m51_monitor.proofs.Common.{Put, CellState, Absent, IsDataCell, OneLive, Stores, IsOver, Live}
 use Rattle.m51_monitor.proofs.Common.{Resolves, InSegment, InCommon, Nowhere, is_data, has_cell, is_common, put_into}
 use Rattle.m51_monitor.proofs.Common.{state_over}
-use Rattle.std.proofs.lemmas.Bool.{and_from, or_right}
+use Rattle.std.proofs.lemmas.Bool.{and_from, cases_Bool, or_right}
 use Rattle.m51_module.specs.Plan.{IsSegment}
 use Rattle.m51_monitor.specs.Stores.{covers, is_over, is_over_at}
 use Rattle.m51_flat.specs.States.{written_to}
 
 pub covers_is : (e : Extent) (c : Cell) → covers e c ≡ true → Covers e c
 covers_is e c h = grind arith
-
-pub is_covered : (e : Extent) (c : Cell) → Covers e c → covers e c ≡ true
-is_covered e c h = grind arith
 
 pub is_data_cell : (c : Cell) → IsDataCell c → is_data c ≡ true
 is_data_cell c h = grind arith
@@ -50,14 +47,12 @@ is_has_cell l t c is h =
 abbrev IsSomeOver : Cell → List Placed → Type 0
 IsSomeOver c ps = (t : ℕ) × (p : Placed) × (slice_get ps t ≡ Some p) × (is_over p c ≡ true)
 
-over_first : (c : Cell) (p : Placed) (ps : List Placed) (b rest : Bool) → is_over p c ≡ b
-    → (rest ≡ true → IsSomeOver c ps) → (b || rest) ≡ true → IsSomeOver c (p ∷ ps)
-over_first c p ps true rest e behind h = (0, p, refl, e)
-over_first c p ps false rest e behind h = let k = behind h in (suc k.0, k.1, k.2, k.3)
-
 over_some : (c : Cell) (ps : List Placed) → list_any (λ p. is_over p c) ps ≡ true → IsSomeOver c ps
 over_some c [] h = cc h
-over_some c (p ∷ ps) h = over_first c p ps (is_over p c) (list_any (λ p. is_over p c) ps) refl (λ k. over_some c ps k) h
+over_some c (p ∷ ps) h = elim (cases_Bool (is_over p c)) [
+  | inl e ↦ (0, p, refl, e)
+  | inr e ↦ let k = over_some c ps (rw e at h) in (suc k.0, k.1, k.2, k.3)
+]
 
 some_over : (c : Cell) (ps : List Placed) (t : ℕ) (p : Placed) → slice_get ps t ≡ Some p → is_over p c ≡ true
     → list_any (λ p. is_over p c) ps ≡ true
@@ -79,10 +74,7 @@ common_or_over l c is = by_any (list_any (λ p. is_over p c) l.placed) refl
     )
 
 pub free_is_common : (l : LayoutParts) (c : Cell) → IsDataCell c → ((t : ℕ) → IsOver l t c → ⊥) → is_common l c ≡ true
-free_is_common l c is free = ⊎_elim
-    (grind arith)
-    (λ (h : (is_common l c ≡ false) × ((t : ℕ) × IsOver l t c)). absurd (free h.1.0 h.1.1))
-    (common_or_over l c is)
+free_is_common l c is free = elim (common_or_over l c is) [ inl f ↦ f.0 | inr h ↦ absurd (free h.1.0 h.1.1) ]
 
 -- a cell has one answer
 pub one_answer : (l : LayoutParts) (live : Live) (s : Stores) (c : Cell) (x y : CellState) → OneLive l live
@@ -91,11 +83,11 @@ one_answer l live s c x y one (InSegment t p h e) (InSegment u q k f) = cc (one 
 one_answer l live s c x y one (InSegment t p h e) (InCommon free f) = absurd (free t p)
 one_answer l live s c x y one (InSegment t p h e) (Nowhere u q free f) = absurd (free t p h)
 one_answer l live s c x y one (InCommon free e) (InSegment t p h f) = absurd (free t p)
-one_answer l live s c x y one (InCommon free e) (InCommon free' f) = e ∙ sym f
 one_answer l live s c x y one (InCommon free e) (Nowhere u q free' f) = absurd (free u q)
 one_answer l live s c x y one (Nowhere u q free e) (InSegment t p h f) = absurd (free t p h)
 one_answer l live s c x y one (Nowhere u q free e) (InCommon free' f) = absurd (free' u q)
-one_answer l live s c x y one (Nowhere u q free e) (Nowhere u' q' free' f) = e ∙ sym f
+one_answer l live s c x y one (InCommon free e) (InCommon free' f) = cc (e, f)
+one_answer l live s c x y one (Nowhere u q free e) (Nowhere u' q' free' f) = cc (e, f)
 
 -- a value is put only into a cell that is not outside
 abbrev pub MayPut : Option ℕ → CellState → Type 0

@@ -1,12 +1,12 @@
 -- The start.
 use Rattle.m51_monitor.proofs.Common.{◌≡◌, ℕ, ◌+◌, ◌<◌, Bool, true, false, not, ◌&&◌, Some}
-use Rattle.m51_monitor.proofs.Common.{None, List, [], length, refl, ⊎_elim, arith, slice_get}
+use Rattle.m51_monitor.proofs.Common.{None, List, [], length, inl, inr, refl, arith, slice_get}
 use Rattle.m51_monitor.proofs.Common.{slice_index, if◌then◌else◌, slice_get_within, Cell, Space}
 use Rattle.m51_monitor.proofs.Common.{LayoutParts, Mark, Overlaid, Placed, extent_at, IsPlaced, IsOverlaid}
 use Rattle.m51_monitor.proofs.Common.{IsSound, none_in_empty, state_at, CellState, Holds, Absent, AreTimes, IsCellAt}
-use Rattle.m51_monitor.proofs.Common.{IsDataCell, Shared, shared_cells, cell_state, IsTurned, IsOver, Resolves}
+use Rattle.m51_monitor.proofs.Common.{IsDataCell, Shared, shared_cells, cell_state, IsTurned, Resolves}
 use Rattle.m51_monitor.proofs.Common.{InSegment, Nowhere, is_overlaid_at, is_overlaid_mark, has_cell}
-use Rattle.m51_monitor.proofs.Common.{is_common, live_by, filled_stores, unset_dead, StandsFor, Turned, Under, Beside}
+use Rattle.m51_monitor.proofs.Common.{live_by, filled_stores, unset_dead, StandsFor, Turned, Under, Beside}
 use Rattle.m51_monitor.proofs.Common.{AreTurned}
 use Rattle.m51_flat.specs.Flat.{filled_cells}
 use Rattle.m51_monitor.specs.Stores.{fill_in}
@@ -17,7 +17,6 @@ use Rattle.m51_monitor.proofs.Entering.{plain_lives}
 use Rattle.m51_monitor.proofs.Liveness.{is_live}
 use Rattle.m51_monitor.proofs.Placing.{next_turned, turned_as}
 use Rattle.m51_monitor.proofs.Resolving.{common_or_over, is_has_cell}
-use Rattle.m51_monitor.proofs.Truths.{if_true}
 
 pub mark_is : (mark : Mark) → is_overlaid_mark mark ≡ true → mark ≡ Overlaid
 mark_is mark e = grind arith
@@ -44,9 +43,6 @@ none_overlaid l m = grind arith
 filled_at : (fill : ℕ) (s : Space) (n : ℕ) → IsCellAt s n → state_at (filled_cells fill) s n ≡ Holds (fill_in fill s n)
 filled_at fill s n h = grind arith
 
-both : (a b : Bool) → a ≡ false → b ≡ true → (not a && b) ≡ true
-both a b e f = rw (e, f) refl
-
 dead_overlaid : (l : LayoutParts) (us : List ℕ) (t : ℕ) → live_by l us t ≡ false
     → is_overlaid_at (slice_get l.placed t) ≡ true
 dead_overlaid l us t e = grind arith
@@ -68,17 +64,12 @@ module _ (l : LayoutParts) (fill : ℕ) (sound : IsSound l) where
   start_resolves c old new is e (Under t k p at h f) =
       let here = overlaid_segment l t p c k.overlaid at h in
       Nowhere t here (grind (arith, live_is_plain)) f
-  start_resolves c old new is e (Beside none f) = ⊎_elim
-      (grind arith)
-      (λ (k : (is_common l c ≡ false) × ((t : ℕ) × IsOver l t c)).
-      let t = k.1.0 in
-      let q = k.1.1 in
-      let plain = not_overlaid l t
-      (grind (arith, slice_get_within)) in
-      InSegment t q (plain_lives l [] t plain)
-      (cc (if_true (not (is_overlaid_at (slice_get l.placed t)) && has_cell l t c) (fill_in fill c.space c.at)
-      (both (is_overlaid_at (slice_get l.placed t)) (has_cell l t c) plain (is_has_cell l t c is q)))))
-      (common_or_over l c is)
+  start_resolves c old new is e (Beside none f) = elim (common_or_over l c is) [
+    | inl k ↦ grind arith
+    | inr k ↦
+        let plain = not_overlaid l k.1.0 (grind (arith, slice_get_within)) in
+        InSegment k.1.0 k.1.1 (plain_lives l [] _ plain) (rw (f, e, plain, is_has_cell l _ c is k.1.1) refl)
+  ]
 
   pub start_stands : (m m' : Shared) → shared_cells m ≡ filled_cells fill
       → AreTurned l (IsOverlaidAmong l (length l.placed)) Absent m m'

@@ -1,6 +1,6 @@
 //! The units that are active, and the memory of their segments.
 ghost use Rattle.std.specs.Prelude.{◌≡◌, ◌≢◌, ◌+◌, ◌<◌, ◌≤◌, ◌∷◌, ◌↔◌, ℕ, IsTrue, true, false, List, [], IfOk, None};
-ghost use Rattle.std.specs.Prelude.{Some, IfSome, IfNone, length, slice_index, slice_get, reverse, drop, ◌-◌};
+ghost use Rattle.std.specs.Prelude.{Some, IfSome, IfNone, length, nat_eq, slice_index, slice_get, reverse, drop, ◌-◌};
 ghost use Rattle.std.specs.List.{Contains};
 ghost use Rattle.m51_cells.specs.declared.cell.Cell.{Cell};
 ghost use Rattle.m51_module.specs.Plan.{IsPlaced};
@@ -10,7 +10,7 @@ ghost use Rattle.m51_monitor.specs.Activity.{Activity, AreHolders, AreTimes, May
 ghost use Rattle.m51_monitor.specs.Activity.{times};
 ghost use Rattle.m51_monitor.specs.declared.activity.TheConstants.{MOST_NAMED};
 ghost use Rattle.m51_monitor.specs.Frames.{EndsAt};
-ghost use Rattle.m51_monitor.specs.Records.{first_or};
+ghost use Rattle.m51_monitor.specs.Records.{first_or, one_more_where};
 ghost use Rattle.m51_monitor.specs.Resolved.{outside_of};
 ghost use Rattle.m51_monitor.specs.Shared.{Shared, shared_barred, shared_cells, turned_to};
 ghost use Rattle.m51_monitor.specs.Stores.{Stores, StandsFor, filled_stores, has_cell, live_by, put_into};
@@ -114,6 +114,30 @@ fn turn_locals(store: &mut SharedRam, layout: &Layout, holders: &[u16], unit: u1
     }
 }
 
+// Counts one holder more of the segment.
+#[tactic(auto, using(crate::proofs::Entering::set_more))]
+fn add_one(holders: &mut [u16], segment: u16)
+    requires inside { segment < length holders.old }
+    requires room { slice_index holders.old segment < 65535 }
+    ensures len { length holders.new ≡ length holders.old }
+    ensures number { (t : ℕ) → slice_index holders.new t
+        ≡ slice_index holders.old t + one_more_where (nat_eq segment t) 0 }
+{
+    holders[usize::from(segment)] += 1;
+}
+
+// Counts one holder less of the segment.
+#[tactic(auto, using(crate::proofs::Entering::set_less))]
+fn take_one(holders: &mut [u16], segment: u16)
+    requires inside { segment < length holders.old }
+    requires some { 0 < slice_index holders.old segment }
+    ensures len { length holders.new ≡ length holders.old }
+    ensures number { (t : ℕ) → slice_index holders.new t + one_more_where (nat_eq segment t) 0
+        ≡ slice_index holders.old t }
+{
+    holders[usize::from(segment)] -= 1;
+}
+
 // Counts one holder more of each of these segments.
 fn count_more(holders: &mut [u16], locals: &[u16])
     requires inside { (t : ℕ) → Contains locals.now t → t < length holders.old }
@@ -122,7 +146,7 @@ fn count_more(holders: &mut [u16], locals: &[u16])
     ensures number { (t : ℕ) → slice_index holders.new t ≡ slice_index holders.old t + times locals.now t }
 {
     for index in 0..locals.len() {
-        holders[usize::from(locals[index])] += 1;
+        add_one(holders, locals[index]);
     }
 }
 
@@ -134,7 +158,7 @@ fn count_less(holders: &mut [u16], locals: &[u16])
     ensures number { (t : ℕ) → slice_index holders.new t + times locals.now t ≡ slice_index holders.old t }
 {
     for index in 0..locals.len() {
-        holders[usize::from(locals[index])] -= 1;
+        take_one(holders, locals[index]);
     }
 }
 
@@ -302,7 +326,7 @@ impl Activity {
     }
 
     /// The last of the units.
-    #[tactic(auto, using(crate::proofs::Numbers::last_is))]
+    #[tactic(auto, using(crate::proofs::Lists::last_is))]
     pub(crate) fn last(&self) -> u16
         requires { 0 < length self.now.units }
         ensures { result ≡ first_or self.now.units 0 }
@@ -319,7 +343,7 @@ impl Activity {
     }
 
     /// The unit that was last when this number of units was named.
-    #[tactic(auto, using(crate::proofs::Numbers::unit_is))]
+    #[tactic(auto, using(crate::proofs::Lists::unit_is))]
     pub(crate) fn unit(&self, count: usize) -> u16
         requires some { 0 < count }
         requires below { count ≤ length self.now.units }

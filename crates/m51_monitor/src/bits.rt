@@ -25,7 +25,7 @@ impl Model for Flags {
 }
 
 // A byte whose flags are all set so.
-#[tactic(auto, using(crate::proofs::FlagBytes::full, crate::proofs::FlagBytes::empty))]
+#[tactic(auto, using(crate::proofs::Marks::full, crate::proofs::Marks::empty))]
 fn whole_byte(value: bool) -> u8
     ensures { (k : ℕ) → k < 8 → flag_at result k ≡ value }
 {
@@ -78,6 +78,7 @@ impl Flags {
     }
 
     /// The flag at this index.
+    #[tactic(auto, using(crate::proofs::Marks::byte_inside))]
     pub(crate) fn get(&self, index: usize) -> bool
         requires { index < length self.now }
         ensures { result ≡ slice_index_or self.now index false }
@@ -86,6 +87,7 @@ impl Flags {
     }
 
     /// Whether all flags of this byte are set.
+    #[tactic(auto, using(crate::proofs::Marks::length_flags))]
     pub(crate) fn are_set(&self, byte: usize) -> bool
         requires { 8 * byte < length self.now }
         ensures { result ≡ true → (n : ℕ) → 8 * byte ≤ n → n < 8 * byte + 8 → slice_index_or self.now n false ≡ true }
@@ -94,6 +96,7 @@ impl Flags {
     }
 
     /// Sets one flag.
+    #[tactic(auto, using(crate::proofs::Marks::byte_inside))]
     #[inline(always)]
     pub(crate) fn set(&mut self, index: usize, value: bool)
         requires { index < length self.old }
@@ -104,7 +107,7 @@ impl Flags {
     }
 
     // Sets flags one by one.
-    #[tactic(auto, using(crate::proofs::FlagBytes::none_set, crate::proofs::FlagBytes::then_set))]
+    #[tactic(auto, using(crate::proofs::Marks::none_set, crate::proofs::Marks::then_set))]
     fn set_each(&mut self, from: usize, to: usize, value: bool)
         requires order { from ≤ to }
         requires inside { to ≤ length self.old }

@@ -14,7 +14,7 @@ use m51_flat::Transfer;
 use m51_module::Layout;
 
 /// The topmost frame.
-#[tactic(auto, using(crate::proofs::Topping::no_top, crate::proofs::Topping::last_split))]
+#[tactic(auto, using(crate::proofs::Framing::no_top, crate::proofs::Framing::last_split))]
 pub(crate) fn topmost(frames: &[ReturnFrame]) -> Option<ReturnFrame>
     ensures { IsTop frames.now result }
 {
@@ -121,7 +121,7 @@ pub(crate) fn returns_from(
 }
 
 /// The unit that covers the address.
-#[tactic(auto, using(crate::proofs::Topping::found_at, crate::proofs::Finding::same_unit_found))]
+#[tactic(auto, using(crate::proofs::Framing::found_at, crate::proofs::Finding::same_unit_found))]
 pub(crate) fn unit_found(layout: &Layout, address: u16) -> Option<u16>
     ensures value { result ≡ unit_found layout.now address }
     ensures found { IsFoundAt layout.now address result }

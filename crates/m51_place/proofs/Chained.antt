@@ -1,18 +1,19 @@
 -- The heaviest walks, raised along the edges and followed from each root.
-use Rattle.m51_place.proofs.Common.{◌≡◌, inl, inr, ℕ, ◌<◌, false, tally, Edges, HasEdge, leads, cases_Bool, ◌+◌, ◌≤◌}
-use Rattle.m51_place.proofs.Common.{true, Bool, ◌||◌, List, [], ◌∷◌, ◌++◌, length, map, take, get_or, refl, sym, ap}
+use Rattle.m51_place.proofs.Common.{◌||◌, ◌≡◌, inl, inr, ℕ, ◌<◌, false, tally, Edges, HasEdge, leads, cases_Bool, ◌+◌}
+use Rattle.m51_place.proofs.Common.{◌≤◌, true, Bool, List, [], ◌∷◌, ◌++◌, length, map, take, get_or, refl, sym, ap}
 use Rattle.m51_place.proofs.Common.{subst, ◌∙◌, arith, false≢true, sum_by-cons, LayoutParts, weight_along, weight_of}
 use Rattle.m51_place.proofs.Common.{IsSound, none_in_empty, IsRising, ◌≢◌, ◌⊎◌, drop, Option, Some, None, append_assoc}
-use Rattle.m51_place.proofs.Common.{nat_lt, Contains, append-nil, Contains-append_left, cases_lt, Chain, IsWalk}
-use Rattle.m51_place.proofs.Common.{drop_rest, IsFront, IsLeastOn}
+use Rattle.m51_place.proofs.Common.{nat_lt, append-nil, cases_lt, Chain, IsWalk, drop_rest, IsFront, same_Some}
 use Rattle.std.proofs.Common.{set, sum}
 use Rattle.std.proofs.lemmas.List.{take_more, get_or-set_same, get_or-set_other, length-set, drop_all}
-use Rattle.std.proofs.lemmas.List.Elements.{Contains-push_cases, Contains-get_or, Contains-push}
+use Rattle.std.proofs.lemmas.List.Elements.{Contains-push_cases, Contains-get_or}
 use Rattle.std.proofs.lemmas.List.Sums.{sum_by-set}
 use Rattle.m51_cells.proofs.ListsAndOptions.{sum_most}
 use Rattle.m51_module.proofs.Units.{same_or_not}
 use Rattle.m51_place.specs.Heaviest.{AreReached, AreWeights, HasWalk, Lifts, AreBest, FollowsHeaviest, IsHeaviestFrom}
-use Rattle.m51_place.specs.Heaviest.{IsNext, LeadsOn, lesser, Steps}
+use Rattle.m51_place.specs.Heaviest.{HasRoom, IsNext, leads_on, least_of, lesser, Steps}
+use Rattle.m51_cells.proofs.Members.{contains_in, Every, every_in, In, in_contains}
+use Rattle.std.proofs.lemmas.Bool.Decides.{nat_tests}
 use Rattle.m51_place.proofs.Weights.{walk_bound}
 use Rattle.std.proofs.lemmas.Bool.{cases_order, ltb-false, ltb-true}
 use Rattle.m51_module.specs.Chains.{ChainsAt, ComesFirst, HasNoRoot, IsHeaviest}
@@ -33,15 +34,6 @@ along_more l u more = sum_by-cons (λ (n : ℕ). n) (weight_of l u) (map (weight
 
 pub along_one : (l : LayoutParts) (u : ℕ) → weight_along l (u ∷ []) ≡ weight_of l u
 along_one l u = let none : weight_along l [] ≡ 0 = refl in omega (arith, along_more l u [], none)
-
--- at first each number is the bytes of only its own unit
-pub reached_first : (l : LayoutParts) (weights : List ℕ) → AreWeights l weights → AreReached l weights
-reached_first l weights h =
-    record {
-      len = h.len;
-      each =
-          λ u below. record { more = []; walk = tt; bytes_are = h.each u below ∙ sym (along_one l u) };
-    }
 
 pub walk_from : (l : LayoutParts) (u v bytes : ℕ) → HasEdge l.edges u v → HasWalk l v bytes
     → HasWalk l u (weight_of l u + bytes)
@@ -100,7 +92,7 @@ rising_pass l done u v old now rose high c = record {
       | inr here ↦
           let from : u ≡ x = ap (λ (p : ℕ × ℕ). p.0) here in
           let to : v ≡ y = ap (λ (p : ℕ × ℕ). p.1) here in
-          omega (arith, high, ap (λ w. get_or now w 0) from, ap (λ w. get_or now w 0) to, ap (weight_of l) from)
+          rw (from, to) at high
     ];
   };
   not_less = c.not_less;
@@ -128,16 +120,8 @@ best_most l best sound h =
     let most = sum_most 256 best (λ u below. walk_most l sound u (get_or best u 0) (h.each u below)) in
     omega (arith, most, h.len, sound.few_units)
 
--- what is known where one unit is lifted along an edge
-pub record Room (l : LayoutParts) (weights best : List ℕ) (from to : ℕ) : Type 0 where
-  pub in_weights : from < length weights
-  pub from_in : from < length best
-  pub to_in : to < length best
-  pub weight : get_or weights from 0 ≡ weight_of l from
-  pub most : weight_of l from + get_or best to 0 ≤ 256
-
 pub room : {l : LayoutParts} {weights best : List ℕ} (from to : ℕ) → IsSound l → AreWeights l weights
-    → AreReached l best → HasEdge l.edges from to → Room l weights best from to
+    → AreReached l best → HasEdge l.edges from to → HasRoom l weights best from to
 room {l} {weights} {best} from to sound w h e =
     let inside = sound.edges from to e in
     let in_weights : from < length weights = omega (arith, inside.0, w.len) in
@@ -147,9 +131,55 @@ room {l} {weights} {best} from to sound w h e =
       from_in = omega (arith, inside.0, h.len);
       to_in = to_in;
       weight = w.each from in_weights;
-      most = walk_most l sound from (weight_of l from + get_or best to 0)
-          (walk_from l from to (get_or best to 0) e (h.each to to_in));
+      most = walk_most l sound from _ (walk_from l from to _ e (h.each to to_in));
     }
+
+-- The least unit to which an edge that passes leads, of one that was found and of those of more edges.
+
+abbrev AtMost : ℕ → Option ℕ → Type 0
+AtMost v found = (o : ℕ) → found ≡ Some o → v ≤ o
+
+lesser_is : (found : Option ℕ) (x : ℕ) → (found ≡ Some (lesser found x) ⊎ (x ≡ lesser found x)) × (lesser found x ≤ x)
+    × AtMost (lesser found x) found
+lesser_is None x = (inr refl, omega arith, λ o h. absurd (cc h))
+lesser_is (Some o) x = elim (cases_Bool (nat_lt o x)) [
+  | inl less ↦ rw less (inl refl, omega (arith, ltb-true o x less), λ p h. omega (arith, same_Some o p h))
+  | inr more ↦ rw more (inr refl, omega arith, λ p h. omega (arith, ltb-false o x more, same_Some o p h))
+]
+
+module _ (passes : ℕ × ℕ → Bool) where
+  least_none : (edges : Edges) (found : Option ℕ) → least_of passes found edges ≡ None
+      → (found ≡ None) × Every (λ e. passes e ≡ false) edges
+  least_none [] found h = (h, tt)
+  least_none (e ∷ more) found h = elim (cases_Bool (passes e)) [
+    | inl is ↦ absurd (cc (least_none more _ (rw is at h)).0)
+    | inr fails ↦ let rest = least_none more found (rw fails at h) in (rest.0, (fails, rest.1))
+  ]
+
+  least_some : (edges : Edges) (found : Option ℕ) (v : ℕ) → least_of passes found edges ≡ Some v
+      → (found ≡ Some v ⊎ ((e : ℕ × ℕ) × In e edges × (passes e ≡ true) × (e.1 ≡ v))) × AtMost v found
+      × Every (λ e. passes e ≡ true → v ≤ e.1) edges
+  least_some [] found v h = (inl h, λ o is. omega (arith, same_Some v o (sym h ∙ is)), tt)
+  least_some (e ∷ more) found v h = elim (cases_Bool (passes e)) [
+    | inl is ↦
+        let rest = least_some more (Some (lesser found e.1)) v (rw is at h) in
+        let of = lesser_is found e.1 in
+        let most = rest.1 (lesser found e.1) refl in (
+          elim rest.0 [
+            | inl here ↦ let same = same_Some (lesser found e.1) v here in elim of.0
+                [ inl old ↦ inl (rw same at old) | inr new ↦ inr (e, inl refl, is, new ∙ same) ]
+            | inr later ↦ inr (later.0, inr later.1, later.2, later.3)
+          ],
+          λ o old. let less = of.2 o old in omega (arith, most, less),
+          (λ _. omega (arith, most, of.1), rest.2),
+        )
+    | inr fails ↦
+        let rest = least_some more found v (rw fails at h) in (
+          elim rest.0 [ inl old ↦ inl old | inr later ↦ inr (later.0, inr later.1, later.2, later.3) ],
+          rest.1,
+          (λ is. absurd (cc (is, fails)), rest.2),
+        )
+  ]
 
 -- The walk that is extended as long as that adds bytes is the heaviest, and the first of those.
 
@@ -202,23 +232,37 @@ module _ (l : LayoutParts) (sound : IsSound l) (weights best : List ℕ) (w : Ar
   same_weight : (u : ℕ) → u < length l.units → get_or weights u 0 ≡ weight_of l u
   same_weight u below = w.each u (omega (arith, below, w.len))
 
+  abbrev passes : ℕ → ℕ × ℕ → Bool
+  passes u edge = leads_on weights best u edge
+
   pub step_is : (u : ℕ) (found : Option ℕ) → u < length l.units → get_or best u 0 ≢ get_or weights u 0
-      → IsLeastOn l.edges weights best u found → Steps l best u found
+      → least_of (passes u) None l.edges ≡ found → Steps l best u found
   step_is u None below ne h =
       let at = b.reached.each u (in_best u below) in
       let on = leads_somewhere u at.more below at.walk at.bytes_are (λ e. ne (e ∙ sym (same_weight u below))) in
-      absurd (h (u, on.0) on.1 (record { from = refl; rest = omega (arith, same_weight u below, on.2) }))
+      let fails = every_in _ l.edges _ (least_none (passes u) l.edges None h).1 (in_contains l.edges _ on.1) in
+      absurd (grind (arith, nat_tests, same_weight u below, on.2, fails))
   step_is u (Some v) below ne h =
-      let leads : LeadsOn weights best u (u, v) = h.1 in (
+      let is = least_some (passes u) l.edges None v h in
+      let edge = from_edge is.0 in (
         λ e. ne (e ∙ sym (same_weight u below)),
         record {
-          edge = h.0;
-          rest = omega (arith, same_weight u below, leads.rest);
+          edge = edge.0;
+          rest = omega (arith, same_weight u below, edge.1);
           least = λ x less e same.
-              let no_less = h.2 x e (record { from = refl; rest = omega (arith, same_weight u below, same) }) in
+              let no_less = every_in _ l.edges _ is.2 (in_contains l.edges (u, x) e)
+              (grind (arith, nat_tests, same_weight u below, same)) in
               omega (arith, less, no_less);
         },
       )
+    where
+      from_edge : (◌≡◌ {A = Option ℕ} None (Some v)) ⊎ ((e : ℕ × ℕ) × In e l.edges × (passes u e ≡ true) × (e.1 ≡ v))
+          → HasEdge l.edges u v × (get_or weights u 0 + get_or best v 0 ≡ get_or best u 0)
+      from_edge (inl none) = absurd (cc none)
+      from_edge (inr (e, there, on, to)) =
+          let from : e.0 ≡ u = grind (arith, nat_tests) in
+          let is : e ≡ (u, v) = λ i. (from i, to i) in
+          (contains_in l.edges (u, v) (rw is at there), grind (arith, nat_tests))
 
   -- the walk, its bytes and that no other comes before it
   pub record IsTop (u : ℕ) (more : List ℕ) : Type 0 where
@@ -301,9 +345,6 @@ no_root l address more (chain ∷ chains) none h = inl (none, h)
 pub record AreFirst (l : LayoutParts) (addresses : List ℕ) (i : ℕ) (chains : List Chain) : Type 0 where
   pub all : (rest : List Chain) → ChainsAt l (drop i addresses) rest → ChainsAt l addresses (chains ++ rest)
 
-pub first_none : (l : LayoutParts) (addresses : List ℕ) → AreFirst l addresses 0 []
-first_none l addresses = record { all = λ rest h. h }
-
 pub first_without : (l : LayoutParts) (addresses : List ℕ) (i d : ℕ) (chains : List Chain) → i < length addresses
     → HasNoRoot l (get_or addresses i d) → AreFirst l addresses i chains → AreFirst l addresses (i + 1) chains
 first_without l addresses i d chains below none h = record {
@@ -329,61 +370,3 @@ pub edge_at : (edges items : Edges) (i : ℕ) → items ≡ edges → i < length
 edge_at edges items i same below =
     subst (λ (es : Edges). HasEdge es (get_or items i (0, 0)).0 (get_or items i (0, 0)).1) same
     (Contains-get_or items i (0, 0) below)
-
--- the least of the units that lead on, one more edge
-module _ (xs : Edges) (weights best : List ℕ) (u i : ℕ) (d : ℕ × ℕ) (below : i < length xs) where
-  abbrev edge : ℕ × ℕ
-  edge = get_or xs i d
-
-  in_more : (e : ℕ × ℕ) → Contains (take (i + 1) xs) e → Contains (take i xs) e ⊎ (edge ≡ e)
-  in_more e h = Contains-push_cases (take i xs) edge e (rw (take_more xs i d below) at h)
-
-  was_in : (e : ℕ × ℕ) → Contains (take i xs) e → Contains (take (i + 1) xs) e
-  was_in e h = rw (take_more xs i d below) (Contains-append_left (take i xs) (edge ∷ []) e h)
-
-  pub least_stays : (found : Option ℕ) → (LeadsOn weights best u edge → ⊥)
-      → IsLeastOn (take i xs) weights best u found → IsLeastOn (take (i + 1) xs) weights best u found
-  least_stays None not_on h = λ e at on. elim (in_more e at)
-      [ inl before ↦ h e before on | inr here ↦ not_on (subst (LeadsOn weights best u) (sym here) on) ]
-  least_stays (Some v) not_on h = (
-    was_in (u, v) h.0,
-    h.1,
-    λ x at on. elim (in_more (u, x) at) [
-      | inl before ↦ h.2 x before on
-      | inr here ↦ absurd (not_on (subst (LeadsOn weights best u) (sym here) on))
-    ],
-  )
-
-  -- it is the least where no earlier one is less
-  now_least : (on : LeadsOn weights best u edge)
-      → ((x : ℕ) → Contains (take i xs) (u, x) → LeadsOn weights best u (u, x) → edge.1 ≤ x)
-      → IsLeastOn (take (i + 1) xs) weights best u (Some edge.1)
-  now_least on least =
-      let is : edge ≡ (u, edge.1) = ap (λ (x : ℕ). (x, edge.1)) on.from in (
-        subst (Contains (take (i + 1) xs)) is (rw (take_more xs i d below) (Contains-push (take i xs) edge)),
-        subst (LeadsOn weights best u) is on,
-        λ x at on'. elim (in_more (u, x) at) [
-          | inl before ↦ least x before on'
-          | inr here ↦ let same : edge.1 ≡ x = ap (λ (e : ℕ × ℕ). e.1) here in omega (arith, same)
-        ],
-      )
-
-  pub least_more : (found : Option ℕ) → LeadsOn weights best u edge → IsLeastOn (take i xs) weights best u found
-      → IsLeastOn (take (i + 1) xs) weights best u (Some (lesser found edge.1))
-  least_more None on h = now_least on (λ x at on'. absurd (h (u, x) at on'))
-  least_more (Some o) on h = elim (cases_Bool (nat_lt o edge.1)) [
-    | inl less ↦ rw less (
-      was_in (u, o) h.0,
-      h.1,
-      λ x at on'. elim (in_more (u, x) at) [
-        | inl before ↦ h.2 x before on'
-        | inr here ↦
-            let same : edge.1 ≡ x = ap (λ (e : ℕ × ℕ). e.1) here in omega (arith, same, ltb-true o edge.1 less)
-      ],
-    )
-    | inr more ↦ rw more
-        (now_least on (λ x at on'. let least = h.2 x at on' in omega (arith, least, ltb-false o edge.1 more)))
-  ]
-
-pub least_start : (weights best : List ℕ) (u : ℕ) → IsLeastOn [] weights best u None
-least_start weights best u e h on = none_in_empty e h

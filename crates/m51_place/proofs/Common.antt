@@ -4,22 +4,20 @@ pub use Rattle.std.proofs.Common.{List, None, Ok, Option, Result, Some, [], ap, 
 pub use Rattle.std.proofs.Common.{filter, get_or, inl, inr, length, map, nat_eq, not, refl, subst, suc, sym, take, true}
 pub use Rattle.std.proofs.Common.{unwrap_or, zero, ℕ}
 pub use Rattle.std.proofs.lemmas.Bool.{and_parts, cases_Bool, cases_lt, false≢true, not-true}
-pub use Rattle.std.proofs.lemmas.Bool.Decides.{Decides-eqb, Decides-ltb, leb_tells, same_from_decides}
+pub use Rattle.std.proofs.lemmas.Bool.Decides.{Decides-eqb, Decides-ltb, same_from_decides}
 pub use Rattle.std.proofs.lemmas.List.{append-nil, length-map}
-pub use Rattle.std.proofs.lemmas.List.Elements.{All-append, All-cons, All-contains, All-get_or, All-head, All-nil}
-pub use Rattle.std.proofs.lemmas.List.Elements.{All-tail, All-weaker, Contains-append_cases, Contains-append_left}
-pub use Rattle.std.proofs.lemmas.List.Elements.{Contains-append_right}
+pub use Rattle.std.proofs.lemmas.List.Elements.{All-append, All-cons, All-get_or, All-head, All-nil, All-tail}
+pub use Rattle.std.proofs.lemmas.List.Elements.{Contains-append_left}
 pub use Rattle.std.proofs.lemmas.List.Folds.{list_any_at}
-pub use Rattle.std.proofs.lemmas.List.Sorted.{All-permutation, sum_by-IsPermutation}
-pub use Rattle.std.proofs.lemmas.List.Sums.{fails_before_first, sum_by-append, sum_by-cons}
+pub use Rattle.std.proofs.lemmas.List.Sorted.{All-permutation}
+pub use Rattle.std.proofs.lemmas.List.Sums.{fails_before_first, sum_by-cons}
 pub use Rattle.std.proofs.lemmas.Option.{get_or_from_slice_get, none-some, same_Some, slice_get-get_or, slice_get-map}
 pub use Rattle.std.proofs.lemmas.Option.{slice_get_within}
 pub use Rattle.std.specs.Bool.{Decides}
-pub use Rattle.std.specs.List.{All, AllPairs, AllZip, Contains, list_all, list_any, position_or_len, range_with_len}
-pub use Rattle.std.specs.List.{sum_by}
+pub use Rattle.std.specs.List.{All, Contains, list_all, list_any, position_or_len, range_with_len, sum_by}
 pub use Rattle.std.specs.List.Sorted.{IsPermutation}
 pub use Rattle.std.specs.Option.{option_map_or}
-pub use Rattle.std.specs.Prelude.{MatchOption, find, is_some, nat_lt, option_map, position, slice_get}
+pub use Rattle.std.specs.Prelude.{MatchOption, find, is_some, nat_lt, position, slice_get}
 pub use Rattle.m51_bases.specs.Raising.{same_space}
 pub use Rattle.m51_cells.proofs.Meeting.{parted}
 pub use Rattle.m51_cells.specs.Extent.{Covers, Meet, extent_of}
@@ -72,7 +70,7 @@ pub use Rattle.m51_place.specs.Bound.{bytes_passing, covers_byte, own_passes}
 pub use Rattle.m51_place.specs.Conflicts.{are_owners_related, in_conflict, is_argument_at, owners_at, owners_with}
 pub use Rattle.m51_place.specs.Fixed.{absolute, absolutes_from, banks_of, first_met, fixed_of, reserves_of}
 pub use Rattle.m51_place.specs.Fixed.{shared_after, shared_at, shared_extents}
-pub use Rattle.m51_place.specs.Heaviest.{IsFront, IsLeastOn, IsRising}
+pub use Rattle.m51_place.specs.Heaviest.{IsFront, IsRising}
 pub use Rattle.m51_place.specs.InTheWay.{extents_in}
 pub use Rattle.m51_place.specs.Order.{before_by, class_number, comes_before, group_before, group_number, order_of}
 pub use Rattle.m51_place.specs.Order.{own_at, put, put_all, ranked_from, ranked_of, root_number}
@@ -83,7 +81,6 @@ pub use Rattle.m51_place.specs.Placement.{parts_of_layout, place_after}
 pub use Rattle.m51_place.specs.Ready.{IsNumbered}
 pub use Rattle.m51_place.specs.declared.numbered.Numbered.{Numbered}
 pub use Rattle.m51_place.specs.declared.placing.Placing.{Placing}
-pub use Rattle.m51_place.specs.declared.ranked.Group.{Group}
 pub use Rattle.m51_place.specs.declared.ranked.Ranked.{Ranked}
 pub use Rattle.m51_resolve.specs.Joining.{segments_of}
 pub use Rattle.m51_resolve.specs.Rules.{AreResolved}

@@ -1,7 +1,7 @@
 -- Owners of joined segments and their conflict, decided.
-use Rattle.m51_place.proofs.Common.{◌≡◌, ◌≢◌, ◌⊎◌, inl, inr, ℕ, true, false, Bool, cond, not, ◌&&◌, ◌||◌, nat_eq, List}
-use Rattle.m51_place.proofs.Common.{[], ◌∷◌, length, filter, Option, Some, None, refl, sym, ap, arith, slice_get}
-use Rattle.m51_place.proofs.Common.{option_map_or, Decides, Contains, list_any, range_with_len, false≢true, Decides-eqb}
+use Rattle.m51_place.proofs.Common.{◌≡◌, ◌≢◌, ◌⊎◌, inl, inr, ℕ, true, false, Bool, cond, not, ◌&&◌, nat_eq, List, []}
+use Rattle.m51_place.proofs.Common.{◌∷◌, length, Option, Some, None, refl, sym, arith, slice_get, option_map_or}
+use Rattle.m51_place.proofs.Common.{Decides, Contains, list_any, range_with_len, false≢true, Decides-eqb}
 use Rattle.m51_place.proofs.Common.{same_from_decides, Space, AreRelated, Same, Before, After, FirstUnderNone}
 use Rattle.m51_place.proofs.Common.{SecondUnderNone, UnderTwo, FirstPlain, SecondPlain, Owners, vectors, HasEdge}
 use Rattle.m51_place.proofs.Common.{Reaches, contains_behind, first_or_behind, none_in_empty, GraphParts, edge_test}
@@ -21,8 +21,7 @@ use Rattle.m51_place.specs.InTheWay.{in_the_way}
 -- a value that is read and is not the default is an element
 read_found : {A : Type 0} (o : Option A) (none x : A) → (none ≡ x → ⊥) → option_map_or (λ y. y) o none ≡ x
     → o ≡ Some x
-read_found None none x differ h = absurd (differ h)
-read_found (Some y) none x differ h = ap (λ z. Some z) h
+read_found o none x differ h = grind arith
 
 module _ (g : GraphParts) where
   pub own_is : (number unit : ℕ) → own_at g number ≡ Some unit → IsOwn g unit number
@@ -117,13 +116,11 @@ module _ (g : GraphParts) where
 
     walk_tells : (one two : ℕ) → Decides (are_on_walk g one two) (OnWalk one two)
     walk_tells one two =
-        or_decides _ _ (Decides-eqb one two)
-        (or_decides _ _ (leads_tells g.edges one two) (leads_tells g.edges two one))
+        search (or_decides, Decides-eqb, leads_tells)
 
     apart_tells : (one two : ℕ) → Decides (are_apart g one two) (Apart one two)
     apart_tells one two =
-        or_decides (is_under_none g one) (is_under_none g two || are_under_two g one two) (none_tells one)
-        (or_decides (is_under_none g two) (are_under_two g one two) (none_tells two) (two_tells one two))
+        search (or_decides, none_tells, two_tells)
 
     sides : (one two : ℕ) → OnWalk one two ⊎ Apart one two → AreRelated (joined_graph g) one two
     sides one two (inl (inl same)) = Same same
@@ -146,7 +143,7 @@ module _ (g : GraphParts) where
     unfolding are_related
     related_tells one two =
         Decides-like _ (sides one two) (from_sides one two)
-        (or_decides (are_on_walk g one two) (are_apart g one two) (walk_tells one two) (apart_tells one two))
+        (or_decides _ _ (walk_tells one two) (apart_tells one two))
 
     -- an owner of the one list is related to one of the other
     abbrev Near : List ℕ → ℕ → Type 0

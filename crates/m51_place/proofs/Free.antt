@@ -1,26 +1,24 @@
 -- The bases that are free of what was placed before, and the segments that are placed there one after another.
-use Rattle.m51_place.proofs.Common.{◌≡◌, ℕ, zero, suc, ◌+◌, ◌/◌, ◌<◌, ◌≤◌, false, Bool, refl, sym, ◌∙◌, arith, Decides}
-use Rattle.m51_place.proofs.Common.{false≢true, Decides-eqb, Decides-ltb, same_from_decides, Space, Extent, Kind, Code}
-use Rattle.m51_place.proofs.Common.{Xdata, Direct, Idata, Bits, Number, Reloc, Bitaddressable, Inpage, Inblock, Page}
-use Rattle.m51_place.proofs.Common.{Covers, Meet, Fits, FitsBlock, FitsMemory, parted, and_decides, same_space, ◌≢◌}
-use Rattle.m51_place.proofs.Common.{inl, inr, true, not, List, [], ◌∷◌, Option, Some, None, ap, find, MatchOption}
-use Rattle.m51_place.proofs.Common.{list_all, range_with_len, IsPermutation, All-permutation, cases_Bool, cases_lt}
-use Rattle.m51_place.proofs.Common.{UnitType, extent_of, Placed, extent_at, extents_in, ◌++◌, filter, map, Result, Ok}
-use Rattle.m51_place.proofs.Common.{Err, append_assoc, option_map_or, AllZip, append-nil, L12, GraphParts, Numbered}
-use Rattle.m51_place.proofs.Common.{Ranked, Refusal, base_for, located_at, place_after, conflicting, in_conflict_with}
-use Rattle.m51_place.proofs.Common.{◌-◌, ◌*◌, subst, Ram, Cell, AreOneRun, IsOpen, ◌⊎◌, list_any}
-use Rattle.std.proofs.Common.{◌%◌}
+use Rattle.m51_place.proofs.Common.{◌≡◌, ℕ, zero, suc, ◌+◌, ◌<◌, ◌≤◌, false, Bool, refl, sym, ◌∙◌, arith, Decides}
+use Rattle.m51_place.proofs.Common.{false≢true, same_from_decides, Space, Extent, Kind, Direct, Number, Reloc, Covers}
+use Rattle.m51_place.proofs.Common.{Meet, Fits, parted, and_decides, same_space, ◌≢◌, inl, inr, true, not, List, []}
+use Rattle.m51_place.proofs.Common.{◌∷◌, Option, Some, None, ap, find, MatchOption, list_all, range_with_len}
+use Rattle.m51_place.proofs.Common.{IsPermutation, All-permutation, cases_Bool, cases_lt, UnitType, extent_of, Placed}
+use Rattle.m51_place.proofs.Common.{extent_at, extents_in, ◌++◌, filter, map, Result, Ok, Err, append_assoc}
+use Rattle.m51_place.proofs.Common.{option_map_or, slice_get, append-nil, L12, GraphParts, Numbered, Ranked, Refusal}
+use Rattle.m51_place.proofs.Common.{base_for, located_at, place_after, conflicting, in_conflict_with, ◌-◌, ◌*◌, subst}
+use Rattle.m51_place.proofs.Common.{Ram, Cell, AreOneRun, IsOpen, ◌⊎◌, list_any}
 use Rattle.std.proofs.lemmas.Bool.Decides.{nat_tests, Decides-by_and, Decides-like, Decides-not}
-use Rattle.std.specs.Prelude.{nat_le, IfSome, ◌↔◌}
+use Rattle.std.specs.Prelude.{IfSome, ◌↔◌}
 use Rattle.m51_cells.proofs.Meeting.{shared}
-use Rattle.m51_place.specs.Bases.{overlap, share, fits_block, fits_memory, fits_at, HasNoBase, is_free, IsApart, IsFree}
-use Rattle.m51_place.specs.Bases.{IsLeastBase, least_base}
+use Rattle.m51_place.specs.Bases.{overlap, share, fits_at, HasNoBase, is_free, IsApart, IsFree, IsLeastBase, least_base}
 use Rattle.std.proofs.lemmas.Bool.{cases_eq, false_from_ne_true, not-false}
 use Rattle.std.proofs.lemmas.List.Sorted.{IsPermutation-sym}
 use Rattle.m51_place.specs.Laws.{LeastIsLeast}
 use Rattle.m51_bases.specs.Raising.{IsClear, IsFirstClear, IsOutside, NoneIsClear}
 use Rattle.m51_cells.proofs.Members.{all_every, Every, every_all, every_weaker, Pairs, pairs_push, every_in, every_of}
-use Rattle.m51_cells.proofs.Members.{In, in_cases, in_left, in_right}
+use Rattle.m51_cells.proofs.Members.{In, in_cases, in_left, in_right, every_map, map_got, map_in, total, total-append}
+use Rattle.m51_cells.proofs.Members.{total_map}
 
 -- where no element passes a test, each fails
 pub all_fail : {A : Type 0} (test : A → Bool) (xs : List A) → list_any test xs ≡ false → Every (λ x. test x ≡ false) xs
@@ -30,9 +28,6 @@ all_fail test (x ∷ xs) h = elim (cases_Bool (test x))
 
 -- The decisions on cells and bases are right.
 
-pub le_decides : (a b : ℕ) → Decides (nat_le a b) (a ≤ b)
-le_decides a b = (λ h. grind (arith, nat_tests), λ h. grind (arith, nat_tests))
-
 pub space_tells : (a b : Space) → Decides (same_space a b) (a ≡ b)
 space_tells a b = (λ h. grind arith, λ h. grind arith)
 
@@ -41,9 +36,7 @@ abbrev Overlaps : Extent → Extent → Type 0
 Overlaps a b = ((0 < a.len) × (0 < b.len)) × ((a.first < b.first + b.len) × (b.first < a.first + a.len))
 
 overlap_tells : (a b : Extent) → Decides (overlap a b) (Overlaps a b)
-overlap_tells a b =
-    and_decides _ _ (and_decides _ _ (Decides-ltb 0 a.len) (Decides-ltb 0 b.len))
-    (and_decides _ _ (Decides-ltb a.first (b.first + b.len)) (Decides-ltb b.first (a.first + a.len)))
+overlap_tells a b = (λ h. grind (arith, nat_tests), λ h. grind (arith, nat_tests))
 
 pub share_tells : (a b : Extent) → Decides (share a b) (Meet a b)
 unfolding share
@@ -62,27 +55,10 @@ share_is a b r h = same_from_decides r (share a b) h (share_tells a b)
 
 -- fitting
 
-block_tells : (block base size : ℕ) → Decides (fits_block block base size) (FitsBlock block base size)
-block_tells block base zero = (λ _. tt, λ _. refl)
-block_tells block base (suc more) =
-    and_decides _ _ (Decides-eqb (base / block) ((base + more) / block)) (le_decides (base + suc more) 0x10000)
-
-memory_tells : (reloc : Reloc) (base size : ℕ) → Decides (fits_memory reloc base size) (FitsMemory reloc base size)
-memory_tells Page base size = and_decides _ _ (Decides-eqb (base % 256) 0) (le_decides (base + size) 0x10000)
-memory_tells Inpage base size = block_tells 256 base size
-memory_tells Inblock base size = block_tells 2048 base size
-memory_tells reloc base size = le_decides (base + size) 0x10000
-
 pub fits_tells : (kind : Kind) (reloc : Reloc) (base size : ℕ)
     → Decides (fits_at kind reloc base size) (Fits kind reloc base size)
 unfolding fits_at
-fits_tells Direct Bitaddressable base size = and_decides _ _ (le_decides 0x20 base) (le_decides (base + size) 0x30)
-fits_tells Direct reloc base size = le_decides (base + size) 0x80
-fits_tells Idata reloc base size = le_decides (base + size) 0x100
-fits_tells Bits reloc base size = le_decides (base + size) 0x80
-fits_tells Code reloc base size = memory_tells reloc base size
-fits_tells Xdata reloc base size = memory_tells reloc base size
-fits_tells Number reloc base size = (λ h. absurd (false≢true h), λ h. absurd h)
+fits_tells kind reloc base size = (λ h. grind (arith, nat_tests), λ h. grind (arith, nat_tests))
 
 -- The first base that is found free is the least of all, and so is the first that is clear of the extents in one
 -- memory.
@@ -118,15 +94,9 @@ find_first p n found is = let none : 0 + n ≡ n = omega arith in rw (is, none) 
 -- two that are first are one
 same_first : (p : ℕ → Bool) (n : ℕ) (one two : Option ℕ) → IsFirst p 0 n one → IsFirst p 0 n two → one ≡ two
 same_first p n None None h k = refl
-same_first p n None (Some x) h k = absurd (false≢true (sym (h x (omega arith) k.1) ∙ k.0))
-same_first p n (Some x) None h k = absurd (false≢true (sym (k x (omega arith) h.1) ∙ h.0))
-same_first p n (Some x) (Some y) h k = elim (cases_lt x y) [
-  | inl less ↦ absurd (false≢true (sym (k.2 x (omega arith) less) ∙ h.0))
-  | inr up ↦ elim (cases_lt y x) [
-    | inl less ↦ absurd (false≢true (sym (h.2 y (omega arith) less) ∙ k.0))
-    | inr up' ↦ let e : x ≡ y = omega (arith, up, up') in ap (λ (n : ℕ). Some n) e
-  ]
-]
+same_first p n None (Some x) h k = absurd (cc (h x (omega arith) k.1, k.0))
+same_first p n (Some x) None h k = absurd (cc (k x (omega arith) h.1, h.0))
+same_first p n (Some x) (Some y) h k = grind (arith, h.0, k.0, h.2 y (omega arith), k.2 x (omega arith))
 
 -- what is decided to be free is
 apart_tells : (cells : Extent) (p : Placed) → Decides (not (share (extent_at p) cells)) (IsApart cells p)
@@ -294,19 +264,21 @@ conflicts g e f = option_map_or (λ number. in_conflict_with g number e) f.numbe
 pub record KeepApart (g : GraphParts) (e f : Numbered) : Type 0 where
   pub none : conflicts g e f ≡ true → Meet (extent_at e.placed) (extent_at f.placed) → ⊥
 
--- the segment is placed where it fits
-pub record IsPlacedRanked (t : Ranked) (e : Numbered) : Type 0 where
-  pub base : ℕ
-  pub is : e ≡ located_at t base
-  pub low : base < 65536
-  pub fits : Fits t.segment.kind t.segment.reloc base t.segment.size
+-- a segment at its base, where it fits
+abbrev pub at_base : Ranked × ℕ → Numbered
+at_base p = located_at p.0 p.1
 
--- what is placed after earlier extents
+pub record FitsThere (p : Ranked × ℕ) : Type 0 where
+  pub low : p.1 < 65536
+  pub fits : Fits p.0.segment.kind p.0.segment.reloc p.1 p.0.segment.size
+
+-- what is placed after earlier extents: the segments of the order, each at a base
 pub record AreAfter (g : GraphParts) (earlier : List Numbered) (order : List Ranked)
     (located : List Numbered) : Type 0 where
-  pub later : List Numbered
-  pub are : located ≡ earlier ++ later
-  pub each : AllZip IsPlacedRanked order later
+  pub picks : List (Ranked × ℕ)
+  pub order_is : order ≡ map (λ (p : Ranked × ℕ). p.0) picks
+  pub are : located ≡ earlier ++ map at_base picks
+  pub fit : Every FitsThere picks
   pub apart : Pairs (KeepApart g) located
 
 kept_apart : (cells : Extent) (test : Numbered → Bool) (xs : List Numbered)
@@ -351,7 +323,13 @@ pub are_after : (g : GraphParts) (order : List Ranked) (earlier located : List N
     → Pairs (KeepApart g) earlier → place_after g earlier order ≡ Ok located → AreAfter g earlier order located
 are_after g [] earlier located apart h =
     let same : earlier ≡ located = cc h in
-    record { later = []; are = sym same ∙ sym (append-nil earlier); each = tt; apart = rw (← same) apart }
+    record {
+      picks = [];
+      order_is = refl;
+      are = sym same ∙ sym (append-nil earlier);
+      fit = tt;
+      apart = rw (← same) apart;
+    }
 are_after g (t ∷ more) earlier located apart h =
     let next = place_step g earlier t more located (base_for g earlier t) refl h in
     let e : Numbered = located_at t next.0 in
@@ -361,20 +339,41 @@ are_after g (t ∷ more) earlier located apart h =
     (pairs_push (KeepApart g) earlier e apart
     (every_weaker _ (λ x. KeepApart g x e) earlier (λ x h. record { none = λ c. (h c).none }) free.apart)) next.2 in
     record {
-      later = e ∷ rest.later;
-      are = rest.are ∙ append_assoc earlier (e ∷ []) rest.later;
-      each = (record { base = next.0; is = refl; low = free.low; fits = free.fits }, rest.each);
+      picks = (t, next.0) ∷ rest.picks;
+      order_is = ap (λ (ts : List Ranked). t ∷ ts) rest.order_is;
+      are = rest.are ∙ append_assoc earlier (e ∷ []) (map at_base rest.picks);
+      fit = (record { low = free.low; fits = free.fits }, rest.fit);
       apart = rest.apart;
     }
 
--- what holds of each that is placed, by the ranked segment that it is
-pub zip_every : (P : Ranked → Type 0) (Q : Numbered → Type 0) (order : List Ranked) (later : List Numbered)
-    → ((t : Ranked) (e : Numbered) → IsPlacedRanked t e → P t → Q e) → AllZip IsPlacedRanked order later → Every P order
-    → Every Q later
-zip_every P Q [] [] f h all = tt
-zip_every P Q [] (e ∷ later) f h all = absurd h
-zip_every P Q (t ∷ order) [] f h all = absurd h
-zip_every P Q (t ∷ order) (e ∷ later) f h all = (f t e h.0 all.0, zip_every P Q order later f h.1 all.1)
+module _ {g : GraphParts} {earlier located : List Numbered} {order : List Ranked}
+    (after : AreAfter g earlier order located) where
+  pub pick_in : (p : Ranked × ℕ) → In p after.picks → In p.0 order
+  pick_in p i = rw after.order_is (map_in (λ (q : Ranked × ℕ). q.0) after.picks p i)
+
+  pub pick_at : (k : ℕ) (p : Ranked × ℕ) → slice_get after.picks k ≡ Some p → slice_get order k ≡ Some p.0
+  pick_at k p at = rw after.order_is (map_got (λ (q : Ranked × ℕ). q.0) after.picks k p at)
+
+  -- what holds of each that is placed, by the ranked segment that it is
+  pub later_every : (P : Ranked → Type 0) (Q : Numbered → Type 0)
+      → ((t : Ranked) (base : ℕ) → FitsThere (t, base) → P t → Q (located_at t base)) → Every P order
+      → Every Q (map at_base after.picks)
+  later_every P Q f all = every_map at_base Q after.picks (every_of _ after.picks
+      (λ p i. f p.0 p.1 (every_in FitsThere after.picks p after.fit i) (every_in P order p.0 all (pick_in p i))))
+
+  -- and sums
+  pub later_total : (f : Numbered → ℕ) (h : Ranked → ℕ) → ((t : Ranked) (base : ℕ) → f (located_at t base) ≡ h t)
+      → total f located ≡ total f earlier + total h order
+  later_total f h same =
+      omega (
+        arith,
+        ap (λ (es : List Numbered). total f es) after.are,
+        total-append f earlier (map at_base after.picks),
+        total_map f at_base after.picks,
+        ap (λ (k : Ranked × ℕ → ℕ). total k after.picks) (λ i p. same p.0 p.1 i),
+        total_map h (λ (p : Ranked × ℕ). p.0) after.picks,
+        ap (λ (ts : List Ranked). total h ts) after.order_is,
+      )
 
 -- placing the first segments of an order, and then the others
 abbrev pub Answer : Type 0
@@ -397,10 +396,8 @@ base_cases (Some base) = inr (base, refl)
 pub place_append : (g : GraphParts) (first later : List Ranked) (earlier : List Numbered)
     → place_after g earlier (first ++ later) ≡ and_then (place_after g earlier first) (λ es. place_after g es later)
 place_append g [] later earlier = refl
-place_append g (t ∷ more) later earlier = elim (base_cases (base_for g earlier t)) [
-  | inl none ↦ rw none refl
-  | inr some ↦ rw (some.1) (place_append g more later (earlier ++ located_at t some.0 ∷ []))
-]
+place_append g (t ∷ more) later earlier =
+    grind (arith, λ (base : ℕ). place_append g more later (earlier ++ located_at t base ∷ []))
 
 -- Where overlaid DATA is placed in a run of open bytes: at its low end, or on an earlier segment in conflict.
 
@@ -550,17 +547,7 @@ module _ (g : GraphParts) (front done : List Numbered) (t : Ranked) (low high ba
       (subst (λ k. Covers (extent_of k first len) (ram at)) (sym direct)
       (record { space = refl; from = r; below = omega (arith, u) })) in (
         omega (arith, covers.1, covers.2),
-        elim (cases_lt base (first + len)) [
-          | inr not_more ↦ omega (arith, not_more, covers.2, s.1, above)
-          | inl more ↦ elim (cases_lt base first) [
-            | inl later ↦ absurd
-                (outside (8 * first) (omega (arith, later)) (omega (arith, covers.1, s.2, above)) (omega arith)
-                (omega (arith, covers.1, covers.2)))
-            | inr not_later ↦ absurd
-                (outside (8 * base) (omega arith) (omega (arith, some)) (omega (arith, not_later))
-                (omega (arith, more)))
-          ]
-        ],
+        grind (arith, outside (8 * first), outside (8 * base), covers.1, covers.2, s.1, s.2),
       )
 
   on_seat : IsSeated g done t low base

@@ -1,10 +1,8 @@
 pub mod Chained
 pub mod Common
 pub mod Conflicting
-pub mod Counting
 pub mod Ends
 pub mod Free
-pub mod Meetings
 pub mod Numbering
 pub mod Ordered
 pub mod Piled

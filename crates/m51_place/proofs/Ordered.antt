@@ -11,6 +11,7 @@ use Rattle.m51_place.proofs.Common.{owners_at, own_at, before_by, class_number, 
 use Rattle.m51_place.proofs.Common.{group_number, order_of, root_number, before_overlaid, overlaid_in, OverlaysData}
 use Rattle.m51_place.proofs.Common.{cases_Bool}
 use Rattle.std.proofs.lemmas.Bool.{not-false}
+use Rattle.std.proofs.lemmas.Bool.Decides.{nat_tests}
 use Rattle.m51_module.specs.Walks.{last_of}
 use Rattle.m51_graph.specs.Levels.{EndsWalk, ends_walk, level_of}
 use Rattle.m51_graph.proofs.Climbing.{ends_on, walk_short}
@@ -18,11 +19,11 @@ use Rattle.m51_graph.proofs.Walking.{ends_walk_tells, fewer}
 use Rattle.m51_place.proofs.Free.{find_first}
 use Rattle.std.proofs.lemmas.List.Sums.{passes_at_first}
 use Rattle.m51_control.specs.declared.control.Class.TheVariants.{Direct as DirectClass}
-use Rattle.m51_place.specs.declared.ranked.Group.TheVariants.{Overlaid, Plain, Stack}
-use Rattle.m51_place.specs.Order.{group_unless_overlaid, is_stack, naming_of}
+use Rattle.m51_place.specs.declared.ranked.Group.TheVariants.{Overlaid}
+use Rattle.m51_place.specs.Order.{group_unless_overlaid, naming_of}
 use Rattle.m51_place.proofs.Conflicting.{own_is, segments_tell}
 use Rattle.m51_cells.proofs.Members.{Every, every_append, every_right, every_weaker, Pairs}
-use Rattle.m51_place.proofs.Ranks.{front_within, IsRankedOf, order_ranked, Earlier, goes, order_rises}
+use Rattle.m51_place.proofs.Ranks.{front_within, IsRankedOf, order_ranked, Earlier, order_rises}
 
 -- Levels rise along walks.
 
@@ -119,19 +120,12 @@ record AreNotAfter (one two first second : ℕ) : Type 0 where
 
 numbers_rise : (one two first second : ℕ) (next : Bool) → before_by one two (before_by first second next) ≡ true
     → AreNotAfter one two first second
-numbers_rise one two first second next h = elim (goes one two (before_by first second next) h) [
-  | inl less ↦ record { roots = omega (arith, less); levels = λ same. absurd (omega (arith, less, same)) }
-  | inr same ↦ record {
-    roots = omega (arith, same.0);
-    levels = λ _. elim (goes first second next same.1)
-        [ inl less ↦ omega (arith, less) | inr also ↦ omega (arith, also.0) ];
-  }
-]
+numbers_rise one two first second next h =
+    record { roots = grind (arith, nat_tests); levels = λ same. grind (arith, nat_tests) }
 
 -- what follows where two numbers are one
 after_same : (x : ℕ) (next : Bool) → before_by x x next ≡ true → next ≡ true
-after_same x next h =
-    elim (goes x x next h) [ inl less ↦ absurd (omega (arith, less)) | inr same ↦ same.1 ]
+after_same x next h = grind (arith, nat_tests)
 
 -- between two overlaid segments of DATA there is no plain one
 between : (g : GraphParts) (t u v : Ranked) → IsLocalOne g t → IsLocalOne g v → Earlier t u → Earlier u v
@@ -160,18 +154,21 @@ pub data IsEither (g : GraphParts) (t : Ranked) : Type 0 where
   OnePlain : t.own ≡ None → IsLone g t → IsEither g t
   OneLocal : (unit : ℕ) → t.own ≡ Some unit → IsLocalOne g t → IsEither g t
 
-plain_of : (g : GraphParts) (ts : List Ranked) → Every (IsLone g) ts → Every (IsPlain g) ts
-plain_of g [] h = tt
-plain_of g (t ∷ ts) h = (h.0.lone, plain_of g ts h.1)
-
 -- after an overlaid segment come overlaid ones, and then plain ones
 rest_after : (g : GraphParts) (t : Ranked) (more : List Ranked) → IsLocalOne g t → Every (Earlier t) more
     → Pairs Earlier more → AreParts g more → (bs os : List Ranked) → (rest : List Ranked) → more ≡ bs ++ (os ++ rest)
     → Every (IsLone g) bs → Every (IsLocalOne g) os → Every (IsPlain g) rest
     → (later : List Ranked) × (more ≡ os ++ later) × Every (IsPlain g) later
 rest_after g t more one first pairs p [] os rest are lone local plain = (rest, are, plain)
-rest_after g t more one first pairs p (b ∷ bs) [] rest are lone local plain =
-    (b ∷ bs ++ rest, are, (lone.0.lone, every_append (IsPlain g) bs rest (plain_of g bs lone.1) plain))
+rest_after g t more one first pairs p (b ∷ bs) [] rest are lone local plain = (
+  b ∷ bs ++ rest,
+  are,
+  (
+    lone.0.lone,
+    every_append (IsPlain g) bs rest (every_weaker (IsLone g) _ bs
+        (λ _ h. h.lone) lone.1) plain,
+  ),
+)
 rest_after g t more one first pairs p (b ∷ bs) (o ∷ os) rest are lone local plain =
     let after = rw are at first in
     let all = rw are at pairs in
@@ -206,9 +203,7 @@ parts g (t ∷ more) either rising =
 
 -- a plain segment is in no group of overlaid ones
 plain_groups : (j : JoinedSegment) (naming : Option ℕ) → group_number (group_unless_overlaid j naming) ≡ 2 → ⊥
-plain_groups j (Some naming) h = omega (arith, h)
-plain_groups j None h = elim (is_stack j) as (λ b. group_number (cond b Stack Plain) ≡ 2 → ⊥)
-    [ true ↦ λ k. omega (arith, k) | false ↦ λ k. omega (arith, k) ] h
+plain_groups j naming h = grind arith
 
 module _ (g : GraphParts) (controls : List (ℕ × Control)) (segments : List JoinedSegment)
     (data_only : OverlaysData segments g) where
@@ -336,12 +331,10 @@ from_overlaid (t ∷ more) = cond (is_some t.own) (t ∷ more) (from_overlaid mo
 
 pub split : (order : List Ranked) → order ≡ before_overlaid order ++ from_overlaid order
 split [] = refl
-split (t ∷ more) = elim (cases_Bool (is_some t.own))
-    [ inl own ↦ rw own | inr none ↦ rw none (ap (λ (ts : List Ranked). t ∷ ts) (split more)) ]
+split (t ∷ more) = grind (arith, split more)
 
 no_own : (own : Option ℕ) → is_some own ≡ false → own ≡ None
-no_own None h = refl
-no_own (Some unit) h = absurd (false≢true (sym h))
+no_own own h = grind arith
 
 -- those before it are plain
 pub lone_before : (g : GraphParts) (controls : List (ℕ × Control)) (segments : List JoinedSegment)

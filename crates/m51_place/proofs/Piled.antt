@@ -1,22 +1,23 @@
 -- How high overlaid DATA is piled, and that each segment has a base where the run is long enough.
 use Rattle.m51_place.proofs.Common.{◌≡◌, inl, inr, ℕ, ◌+◌, true, false, Bool, ◌&&◌, cond, List, [], ◌∷◌, Option, Some}
-use Rattle.m51_place.proofs.Common.{None, refl, sym, ap, ◌∙◌, arith, is_some, slice_get, option_map_or, AllZip}
-use Rattle.m51_place.proofs.Common.{cases_Bool, false≢true, is_absolute, Control, Overlaid, is_overlaid_data}
-use Rattle.m51_place.proofs.Common.{JoinedSegment, GraphParts, Numbered, Ranked, order_of, own_at, ranked_from}
-use Rattle.m51_place.proofs.Common.{bytes_joined, overlaid_in, located_at, mark_of, zero, suc, ◌-◌, ◌<◌, ◌≤◌, nat_eq}
-use Rattle.m51_place.proofs.Common.{◌++◌, get_or, subst, cases_lt, nat_lt, sum_along, vectors, Edges, IsWalk, Reaches}
-use Rattle.m51_place.proofs.Common.{IsGraph, IsRootAt, root_number, AreOneRun, ◌*◌, ◌/◌, Ok, Err, append_assoc}
-use Rattle.m51_place.proofs.Common.{append-nil, Direct, UnitType, extent_of, Covers, Fits, IsOwn, in_conflict, base_for}
-use Rattle.m51_place.proofs.Common.{conflicting, in_conflict_with, place_after, length, Chain, ChainsFrom, ProgramGraph}
-use Rattle.m51_place.proofs.Free.{AreAfter, IsPlacedRanked, Answer, least_is_least, AtLow, IsOut, IsSeated, base_cases}
+use Rattle.m51_place.proofs.Common.{None, refl, sym, ap, ◌∙◌, arith, slice_get, option_map_or, and_parts, cases_Bool}
+use Rattle.m51_place.proofs.Common.{is_absolute, Control, Overlaid, is_overlaid_data, JoinedSegment, GraphParts}
+use Rattle.m51_place.proofs.Common.{Numbered, Ranked, order_of, own_at, ranked_from, bytes_joined, overlaid_in}
+use Rattle.m51_place.proofs.Common.{located_at, mark_of, zero, suc, ◌<◌, ◌≤◌, nat_eq, ◌++◌, get_or, subst, cases_lt}
+use Rattle.m51_place.proofs.Common.{nat_lt, sum_along, vectors, Edges, IsWalk, Reaches, IsGraph, IsRootAt, root_number}
+use Rattle.m51_place.proofs.Common.{AreOneRun, ◌*◌, ◌/◌, Ok, Err, append_assoc, append-nil, Direct, UnitType, extent_of}
+use Rattle.m51_place.proofs.Common.{Covers, Fits, IsOwn, in_conflict, base_for, conflicting, in_conflict_with}
+use Rattle.m51_place.proofs.Common.{place_after, length, Chain, ChainsFrom, ProgramGraph}
+use Rattle.m51_place.proofs.Free.{AreAfter, later_total, Answer, least_is_least, AtLow, IsOut, IsSeated, base_cases}
 use Rattle.m51_place.proofs.Free.{OnTop, open_out, out_apart, ram, seated}
 use Rattle.m51_cells.proofs.Members.{Every, total, total_moved, total-append, every_all, every_append, every_in}
 use Rattle.m51_cells.proofs.Members.{every_weaker, In, in_cases, in_filter, in_map, every_of, Pairs}
 use Rattle.m51_place.proofs.Ranks.{IsRankedOf, order_moves, Earlier}
 use Rattle.m51_place.proofs.Weights.{bytes, is_data, Local, along_total}
 use Rattle.m51_place.proofs.Numbering.{at_number, with_numbers}
-use Rattle.std.proofs.lemmas.Bool.{eq-eqb, le-ltb, lt-ltb, ne_eqb}
+use Rattle.std.proofs.lemmas.Bool.{cases_eq, eq-eqb, le-ltb, lt-ltb, ltb-true}
 use Rattle.m51_module.specs.Walks.{last_of}
+use Rattle.std.proofs.lemmas.Bool.Decides.{nat_tests}
 use Rattle.m51_place.proofs.Ordered.{EarlierRoot, few_roots, Leads, Precedes, root_above, SameUnit, UnderNone}
 use Rattle.m51_place.proofs.Ordered.{IsLocalOne, precedes}
 use Rattle.m51_place.specs.Bases.{IsApart, IsFree}
@@ -39,44 +40,22 @@ placed_bytes g test e = bytes test (local_at g e)
 abbrev pub ranked_bytes : GraphParts → (ℕ → Bool) → Ranked → ℕ
 ranked_bytes g test t = placed_bytes g test (located_at t 0)
 
-no_bytes : (own : Option ℕ) (test : ℕ → Bool) (size : ℕ) → own ≡ None → cond (option_map_or test own false) size 0 ≡ 0
-no_bytes own test size none = rw none
-
 -- the bytes of a joined segment
 one_joined : (test : ℕ → Bool) (j : JoinedSegment) (own : Option ℕ)
     → cond (option_map_or test own false) (cond (is_overlaid_data j.kind j.reloc (mark_of own)) j.size 0) 0
     ≡ cond (is_overlaid_data j.kind j.reloc Overlaid && option_map_or test own false) j.size 0
-one_joined test j None = grind arith
-one_joined test j (Some unit) = grind arith
-
-none_joined : (d : Bool) (own : Option ℕ) (test : ℕ → Bool) (size : ℕ) → own ≡ None
-    → 0 ≡ cond (d && option_map_or test own false) size 0
-none_joined d own test size none = rw none (grind arith)
+one_joined test j own = grind arith
 
 module _ (g : GraphParts) (test : ℕ → Bool) where
   bare_sum : (es : List Numbered) → Every (λ e. own_of g e ≡ None) es → total (placed_bytes g test) es ≡ 0
   bare_sum [] h = refl
   bare_sum (e ∷ es) h = rw h.0 (omega (arith, bare_sum es h.1))
 
-  zip_sum : (order : List Ranked) (later : List Numbered) → AllZip IsPlacedRanked order later
-      → total (placed_bytes g test) later ≡ total (ranked_bytes g test) order
-  zip_sum [] [] h = refl
-  zip_sum [] (e ∷ later) h = absurd h
-  zip_sum (t ∷ order) [] h = absurd h
-  zip_sum (t ∷ order) (e ∷ later) h =
-      omega (arith, ap (placed_bytes g test) h.0.is, zip_sum order later h.1)
-
   -- what is placed after extents that are not overlaid has the bytes of its order
-  pub located_sum : (front located : List Numbered) (order : List Ranked) → Every (λ e. own_of g e ≡ None) front
+  pub located_sum : {front located : List Numbered} {order : List Ranked} → Every (λ e. own_of g e ≡ None) front
       → AreAfter g front order located → total (placed_bytes g test) located ≡ total (ranked_bytes g test) order
-  located_sum front located order bare after =
-      omega (
-        arith,
-        ap (λ (es : List Numbered). total (placed_bytes g test) es) after.are,
-        total-append (placed_bytes g test) front after.later,
-        bare_sum front bare,
-        zip_sum order after.later after.each,
-      )
+  located_sum {front} bare after =
+      omega (arith, later_total after (placed_bytes g test) (ranked_bytes g test) (λ _ _. refl), bare_sum front bare)
 
   module _ (segments : List JoinedSegment) (controls : List (ℕ × Control))
       (bare : (n : ℕ) (j : JoinedSegment) → slice_get segments n ≡ Some j → is_absolute j.reloc ≡ true → own_at g n
@@ -87,34 +66,14 @@ module _ (g : GraphParts) (test : ℕ → Bool) where
         → total (ranked_bytes g test) (ranked_from g controls number rest) ≡ bytes_joined g test number rest
     joined_sum number [] plain = refl
     joined_sum number (j ∷ more) plain =
-        let rest = joined_sum (number + 1) more plain.1 in
-        elim (cases_Bool (is_absolute j.reloc)) [
-          | inl abs ↦
-              rw abs (omega (
-                arith,
-                rest,
-                none_joined (is_overlaid_data j.kind j.reloc Overlaid) (own_at g number) test j.size (plain.0 abs),
-              ))
-          | inr rel ↦ rw rel (omega (arith, rest, one_joined test j (own_at g number)))
-        ]
+        grind (arith, joined_sum (number + 1) more plain.1, plain.0, one_joined test j (own_at g number))
 
     -- the overlaid segments of an order have all the bytes that count
     overlaid_sum : (order : List Ranked) → Every (IsRankedOf g controls segments) order
         → total (ranked_bytes g test) (overlaid_in order) ≡ total (ranked_bytes g test) order
     overlaid_sum [] h = refl
-    overlaid_sum (t ∷ more) h = elim (cases_Bool (is_some t.own)) [
-      | inl own ↦ rw own (omega (arith, overlaid_sum more h.1))
-      | inr none ↦ rw none (omega (
-        arith,
-        overlaid_sum more h.1,
-        no_bytes (own_at g t.number) test (cond (is_data (located_at t 0).placed) t.segment.size 0)
-            (sym h.0.own ∙ bare_own t.own none),
-      ))
-    ]
-      where
-        bare_own : (own : Option ℕ) → is_some own ≡ false → own ≡ None
-        bare_own None is = refl
-        bare_own (Some unit) is = absurd (false≢true (sym is))
+    overlaid_sum (t ∷ more) h =
+        let own : t.own ≡ own_at g t.number = h.0.own in grind (arith, overlaid_sum more h.1, own)
 
     pub order_all : total (ranked_bytes g test) (order_of g controls segments) ≡ bytes_joined g test 0 segments
     order_all = sym (total_moved (ranked_bytes g test) _ _ (order_moves g controls segments))
@@ -142,16 +101,20 @@ last_weighs : (w : ℕ → ℕ) (v : ℕ) (more : List ℕ) → w (last_of v mor
 last_weighs w v [] = omega arith
 last_weighs w v (x ∷ more) = omega (arith, last_weighs w x more)
 
+-- the sum of what the first roots add
+abbrev pub below : (ℕ → ℕ) → ℕ → ℕ
+below adds zero = 0
+below adds (suc k) = adds k + below adds k
+
 -- What overlaid segments are placed over: a graph and the weights of its units, the run that the extents before them
 -- leave open, a height for each root, and which units lie under none.
 pub record Scene : Type 0 where
   pub g : GraphParts
   pub kept : IsGraph g
   pub w : ℕ → ℕ
-  pub top : ℕ → ℕ
-  pub rises : (k : ℕ) → k < 7 → top k ≤ top (suc k)
+  pub adds : ℕ → ℕ
   pub holds : (k root : ℕ) (more : List ℕ) → k < 7 → IsRootAt g (get_or vectors k 0) root → IsWalk g.edges root more
-      → top k + sum_along w (root ∷ more) ≤ top (suc k)
+      → sum_along w (root ∷ more) ≤ adds k
   pub free : ℕ → Bool
   pub is_free : (unit : ℕ) → root_number g unit ≡ 7 → free unit ≡ true
   pub low : ℕ
@@ -163,6 +126,10 @@ pub record Scene : Type 0 where
 module _ (s : Scene) where
   abbrev number : ℕ → ℕ
   number unit = root_number s.g unit
+
+  -- the height of the first roots
+  abbrev pub top : ℕ → ℕ
+  top k = below s.adds k
 
   -- a walk from the root above the unit to it, on which the units before it weigh at least `before`
   record IsWalked (unit before : ℕ) : Type 0 where
@@ -187,7 +154,7 @@ module _ (s : Scene) where
     walked : number unit < 7 → IsWalked unit before
     bare : number unit ≡ 7 → before ≡ 0
     few : own ≤ sum (mine unit) done
-    high : end ≤ s.low + s.top (number unit) + before + own
+    high : end ≤ s.low + top (number unit) + before + own
 
   of_root : (unit : ℕ) (done : List Numbered) → number unit < 7 → sum (mine unit) done ≡ sum (nat_eq unit) done
   of_root unit done below = rw (lt-ltb (number unit) 7 below)
@@ -196,15 +163,12 @@ module _ (s : Scene) where
   of_none unit done end = rw (le-ltb (number unit) 7 (omega (arith, end)))
 
   -- heights rise from root to root
-  tops_rise : (gap k : ℕ) → gap + k ≤ 7 → s.top k ≤ s.top (gap + k)
-  tops_rise zero k h = let same : zero + k ≡ k = omega arith in rw same (omega arith)
-  tops_rise (suc gap) k h =
-      let next : suc gap + k ≡ suc (gap + k) = omega arith in
-      rw next (omega (arith, tops_rise gap k (omega (arith, h)), s.rises (gap + k) (omega (arith, h))))
-
-  tops_to : (k n : ℕ) → k ≤ n → n ≤ 7 → s.top k ≤ s.top n
-  tops_to k n h few =
-      let whole : n - k + k ≡ n = omega (arith, h) in rw whole at (tops_rise (n - k) k (omega (arith, h, few)))
+  tops_to : (k n : ℕ) → k ≤ n → top k ≤ top n
+  tops_to k zero h = let none : k ≡ 0 = omega (arith, h) in rw none (omega arith)
+  tops_to k (suc n) h = elim (cases_eq k (suc n)) [
+    | inl same ↦ rw same (omega arith)
+    | inr ne ↦ omega (arith, tops_to k n (omega (arith, h, ne)))
+  ]
 
   -- a walk to a unit that lies under a root
   first_walk : (unit : ℕ) → number unit < 7 → IsWalked unit 0
@@ -251,7 +215,7 @@ module _ (s : Scene) where
 
   -- no segment of a unit under a root ends above the next root's height
   under_next : (done : List Numbered) (unit end : ℕ) → number unit < 7 → sum (nat_eq unit) done ≤ s.w unit
-      → IsHigh done unit end → end ≤ s.low + s.top (suc (number unit))
+      → IsHigh done unit end → end ≤ s.low + top (suc (number unit))
   under_next done unit end below most h =
       let walk = h.walked below in
       omega (
@@ -267,16 +231,16 @@ module _ (s : Scene) where
 
   -- so none ends above all roots and the segments under none
   pub under_all : (done : List Numbered) (unit end : ℕ) → sum (nat_eq unit) done ≤ s.w unit → IsHigh done unit end
-      → end ≤ s.low + s.top 7 + sum s.free done
+      → end ≤ s.low + top 7 + sum s.free done
   under_all done unit end most h = elim (cases_lt (number unit) 7) [
     | inl below ↦ omega (
       arith,
       under_next done unit end below most h,
-      tops_to (suc (number unit)) 7 below (omega arith),
+      tops_to (suc (number unit)) 7 below,
     )
     | inr above ↦
         let seven : number unit ≡ 7 = omega (arith, above, few_roots s.g s.kept unit) in
-        omega (arith, h.high, h.few, h.bare seven, of_none unit done seven, ap s.top seven)
+        omega (arith, h.high, h.few, h.bare seven, of_none unit done seven, ap top seven)
   ]
 
   pub still_high : (done later : List Numbered) (unit end : ℕ) → IsHigh done unit end → IsHigh (done ++ later) unit end
@@ -311,7 +275,7 @@ module _ (s : Scene) where
         omega (arith, total-append (placed_bytes s.g (mine unit)) done (e ∷ []), here)
 
     -- where it begins no higher than the roots before its own
-    pub fresh : (base : ℕ) → base ≤ s.low + s.top (number unit) → IsHigh more unit (base + size)
+    pub fresh : (base : ℕ) → base ≤ s.low + top (number unit) → IsHigh more unit (base + size)
     fresh base h = record {
       before = 0;
       own = size;
@@ -338,7 +302,7 @@ module _ (s : Scene) where
       walked = λ below. absurd (omega (arith, below, end'));
       bare = λ _. refl;
       few = omega (arith, pushed, h.few, of_none u done end, of_none unit done end');
-      high = omega (arith, h.high, h.bare end, ap s.top end, ap s.top end');
+      high = omega (arith, h.high, h.bare end, ap top end, ap top end');
     }
 
     on_caller : (base u : ℕ) → number u ≡ number unit → Reaches s.g.edges u unit → sum (nat_eq u) done ≤ s.w u
@@ -350,7 +314,7 @@ module _ (s : Scene) where
         walked = λ _. walk_on u unit h.before same reach (h.walked below);
         bare = λ end. absurd (omega (arith, below, same, end));
         few = omega (arith, pushed);
-        high = omega (arith, h.high, h.few, of_root u done below, most, ap s.top same);
+        high = omega (arith, h.high, h.few, of_root u done below, most, ap top same);
       }
       | inr above ↦
           let seven : number u ≡ 7 = omega (arith, above, few_roots s.g s.kept u) in
@@ -365,7 +329,7 @@ module _ (s : Scene) where
         fresh base (omega (
           arith,
           under_next done u base (omega (arith, less, few)) most h,
-          tops_to (suc (number u)) (number unit) less few,
+          tops_to (suc (number u)) (number unit) less,
         ))
     on_top base u most (SameUnit same) h = on_same base (rw same at h)
     on_top base u most (Leads same reach) h = on_caller base u same reach most h
@@ -378,9 +342,7 @@ module _ (s : Scene) where
 against_none : (g : GraphParts) (number unit : ℕ) (other : Option ℕ) → own_at g number ≡ Some unit
     → option_map_or (own_at g) other None ≡ None
     → option_map_or (λ n. in_conflict g n number) other true ≡ true
-against_none g number unit None own plain = refl
-against_none g number unit (Some n) own plain =
-    rw (ne_eqb n number (λ same. cc (own, plain, ap (own_at g) same)), plain)
+against_none g number unit other own plain = grind (arith, nat_tests)
 
 pub against_plain : (g : GraphParts) (number unit : ℕ) (e : Numbered) → IsOwn g unit number → own_of g e ≡ None
     → in_conflict_with g number e ≡ true
@@ -398,35 +360,30 @@ module _ (g : GraphParts) (done : List Numbered) (t : Ranked) (low : ℕ) where
   abbrev Clears : ℕ → Numbered → Type 0
   Clears base e = in_conflict_with g t.number e ≡ true → 0 < e.placed.size → e.placed.base + e.placed.size ≤ base
 
-  keeps : (x : Numbered) (xs : List Numbered) (base : ℕ) → Clears base x → IsPeak g done t low xs base
-      → IsPeak g done t low (x ∷ xs) base
-  keeps x xs base first h = record { seat = h.seat; above = h.above; clears = (first, h.clears) }
-
   peak : (xs : List Numbered) → Every (λ e. In e done) xs → (base : ℕ) × IsPeak g done t low xs base
   peak [] inside = (low, record { seat = AtLow refl; above = omega arith; clears = tt })
   peak (x ∷ xs) inside =
       let rest = peak xs inside.1 in
+      let some : Bool = nat_lt 0 x.placed.size in
       let end : ℕ = x.placed.base + x.placed.size in
-      elim (cases_Bool (in_conflict_with g t.number x)) [
-        | inr apart ↦ (rest.0, keeps x xs rest.0 (λ is _. absurd (false≢true (sym apart ∙ is))) rest.1)
-        | inl conflict ↦ elim (cases_lt 0 x.placed.size) [
-          | inr none ↦ (rest.0, keeps x xs rest.0 (λ _ some. absurd (omega (arith, none, some))) rest.1)
-          | inl some ↦ elim (cases_lt rest.0 end) [
-            | inr below ↦ (rest.0, keeps x xs rest.0 (λ _ _. below) rest.1)
-            | inl higher ↦ (
+      elim (cases_Bool (in_conflict_with g t.number x && (some && nat_lt rest.0 end))) [
+        | inr lower ↦
+            let clear : Clears rest.0 x = λ is more. grind (arith, nat_tests, lower) in
+            (rest.0, record { seat = rest.1.seat; above = rest.1.above; clears = (clear, rest.1.clears) })
+        | inl higher ↦
+            let of = and_parts _ _ higher in
+            let above : rest.0 < end = ltb-true rest.0 end (and_parts some _ of.1).1 in (
               end,
               record {
-                seat = OnTop x inside.0 conflict some refl;
-                above = omega (arith, rest.1.above, higher);
+                seat = OnTop x inside.0 of.0 (ltb-true 0 x.placed.size (and_parts some _ of.1).0) refl;
+                above = omega (arith, rest.1.above, above);
                 clears = (
                   λ _ _. omega arith,
                   every_weaker (Clears rest.0) (Clears end) xs
-                      (λ e h is some. let low_end = h is some in omega (arith, low_end, higher)) rest.1.clears,
+                      (λ e h is some. let low_end = h is some in omega (arith, low_end, above)) rest.1.clears,
                 );
               },
             )
-          ]
-        ]
       ]
 
 module _ (s : Scene) where
@@ -553,7 +510,7 @@ module _ (s : Scene) where
         omega (arith, upper, from, end)
 
     -- there is a base where the run is long enough
-    some_base : s.low + s.top 7 + unrooted ≤ s.high → (base : ℕ)
+    some_base : s.low + top s 7 + unrooted ≤ s.high → (base : ℕ)
         × IsFree (conflicting s.g t.number (s.front ++ done)) t.segment.kind t.segment.reloc len base
     some_base room = elim (cases_lt 0 len) [
       | inr none ↦ (
@@ -575,8 +532,8 @@ module _ (s : Scene) where
           )
     ]
 
-    no_base : base_for s.g (s.front ++ done) t ≡ None → s.high < s.low + s.top 7 + unrooted
-    no_base none = elim (cases_lt s.high (s.low + s.top 7 + unrooted)) [
+    no_base : base_for s.g (s.front ++ done) t ≡ None → s.high < s.low + top s 7 + unrooted
+    no_base none = elim (cases_lt s.high (s.low + top s 7 + unrooted)) [
       | inl less ↦ less
       | inr room ↦
           let j = t.segment in
@@ -595,7 +552,7 @@ module _ (s : Scene) where
 
   abbrev pub Piles : ℕ → Answer → Type 0
   Piles unrooted (Ok located) = AreLaid unrooted located
-  Piles unrooted (Err refusal) = s.high < s.low + s.top 7 + unrooted
+  Piles unrooted (Err refusal) = s.high < s.low + top s 7 + unrooted
 
   piled : (next : List Ranked) (done : List Numbered) (unrooted : ℕ) → Every (IsLocalOne s.g) next → Pairs Earlier next
       → Every (IsLaid done next) done → HasRoom done next unrooted
@@ -619,19 +576,21 @@ module _ (s : Scene) where
 
 -- How high the segments of each root may reach: by the heaviest walks of the roots before it and its own.
 
--- a height for each root: from one to the next there is room for each walk of the root
+-- what each root adds to the height of those before it: there is room for each of its walks
 pub record AreTops (p : ProgramGraph) (w : ℕ → ℕ) (at : List ℕ) (sum : ℕ) : Type 0 where
-  pub top : ℕ → ℕ
-  pub start : top 0 ≡ 0
-  pub rises : (k : ℕ) → k < length at → top k ≤ top (suc k)
+  pub adds : ℕ → ℕ
   pub holds : (k root : ℕ) (more : List ℕ) → k < length at → p.IsRoot (get_or at k 0) root → IsWalk p.edges root more
-      → top k + sum_along w (root ∷ more) ≤ top (suc k)
-  pub last : top (length at) ≡ sum
+      → sum_along w (root ∷ more) ≤ adds k
+  pub last : below adds (length at) ≡ sum
 
--- the heights of the first root, and then those of the others above it
-abbrev above : ℕ → (ℕ → ℕ) → ℕ → ℕ
-above first tops zero = 0
-above first tops (suc k) = first + tops k
+-- what the first root adds, and then the others after it
+abbrev and_others : ℕ → (ℕ → ℕ) → ℕ → ℕ
+and_others first adds zero = first
+and_others first adds (suc k) = adds k
+
+below_others : (first : ℕ) (adds : ℕ → ℕ) (k : ℕ) → below (and_others first adds) (suc k) ≡ first + below adds k
+below_others first adds zero = omega arith
+below_others first adds (suc k) = omega (arith, below_others first adds k)
 
 -- each vector has at most one root
 module _ (p : ProgramGraph) (w : ℕ → ℕ) (one_root : (v a b : ℕ) → p.IsRoot v a → p.IsRoot v b → a ≡ b) where
@@ -639,22 +598,14 @@ module _ (p : ProgramGraph) (w : ℕ → ℕ) (one_root : (v a b : ℕ) → p.Is
       → ((root : ℕ) (walk : List ℕ) → p.IsRoot v root → IsWalk p.edges root walk → sum_along w (root ∷ walk) ≤ first)
       → AreTops p w more sum → AreTops p w (v ∷ more) (first + sum)
   joined v more first sum fits rest = record {
-    top = above first rest.top;
-    start = refl;
-    rises = rises;
+    adds = and_others first rest.adds;
     holds = holds;
-    last = omega (arith, rest.last);
+    last = omega (arith, below_others first rest.adds (length more), rest.last);
   } where
-    rises : (k : ℕ) → k < length (v ∷ more) → above first rest.top k ≤ above first rest.top (suc k)
-    rises zero below = omega arith
-    rises (suc k) below = omega (arith, rest.rises k (omega (arith, below)))
-
     holds : (k root : ℕ) (walk : List ℕ) → k < length (v ∷ more) → p.IsRoot (get_or (v ∷ more) k 0) root
-        → IsWalk p.edges root walk
-        → above first rest.top k + sum_along w (root ∷ walk) ≤ above first rest.top (suc k)
-    holds zero root walk below is_root is_walk = omega (arith, fits root walk is_root is_walk, rest.start)
-    holds (suc k) root walk below is_root is_walk =
-        omega (arith, rest.holds k root walk (omega (arith, below)) is_root is_walk)
+        → IsWalk p.edges root walk → sum_along w (root ∷ walk) ≤ and_others first rest.adds k
+    holds zero root walk inside is_root is_walk = fits root walk is_root is_walk
+    holds (suc k) root walk inside is_root is_walk = rest.holds k root walk (omega (arith, inside)) is_root is_walk
 
   -- a heaviest chain is as heavy as any walk of its root
   as_heavy : (v : ℕ) (c : Chain) → p.IsRoot v c.root → IsHeaviestWalk p.edges w c → (root : ℕ) (walk : List ℕ)
@@ -667,10 +618,8 @@ module _ (p : ProgramGraph) (w : ℕ → ℕ) (one_root : (v a b : ℕ) → p.Is
   pub tops : (at : List ℕ) (chains : List Chain) → ChainsFrom p w at chains
       → AreTops p w at (total (λ (c : Chain). c.bytes) chains)
   tops [] [] h = record {
-    top = λ k. 0;
-    start = refl;
-    rises = λ k below. omega arith;
-    holds = λ k root more below. absurd (omega (arith, below));
+    adds = λ k. 0;
+    holds = λ k root more inside. absurd (omega (arith, inside));
     last = refl;
   }
   tops [] (c ∷ chains) h = absurd h

@@ -1,23 +1,21 @@
 -- The joined segments and their graph, and the relocatable ones in their order.
 use Rattle.m51_place.proofs.Common.{◌≡◌, ◌≢◌, inl, inr, ℕ, ◌+◌, ◌<◌, true, false, Bool, cond, List, [], ◌∷◌, ◌++◌}
 use Rattle.m51_place.proofs.Common.{get_or, Option, Some, None, Result, Ok, refl, sym, ap, subst, ◌∙◌, arith, All}
-use Rattle.m51_place.proofs.Common.{list_any, cases_Bool, All-nil, All-cons, All-head, All-tail, All-append, Code}
-use Rattle.m51_place.proofs.Common.{Number, Abs, Fits, Control, Refusal, ModuleParts, IsValid, JoinedSegment}
-use Rattle.m51_place.proofs.Common.{segments_of, GraphParts, graph_of, unless, leads, is_absolute, units_of, suc, ◌/◌}
-use Rattle.m51_place.proofs.Common.{◌≤◌, not, length, drop, unwrap_or, position, nat_lt, position_or_len, lies_under}
-use Rattle.m51_place.proofs.Common.{drop_rest, above_tells, Ranked, comes_before, put, nat_eq, slice_get, IsPermutation}
-use Rattle.m51_place.proofs.Common.{append-nil, length-map, All-get_or, All-permutation, slice_get_within}
-use Rattle.m51_place.proofs.Common.{get_or_from_slice_get, Numbered, absolutes_from, one_if, order_of, own_at, put_all}
+use Rattle.m51_place.proofs.Common.{list_any, cases_Bool, All-head, All-tail, Code, Number, Abs, Fits, Control, Refusal}
+use Rattle.m51_place.proofs.Common.{ModuleParts, IsValid, JoinedSegment, segments_of, GraphParts, graph_of, unless}
+use Rattle.m51_place.proofs.Common.{leads, is_absolute, units_of, suc, ◌/◌, ◌≤◌, not, length, drop, unwrap_or, position}
+use Rattle.m51_place.proofs.Common.{nat_lt, position_or_len, lies_under, drop_rest, above_tells, Ranked, comes_before}
+use Rattle.m51_place.proofs.Common.{put, nat_eq, slice_get, IsPermutation, append-nil, length-map, All-permutation}
+use Rattle.m51_place.proofs.Common.{slice_get_within, Numbered, absolutes_from, one_if, order_of, own_at, put_all}
 use Rattle.m51_place.proofs.Common.{ranked_of, ranked_from, ◌⊎◌, false≢true, before_by, class_number, group_number}
-use Rattle.m51_place.proofs.Common.{absolute, filter, map, not-true}
-use Rattle.std.proofs.lemmas.List.Elements.{All-map}
+use Rattle.m51_place.proofs.Common.{absolute, AreKept, filter, map, not-true}
 use Rattle.m51_cells.proofs.KindLaws.{absolute_is, overlay_kind, overlay_reloc}
 use Rattle.m51_cells.specs.Fits.{allows}
 use Rattle.m51_module.specs.declared.segment.Segment.{Segment}
 use Rattle.m51_module.specs.Validity.{IsSegmentValid}
 use Rattle.m51_resolve.specs.Joining.{all_segments, are_parts, firsts, firsts_after, joined_of}
 use Rattle.m51_graph.specs.Drawing.{edges_of, fixup_edges}
-use Rattle.m51_graph.specs.Graphs.{cyclic_from, first_under_two, judged, lacks_reset, on_cycles, parts_of}
+use Rattle.m51_graph.specs.Graphs.{judged, parts_of}
 use Rattle.m51_graph.specs.Locals.{own_units}
 use Rattle.m51_graph.specs.Units.{roots_of, unit_titles}
 use Rattle.std.proofs.Common.{◌%◌}
@@ -33,7 +31,7 @@ use Rattle.m51_place.specs.Placement.{is_number}
 use Rattle.m51_place.specs.Ready.{IsPlaceable}
 use Rattle.m51_place.proofs.Weights.{has_byte}
 use Rattle.m51_cells.proofs.Members.{all_every, Every, every_all, total, total_moved, every_weaker, Pairs, pairs_all}
-use Rattle.m51_cells.proofs.Members.{every_map, every_of, in_filter}
+use Rattle.m51_cells.proofs.Members.{every_append, every_in, every_map, every_of, got_in, in_filter}
 use Rattle.m51_place.proofs.Numbering.{at_number, with_numbers}
 use Rattle.m51_place.specs.declared.ranked.Rank.{Rank}
 use Rattle.m51_place.specs.Laws.{IsInOrder}
@@ -70,27 +68,24 @@ joined_valid all s h = record {
 }
 
 -- all segments of valid modules are valid, those that are seen first too
-all_valid : (modules : List ModuleParts) → All IsValid modules → All IsSegmentValid (all_segments modules)
-all_valid [] h = All-nil IsSegmentValid
+all_valid : (modules : List ModuleParts) → All IsValid modules → Every IsSegmentValid (all_segments modules)
+all_valid [] h = tt
 all_valid (m ∷ more) h =
-    let first : IsValid m = All-head IsValid m more h in
-    All-append IsSegmentValid m.segments (all_segments more) first.segments (all_valid more (All-tail IsValid m more h))
+    every_append IsSegmentValid m.segments (all_segments more)
+    (all_every IsSegmentValid m.segments (All-head IsValid m more h).segments)
+    (all_valid more (All-tail IsValid m more h))
 
-firsts_pass : (P : Segment → Type 0) (before xs : List Segment) → All P xs → All P (firsts_after before xs)
-firsts_pass P before [] h = All-nil P
+firsts_pass : (P : Segment → Type 0) (before xs : List Segment) → Every P xs → Every P (firsts_after before xs)
+firsts_pass P before [] h = tt
 firsts_pass P before (s ∷ more) h =
-    let rest = firsts_pass P (before ++ s ∷ []) more (All-tail P s more h) in
-    elim (cases_Bool (list_any (are_parts s) before)) [
-      | inl seen ↦ rw seen rest
-      | inr new ↦ rw new (All-cons P s (firsts_after (before ++ s ∷ []) more) (All-head P s more h) rest)
-    ]
+    let rest = firsts_pass P (before ++ s ∷ []) more h.1 in
+    elim (cases_Bool (list_any (are_parts s) before)) [ inl seen ↦ rw seen rest | inr new ↦ rw new (h.0, rest) ]
 
-pub all_joined : (modules : List ModuleParts) → All IsValid modules → All IsJoined (segments_of modules)
+all_joined : (modules : List ModuleParts) → All IsValid modules → Every IsJoined (segments_of modules)
 all_joined modules h =
     let all = all_segments modules in
-    All-map IsJoined (joined_of all) (firsts all)
-    (λ k d below. joined_valid all (get_or (firsts all) k d)
-    (firsts_pass IsSegmentValid [] all (all_valid modules h) k d below))
+    every_map (joined_of all) IsJoined (firsts all)
+    (every_weaker _ _ _ (joined_valid all) (firsts_pass IsSegmentValid [] all (all_valid modules h)))
 
 -- the graph of modules and control lines has the units, roots, own units and marks of the joined segments
 pub record IsOf (segments : List JoinedSegment) (controls : List (ℕ × Control)) (g : GraphParts) : Type 0 where
@@ -100,19 +95,10 @@ pub record IsOf (segments : List JoinedSegment) (controls : List (ℕ × Control
 
 unless_ok : {V : Type 0} (rule : Option Refusal) (after : Result V Refusal) (v : V) → unless rule after ≡ Ok v → after
     ≡ Ok v
-unless_ok None after v h = h
-unless_ok (Some refusal) after v h = absurd (cc h)
+unless_ok rule after v h = grind arith
 
 judged_is : (titles : List (List ℕ)) (p g : GraphParts) → judged titles p ≡ Ok g → p ≡ g
-judged_is titles p g h =
-    let reach : ℕ → ℕ → Bool = leads p.edges in
-    let two : Option Refusal = first_under_two reach p.roots p.own 0 titles in
-    let cycles : Option Refusal = on_cycles (cyclic_from reach 0 titles) in
-    let e : ◌≡◌ {A = Result GraphParts Refusal} (Ok p) (Ok g) =
-    unless_ok two (Ok p) g
-    (unless_ok cycles (unless two (Ok p)) g
-    (unless_ok (lacks_reset p.roots) (unless cycles (unless two (Ok p))) g h)) in
-    cc e
+judged_is titles p g h = grind arith
 
 pub graph_is : (modules : List ModuleParts) (controls : List (ℕ × Control)) (g : GraphParts) → graph_of modules controls
     ≡ Ok g → IsOf (segments_of modules) controls g
@@ -141,18 +127,17 @@ place_is p xs = or_end (position_or_len p xs) (length xs) (front_within p xs)
 -- one more is put before the first that it comes before
 pub put_is : (t : Ranked) (order : List Ranked) → put t order
     ≡ insert order (place_in (λ u. comes_before t.rank u.rank) order) t
-put_is t [] = refl
-put_is t (u ∷ more) =
-    let p : Ranked → Bool = λ v. comes_before t.rank v.rank in
-    elim (cases_Bool (p u)) [
-      | inl here ↦
-          let first : position_or_len p (u ∷ more) ≡ 0 = rw here in
-          rw (place_is, first, here)
+put_is t order = rw place_is (insert_there t order)
+  where
+    insert_there : (t : Ranked) (order : List Ranked) → put t order
+        ≡ insert order (position_or_len (λ u. comes_before t.rank u.rank) order) t
+    insert_there t [] = refl
+    insert_there t (u ∷ more) = elim (cases_Bool (comes_before t.rank u.rank)) [
+      | inl here ↦ rw here refl
       | inr after ↦
-          let next : position_or_len p (u ∷ more) ≡ suc (place_in p more) = rw after (omega (arith, place_is p more)) in
-          ap (λ (b : Bool). cond b (t ∷ (u ∷ more)) (u ∷ put t more)) after
-          ∙ ap (λ (xs : List Ranked). u ∷ xs) (put_is t more)
-          ∙ sym (ap (λ (n : ℕ). insert (u ∷ more) n t) (place_is p (u ∷ more) ∙ next))
+          let p : Ranked → Bool = λ v. comes_before t.rank v.rank in
+          let next : position_or_len p (u ∷ more) ≡ suc (position_or_len p more) = rw after (omega arith) in
+          rw (next, after, insert_there t more) refl
     ]
 
 -- the lowest of the bits that say under which roots a unit lies
@@ -245,22 +230,39 @@ pub as_many_own : (segments : List JoinedSegment) (controls : List (ℕ × Contr
     → IsOf segments controls g → length g.own ≡ length segments
 as_many_own segments controls g is = ap (λ (os : List (Option ℕ)). length os) is.own ∙ length-map segments _
 
-pub joined_at : (P : JoinedSegment → Type 0) (segments : List JoinedSegment) (number : ℕ) (j : JoinedSegment)
-    → All P segments → slice_get segments number ≡ Some j → P j
-joined_at P segments number j all is =
-    subst P (get_or_from_slice_get segments number j j is)
-    (All-get_or P segments number j (slice_get_within segments number j is) all)
+-- valid modules, control lines and their graph
+pub record Program : Type 0 where
+  pub modules : List ModuleParts
+  pub controls : List (ℕ × Control)
+  pub g : GraphParts
+  pub valid : All IsValid modules
+  pub kept : AreKept controls
+  pub of : graph_of modules controls ≡ Ok g
 
-pub ready : (segments : List JoinedSegment) (controls : List (ℕ × Control)) (g : GraphParts) → IsOf segments controls g
-    → All IsJoined segments → (t : Ranked) → IsRankedOf g controls segments t → IsPlaceable g t
-ready segments controls g is all t h =
-    let joined : IsJoined t.segment = joined_at IsJoined segments t.number t.segment all h.segment in
-    record {
-      inside =
-          omega (arith, slice_get_within segments t.number t.segment h.segment, as_many_own segments controls g is);
-      kind = joined.kind;
-      reloc = joined.reloc;
-    }
+module _ (c : Program) where
+  abbrev pub segments : List JoinedSegment
+  segments = segments_of c.modules
+
+  abbrev pub order : List Ranked
+  order = order_of c.g c.controls segments
+
+  pub shape : IsOf segments c.controls c.g
+  shape = graph_is c.modules c.controls c.g c.of
+
+  pub joined_at : (number : ℕ) (j : JoinedSegment) → slice_get segments number ≡ Some j → IsJoined j
+  joined_at number j is = every_in IsJoined segments j (all_joined c.modules c.valid) (got_in segments number j is)
+
+  pub ranked : Every (IsRankedOf c.g c.controls segments) order
+  ranked = order_ranked c.g c.controls segments
+
+  pub ready : All (IsPlaceable c.g) order
+  ready = every_all _ order (every_weaker (IsRankedOf c.g c.controls segments) (IsPlaceable c.g) order (λ t h.
+      let joined = joined_at t.number t.segment h.segment in
+      record {
+        inside = omega (arith, slice_get_within segments t.number t.segment h.segment, as_many_own _ _ _ shape);
+        kind = joined.kind;
+        reloc = joined.reloc;
+      }) ranked)
 
 -- how often a number occurs among ranked segments and among extents
 abbrev pub ranked_count : ℕ → Ranked → ℕ
@@ -270,45 +272,23 @@ abbrev pub extent_count : ℕ → Numbered → ℕ
 extent_count m e = one_if (is_number m e)
 
 -- of segments from a number on, each number occurs once, among absolute ones or among ranked
-next_count : (m number len : ℕ) → one_if (nat_eq m number) + one_if (has_byte (number + 1) len m)
-    ≡ one_if (has_byte number (suc len) m)
-next_count m number len = grind (arith, nat_tests)
-
-none_left : (m number : ℕ) → 0 ≡ one_if (has_byte number 0 m)
-none_left m number = grind (arith, nat_tests)
-
 module _ (g : GraphParts) (controls : List (ℕ × Control)) (m : ℕ) where
   counted : (number : ℕ) (rest : List JoinedSegment)
       → total (extent_count m) (absolutes_from number rest) + total (ranked_count m)
       (ranked_from g controls number rest)
       ≡ one_if (has_byte number (length rest) m)
-  counted number [] = none_left m number
-  counted number (j ∷ more) =
-      let rest = counted (number + 1) more in
-      let next = next_count m number (length more) in
-      elim (cases_Bool (is_absolute j.reloc))
-      [ inl abs ↦ rw abs (omega (arith, rest, next)) | inr rel ↦ rw rel (omega (arith, rest, next)) ]
-
-below_all : (m len : ℕ) → m < len → one_if (has_byte 0 len m) ≡ 1
-below_all m len h = grind (arith, nat_tests)
+  counted number [] = grind (arith, nat_tests)
+  counted number (j ∷ more) = grind (arith, nat_tests, counted (number + 1) more)
 
 -- each number of a joined segment occurs once, among absolute segments or in the order
 pub once : (g : GraphParts) (controls : List (ℕ × Control)) (segments : List JoinedSegment) (m : ℕ)
     → m < length segments
     → total (extent_count m) (absolutes_from 0 segments) + total (ranked_count m) (order_of g controls segments) ≡ 1
 once g controls segments m below =
-    omega (
-      arith,
-      counted g controls m 0 segments,
-      below_all m (length segments) below,
-      total_moved (ranked_count m) _ _ (order_moves g controls segments),
-    )
+    let moved = total_moved (ranked_count m) _ _ (order_moves g controls segments) in
+    grind (arith, nat_tests, counted g controls m 0 segments, moved)
 
 -- The order rises by rank.
-
--- one level of the order: a number, and what follows where the numbers are the same
-pub goes : (x y : ℕ) (next : Bool) → before_by x y next ≡ true → (x < y) ⊎ ((x ≡ y) × (next ≡ true))
-goes x y next h = grind (arith, nat_tests)
 
 abbrev Either : Bool → Bool → Type 0
 Either n m = (n ≡ true) ⊎ (m ≡ true)

@@ -1,19 +1,17 @@
 -- L12 names an overlaid segment exactly if the run has fewer bytes than the weight.
 use Rattle.m51_place.proofs.Common.{◌≡◌, ℕ, ◌+◌, ◌≤◌, Ok, Err, refl, arith, Numbered, place_after, overlaid_in, inl}
-use Rattle.m51_place.proofs.Common.{inr, true, false, Bool, cond, not, ◌&&◌, List, [], ◌∷◌, Some, sym, ap, ◌∙◌}
-use Rattle.m51_place.proofs.Common.{slice_get, cases_lt, false≢true, is_absolute, ModuleParts, JoinedSegment}
-use Rattle.m51_place.proofs.Common.{segments_of, ◌-◌, ◌++◌, Option, None, is_some, length, Refusal, L12, GraphParts}
-use Rattle.m51_place.proofs.Common.{unless, Ranked, first_met, shared_after, shared_at, shared_extents, own_at}
-use Rattle.m51_place.proofs.Common.{before_overlaid, IsWeightOf, OverlaysData, base_for, located_at, located_of}
+use Rattle.m51_place.proofs.Common.{inr, true, false, not, List, [], ◌∷◌, Some, sym, ap, ◌∙◌, slice_get, cases_lt}
+use Rattle.m51_place.proofs.Common.{false≢true, is_absolute, ModuleParts, JoinedSegment, segments_of, ◌-◌, ◌++◌, Option}
+use Rattle.m51_place.proofs.Common.{None, is_some, length, Refusal, L12, GraphParts, IsGraph, unless, Ranked, first_met}
+use Rattle.m51_place.proofs.Common.{shared_after, shared_at, shared_extents, own_at, before_overlaid, IsWeightOf}
+use Rattle.m51_place.proofs.Common.{OverlaysData, base_for, located_at, located_of}
 use Rattle.m51_place.specs.Overlay.{OverlayFits, PlacesOverlaid, ExceedsRun, LeavesRun, OverlayRefused, PlacesBefore}
 use Rattle.m51_place.specs.Overlay.{RefusesOverlaid}
 use Rattle.m51_place.proofs.Free.{all_fail, Answer, and_then, base_cases, place_append}
 use Rattle.m51_place.proofs.Piled.{Piles}
-use Rattle.m51_place.proofs.Tight.{answer as settled, order, scene, Setting, unrooted, weighs, fixed, holds, Program}
-use Rattle.m51_place.proofs.Tight.{ranked, segments}
-use Rattle.std.specs.Str.{bytes_eq}
+use Rattle.m51_place.proofs.Tight.{answer as settled, scene, Setting, unrooted, weighs, holds}
+use Rattle.m51_place.proofs.Whole.{fixed}
 use Rattle.std.proofs.lemmas.Slice.Eq.{bytes_eq-Decides}
-use Rattle.m51_cells.specs.Name.{title_at}
 use Rattle.m51_module.specs.declared.segment.Segment.{Segment}
 use Rattle.m51_resolve.specs.Joining.{all_segments, are_parts, firsts, joined_of, title_of}
 use Rattle.m51_resolve.proofs.FirstSight.{AreApart, firsts_apart}
@@ -23,28 +21,27 @@ use Rattle.m51_module.specs.declared.linked.Refusal.TheVariants.{L9}
 use Rattle.m51_place.specs.Placement.{placing_from}
 use Rattle.m51_place.proofs.Conflicting.{own_is, own_read}
 use Rattle.m51_place.proofs.Ordered.{AreParts, IsPlain, order_parts, lone_before}
-use Rattle.m51_place.proofs.Ranks.{IsRankedOf}
+use Rattle.m51_place.proofs.Ranks.{IsRankedOf, order, Program, ranked, segments}
 
 -- L12 comes for no overlaid segment where the run has as many bytes as the weight.
 
 pub placed : (t : Setting) → t.low + t.weight ≤ t.high → (found : Answer)
-    → place_after t.c.g t.front (overlaid_in (order t.c)) ≡ found → Piles (scene t) (unrooted t) found
-    → PlacesOverlaid t.c.g t.front (order t.c)
+    → place_after t.c.g t.finds.extents (overlaid_in (order t.c)) ≡ found → Piles (scene t) (unrooted t) found
+    → PlacesOverlaid t.c.g t.finds.extents (order t.c)
 placed t room (Ok located) is piles = record { located = located; is = is }
 placed t room (Err refusal) is piles = absurd (omega (arith, piles, room, weighs t))
 
 pub overlay_fits : OverlayFits
 overlay_fits modules controls g low high weight valid kept is graph_is shares data_only run h room =
     let t : Setting = record {
-      c = record { modules = modules; controls = controls; g = g; valid = valid; kept = kept; is = is; of = graph_is };
+      c = record { modules = modules; controls = controls; g = g; valid = valid; kept = kept; of = graph_is };
+      is = is;
       low = low;
       high = high;
       weight = weight;
       shares = shares;
       data_only = data_only;
-      front = run.extents;
-      front_is = run.placed;
-      run = run.run;
+      finds = run;
       weighed = h;
     } in
     placed t room _ refl (settled t)
@@ -60,10 +57,7 @@ apart_pairs (s ∷ xs) h = (all_fail (are_parts s) xs h.0, apart_pairs xs h.1)
 alike : (s t : Segment) → is_absolute s.reloc ≡ false → is_absolute t.reloc ≡ false → title_of s ≡ title_of t
     → are_parts s t ≡ true
 alike s t a b same =
-    let name : s.name ≡ t.name = sym (ap (λ (r : Bool). cond (not r) s.name (title_at s.base)) a) ∙ same
-    ∙ ap (λ (r : Bool). cond (not r) t.name (title_at t.base)) b in
-    ap (λ (r : Bool). not r && not (is_absolute t.reloc) && bytes_eq s.name t.name) a
-    ∙ ap (λ (r : Bool). not r && bytes_eq s.name t.name) b ∙ (bytes_eq-Decides s.name t.name).1 name
+    let name : s.name ≡ t.name = rw (a, b) at same in rw (a, b, (bytes_eq-Decides s.name t.name).1 name)
 
 pub one_title : (modules : List ModuleParts) (n m : ℕ) (j k : JoinedSegment) → slice_get (segments_of modules) n
     ≡ Some j → slice_get (segments_of modules) m ≡ Some k
@@ -72,10 +66,9 @@ one_title modules n m j k at at' a b same =
     let all : List Segment = all_segments modules in
     let f = map_at (joined_of all) (firsts all) n j at in
     let f' = map_at (joined_of all) (firsts all) m k at' in
-    let reloc : is_absolute f.0.reloc ≡ false = ap (λ (x : JoinedSegment). is_absolute x.reloc) f.2 ∙ a in
-    let reloc' : is_absolute f'.0.reloc ≡ false = ap (λ (x : JoinedSegment). is_absolute x.reloc) f'.2 ∙ b in
-    let title : title_of f.0 ≡ title_of f'.0 = ap (λ (x : JoinedSegment). x.title) f.2 ∙ same
-    ∙ sym (ap (λ (x : JoinedSegment). x.title) f'.2) in
+    let reloc : is_absolute f.0.reloc ≡ false = rw (← f.2) at a in
+    let reloc' : is_absolute f'.0.reloc ≡ false = rw (← f'.2) at b in
+    let title : title_of f.0 ≡ title_of f'.0 = rw (← f.2, ← f'.2) at same in
     let apart = apart_pairs (firsts all) (firsts_apart [] all) in
     elim (cases_lt n m) [
       | inl less ↦ absurd
@@ -119,10 +112,9 @@ own_some (Some unit) there = (unit, refl)
 
 refused_by : (count : ℕ) (g : GraphParts) (answer : Answer) (refusal : Refusal) → placing_from g count answer
     ≡ Err refusal → answer ≡ Err refusal
-refused_by count g (Ok located) refusal k = absurd (cc k)
-refused_by count g (Err other) refusal k = let same : other ≡ refusal = cc k in ap (λ (r : Refusal). Err r) same
+refused_by count g answer refusal k = grind arith
 
-module _ (c : Program) (low high weight : ℕ) (data_only : OverlaysData (segments c) c.g)
+module _ (c : Program) (is : IsGraph c.g) (low high weight : ℕ) (data_only : OverlaysData (segments c) c.g)
     (leaves : LeavesRun c.g (fixed c) (order c) low high) (h : IsWeightOf (segments c) c.g weight) where
   parts : AreParts c.g (order c)
   parts = order_parts c.g c.controls (segments c) data_only
@@ -157,14 +149,13 @@ module _ (c : Program) (low high weight : ℕ) (data_only : OverlaysData (segmen
   abbrev setting : shared_extents (fixed c) ≡ None → PlacesBefore c.g (fixed c) (order c) → Setting
   setting shares before = record {
     c = c;
+    is = is;
     low = low;
     high = high;
     weight = weight;
     shares = shares;
     data_only = data_only;
-    front = before.extents;
-    front_is = before.is;
-    run = leaves before.extents before.is;
+    finds = record { extents = before.extents; placed = before.is; run = leaves before.extents before.is };
     weighed = h;
   }
 
@@ -178,18 +169,14 @@ module _ (c : Program) (low high weight : ℕ) (data_only : OverlaysData (segmen
     -- fixed extents share no cell
     shares_by : (o : Option Refusal) → shared_extents (fixed c) ≡ o → unless o (place_after c.g (fixed c) (order c))
         ≡ Err refusal → o ≡ None
-    shares_by None is k = refl
-    shares_by (Some other) is k =
-        let same : other ≡ refusal = cc k in
-        absurd (not_shared (fixed c) [] r.segment.title (is ∙ ap (λ (x : Refusal). Some x) same))
+    shares_by o is k = grind (arith, is, not_shared (fixed c) [] r.segment.title)
 
     shares : shared_extents (fixed c) ≡ None
     shares = shares_by (shared_extents (fixed c)) refl answer
 
     -- the placing stops after what comes before
     stopped : and_then first later ≡ Err refusal
-    stopped = sym placing ∙ ap (λ (o : Option Refusal). unless o (place_after c.g (fixed c) (order c))) (sym shares)
-        ∙ answer
+    stopped = rw (shares, placing) at answer
 
     plain_only : (ts : List Ranked) → Every (IsPlain c.g) ts → ((t : Ranked) → In t ts → In t (order c))
         → Names ts refusal → ⊥
@@ -216,7 +203,7 @@ module _ (c : Program) (low high weight : ℕ) (data_only : OverlaysData (segmen
         | inl less ↦ less
         | inr not_less ↦
             let t : Setting = setting shares before in
-            let fit = placed t (omega (arith, not_less, t.run.order)) _ refl (settled t) in
+            let fit = placed t (omega (arith, not_less, t.finds.run.order)) _ refl (settled t) in
             let last = rw fit.is at (rw before.is at stopped) in
             absurd (plain_only parts.rest parts.after
             (λ u there. in_order u (in_right (before_overlaid (order c)) (overlaid_in (order c) ++ parts.rest) u
@@ -228,31 +215,27 @@ module _ (c : Program) (low high weight : ℕ) (data_only : OverlaysData (segmen
   refuses_by : (e : ExceedsRun c.g (fixed c) (order c) low high weight) (found : Answer)
       → place_after c.g e.before.extents (overlaid_in (order c)) ≡ found → RefusesOverlaid c.modules c.controls c.g
   refuses_by e (Ok located) is =
-      let t : Setting = setting e.shares e.before in absurd (omega (arith, holds t located is, e.exceeds, t.run.order))
+      let t : Setting = setting e.shares e.before in absurd (omega
+      (arith, holds t located is, e.exceeds, t.finds.run.order))
   refuses_by e (Err refusal) is =
       let named = named_in c.g (overlaid_in (order c)) e.before.extents refusal is in
       let there = in_filter (λ (t : Ranked). is_some t.own) (order c) named.0 named.1 in
       let of = every_in (IsRankedOf c.g c.controls (segments c)) (order c) named.0 (ranked c) there.0 in
       let unit = own_some named.0.own there.1 in
-      let stopped : place_after c.g (fixed c) (order c) ≡ Err refusal = placing
-      ∙ ap (λ (a : Answer). and_then a later) e.before.is
-      ∙ ap (λ (a : Answer). and_then a (λ fs. place_after c.g fs parts.rest)) is in
+      let stopped : place_after c.g (fixed c) (order c) ≡ Err refusal = rw (placing, e.before.is, is) in
       record {
         number = named.0.number;
         unit = unit.0;
         segment = named.0.segment;
         is = of.segment;
         own = own_is c.g named.0.number unit.0 (sym of.own ∙ unit.1);
-        refused =
-            ap (λ (o : Option Refusal). placing_from c.g (length (segments c))
-            (unless o (place_after c.g (fixed c) (order c)))) e.shares
-            ∙ ap (placing_from c.g (length (segments c))) stopped ∙ ap (λ (x : Refusal). Err x) named.2;
+        refused = rw (e.shares, stopped) (ap (λ (x : Refusal). Err x) named.2);
       }
 
 pub overlay_is_refused : OverlayRefused
 overlay_is_refused modules controls g low high weight valid kept is graph_is data_only leaves h =
     let c : Program = record
-    { modules = modules; controls = controls; g = g; valid = valid; kept = kept; is = is; of = graph_is } in (
-      exceeds c low high weight data_only leaves h,
-      λ e. refuses_by c low high weight data_only leaves h e _ refl,
+    { modules = modules; controls = controls; g = g; valid = valid; kept = kept; of = graph_is } in (
+      exceeds c is low high weight data_only leaves h,
+      λ e. refuses_by c is low high weight data_only leaves h e _ refl,
     )

@@ -2,35 +2,35 @@
 use Rattle.m51_place.proofs.Common.{◌≡◌, inl, inr, ℕ, zero, suc, ◌+◌, ◌<◌, ◌≤◌, true, false, Bool, cond, nat_eq, List}
 use Rattle.m51_place.proofs.Common.{filter, [], ◌∷◌, get_or, map, Some, refl, sym, ap, subst, ◌∙◌, arith, slice_get}
 use Rattle.m51_place.proofs.Common.{Contains, list_any, list_any_at, and_parts, vectors, JoinedSegment, is_absolute}
-use Rattle.m51_place.proofs.Common.{code_segments, units_of, ◌≢◌, ◌++◌, Option, None, All, same_Some, Code, Covers}
-use Rattle.m51_place.proofs.Common.{Control, extent_at, ModuleParts, GraphParts, Numbered, in_conflict, absolute}
-use Rattle.m51_place.proofs.Common.{absolutes_from, banks_of, fixed_of, reserves_of, shared_extents, own_at, length}
-use Rattle.m51_place.proofs.Common.{option_map_or, range_with_len, append-nil, length-map, slice_get_within, Meet}
-use Rattle.m51_place.proofs.Common.{LayoutParts, Overlaid, Placed, FirstPlain, SecondPlain, Owners, IsSegment}
-use Rattle.m51_place.proofs.Common.{layout_graph, owners_of, IsSound, reach_edge, none_in_empty, edge_test, IsGraph}
-use Rattle.m51_place.proofs.Common.{SegmentsConflict, is_argument_at, owners_at, parts_of_layout}
+use Rattle.m51_place.proofs.Common.{code_segments, units_of, ◌≢◌, ◌++◌, Option, None, same_Some, Code, Covers, Control}
+use Rattle.m51_place.proofs.Common.{extent_at, GraphParts, Numbered, in_conflict, absolute, absolutes_from, banks_of}
+use Rattle.m51_place.proofs.Common.{reserves_of, shared_extents, own_at, length, option_map_or, append-nil, length-map}
+use Rattle.m51_place.proofs.Common.{slice_get_within, Meet, LayoutParts, Overlaid, Placed, FirstPlain, SecondPlain}
+use Rattle.m51_place.proofs.Common.{Owners, IsSegment, layout_graph, owners_of, IsSound, reach_edge, none_in_empty}
+use Rattle.m51_place.proofs.Common.{edge_test, IsGraph, SegmentsConflict, is_argument_at, owners_at, parts_of_layout}
 use Rattle.m51_place.proofs.Numbering.{at_number, filter_in, number_at, numbers_rise, with_numbers}
-use Rattle.std.proofs.lemmas.Bool.{eq-eqb, cases_order, ne_eqb}
+use Rattle.std.proofs.lemmas.Bool.{eq-eqb, cases_eq, cases_order, ne_eqb}
 use Rattle.m51_cells.specs.Kinds.{is_code}
 use Rattle.m51_graph.specs.Units.{is_root, roots_from, units_from}
 use Rattle.m51_cells.proofs.Members.{contains_in, every_in, got_in, In, in_contains, in_filter, in_map, in_right}
 use Rattle.m51_cells.proofs.Members.{map_at, map_got, map_in, pairs_all, pairs_at, pairs_filter, pairs_in, pairs_range}
-use Rattle.m51_place.proofs.Ranks.{absolute_at, absolutes_are, IsJoined, IsOf, is_fixed, joined_at}
+use Rattle.m51_place.proofs.Ranks.{absolute_at, absolutes_are, IsOf, is_fixed, joined_at, Program, segments, shape}
 use Rattle.m51_cells.proofs.KindLaws.{code_is}
 use Rattle.m51_module.specs.Cells.{code_cell}
 use Rattle.m51_place.proofs.Free.{KeepApart}
-use Rattle.m51_place.proofs.Whole.{bare_absolute, fixed_apart, IsSegmentOf, IsSpot, found, IsWhole, only}
+use Rattle.m51_place.proofs.Whole.{bare_absolute, fixed, fixed_pairs, overlaid_at, segment_at, IsSegmentOf, IsSpot}
+use Rattle.m51_place.proofs.Whole.{found, IsWhole, only}
 use Rattle.std.proofs.lemmas.List.FromFn.{get_or-map-range_with_len, length-map-range_with_len}
 use Rattle.m51_module.specs.Laws.{HaveSameUnits}
 use Rattle.m51_module.specs.Plan.{ExtentsConflict, IsCodeSegment, IsOverlaid, IsPlaced, IsRootAt, Owns, UnitLiesUnder}
 use Rattle.m51_module.specs.Rising.{Rises}
 use Rattle.m51_module.proofs.Conflicts.{conflict_back, related_there}
-use Rattle.m51_graph.specs.Graph as graph
 use Rattle.m51_place.specs.Conflicts.{callers_of}
 use Rattle.m51_place.specs.Placement.{owner_pairs, owners_of_extent, pairs_with, joined_index, joined_base}
 use Rattle.m51_place.specs.Placement.{placing_with}
 use Rattle.m51_place.proofs.Conflicting.{caller_edge, conflict_tells, own_read, owner_owns}
 use Rattle.m51_place.specs.Places.{ArePlaces, IsPlacedAs, IsSegmentAt}
+use Rattle.m51_graph.specs.Graph as graph
 
 -- Units, the segments that they are, and roots.
 
@@ -104,14 +104,20 @@ module _ (segments : List JoinedSegment) where
       rw (units_are 0 segments)
       (map_in pick_number picks (k, j) (filter_in is_unit _ (k, j) (number_at segments k j at) code))
 
-  -- the numbers of units rise
-  pub units_rise : (u v n m : ℕ) → u < v → slice_get (units_of segments) u ≡ Some n
-      → slice_get (units_of segments) v ≡ Some m → n < m
-  units_rise u v n m less h k =
+  -- two units of one number are one
+  pub units_once : (u v n m : ℕ) → n ≡ m → slice_get (units_of segments) u ≡ Some n
+      → slice_get (units_of segments) v ≡ Some m → u ≡ v
+  units_once u v n m same h k =
       let a = map_at pick_number picks u n (rw (units_are 0 segments) at h) in
       let b = map_at pick_number picks v m (rw (units_are 0 segments) at k) in
       let rise = pairs_filter _ is_unit (with_numbers 0 segments) (numbers_rise segments) in
-      omega (arith, pairs_at _ picks u v a.0 b.0 rise less a.1 b.1, a.2, b.2)
+      elim (cases_order u v) [
+        | inl e ↦ e
+        | inr rest ↦ absurd (elim rest [
+          | inl less ↦ omega (arith, pairs_at _ picks u v a.0 b.0 rise less a.1 b.1, a.2, b.2, same)
+          | inr less ↦ omega (arith, pairs_at _ picks v u b.0 a.0 rise less b.1 a.1, a.2, b.2, same)
+        ])
+      ]
 
 -- roots among segments of program memory
 pub root_there : (codes : List JoinedSegment) (unit : ℕ) (j : JoinedSegment) → slice_get codes unit ≡ Some j
@@ -158,36 +164,31 @@ is_root_at j vector abs base h =
 plain_conflict : (g : GraphParts) (n m : ℕ) → n ≢ m → own_at g n ≡ None → in_conflict g n m ≡ true
 plain_conflict g n m ne plain = rw (ne_eqb n m ne, plain)
 
-module _ (g : GraphParts) (modules : List ModuleParts) (controls : List (ℕ × Control)) (segments : List JoinedSegment)
-    (is : IsOf segments controls g) (joined : All IsJoined segments)
-    (shares : shared_extents (fixed_of modules controls segments) ≡ None) where
-  abbrev fixed : List Numbered
-  fixed = fixed_of modules controls segments
-
+module _ (c : Program) (shares : shared_extents (fixed c) ≡ None) where
   -- a root, as a fixed extent that covers its vector
   record IsFixedRoot (vector unit : ℕ) : Type 0 where
     n : ℕ
     j : JoinedSegment
-    number : slice_get (units_of segments) unit ≡ Some n
-    plain : own_at g n ≡ None
-    there : In (absolute n j) fixed
+    number : slice_get (units_of (segments c)) unit ≡ Some n
+    plain : own_at c.g n ≡ None
+    there : In (absolute n j) (fixed c)
     covers : Covers (extent_at (absolute n j).placed) (code_cell vector)
 
-  fixed_root : (vector unit : ℕ) → graph.IsRootAt g vector unit → IsFixedRoot vector unit
+  fixed_root : (vector unit : ℕ) → graph.IsRootAt c.g vector unit → IsFixedRoot vector unit
   fixed_root vector unit h =
-      let root = root_found (code_segments segments) vector unit (in_contains _ _ (rw is.roots at h)) in
-      let at = unit_of_code segments unit root.j root.segment in
+      let root = root_found (code_segments (segments c)) vector unit (in_contains _ _ (rw (shape c).roots at h)) in
+      let at = unit_of_code (segments c) unit root.j root.segment in
       let abs = root_absolute root.j root.root in
-      let some : 0 < root.j.size = (joined_at IsJoined segments at.0 root.j joined at.1.segment).some abs in
+      let some : 0 < root.j.size = (joined_at c at.0 root.j at.1.segment).some abs in
       record {
         n = at.0;
         j = root.j;
         number = at.1.unit_is;
-        plain = bare_absolute segments controls g is joined at.0 root.j at.1.segment abs;
+        plain = bare_absolute c at.0 root.j at.1.segment abs;
         there =
-            in_right (banks_of modules ++ reserves_of controls) (absolutes_from 0 segments) _
-            (rw (absolutes_are 0 segments) (map_in absolute_at _ (at.0, root.j)
-            (filter_in is_fixed _ (at.0, root.j) (number_at segments at.0 root.j at.1.segment) abs)));
+            in_right (banks_of c.modules ++ reserves_of c.controls) (absolutes_from 0 (segments c)) _
+            (rw (absolutes_are 0 (segments c)) (map_in absolute_at _ (at.0, root.j)
+            (filter_in is_fixed _ (at.0, root.j) (number_at (segments c) at.0 root.j at.1.segment) abs)));
         covers = rw (code_is root.j.kind at.1.code)
             (record { space = refl; from = omega (arith, root.base); below = omega (arith, root.base, some) });
       }
@@ -195,60 +196,58 @@ module _ (g : GraphParts) (modules : List ModuleParts) (controls : List (ℕ × 
   -- two at one vector have one number
   one_number : (vector a b : ℕ) (one : IsFixedRoot vector a) (two : IsFixedRoot vector b) → one.n ≢ two.n → ⊥
   one_number vector a b one two ne =
-      elim (pairs_in (KeepApart g) fixed _ _ (fixed_apart g fixed [] tt shares) one.there two.there) [
+      elim (pairs_in (KeepApart c.g) (fixed c) _ _ (fixed_pairs c shares) one.there two.there) [
         | inl same ↦ ne (same_Some one.n two.n (ap (λ (x : Numbered). x.number) same))
         | inr pair ↦ elim pair [
-          | inl keep ↦ keep.none (plain_conflict g one.n two.n ne one.plain) (_, one.covers, two.covers)
-          | inr keep ↦ keep.none (plain_conflict g two.n one.n (λ e. ne (sym e)) two.plain) (_, two.covers, one.covers)
+          | inl keep ↦ keep.none (plain_conflict c.g one.n two.n ne one.plain) (_, one.covers, two.covers)
+          | inr keep ↦ keep.none (plain_conflict c.g two.n one.n (λ e. ne (sym e)) two.plain)
+              (_, two.covers, one.covers)
         ]
       ]
 
-  pub one_root_each : (vector a b : ℕ) → graph.IsRootAt g vector a → graph.IsRootAt g vector b → a ≡ b
+  pub one_root_each : (vector a b : ℕ) → graph.IsRootAt c.g vector a → graph.IsRootAt c.g vector b → a ≡ b
   one_root_each vector a b h h' =
       let one = fixed_root vector a h in
       let two = fixed_root vector b h' in
-      elim (cases_order a b) [
-        | inl same ↦ same
-        | inr rest ↦ absurd (one_number vector a b one two (λ e. elim rest [
-          | inl less ↦ omega (arith, units_rise segments a b one.n two.n less one.number two.number, e)
-          | inr less ↦ omega (arith, units_rise segments b a two.n one.n less two.number one.number, e)
-        ]))
+      elim (cases_eq one.n two.n) [
+        | inl same ↦ units_once (segments c) a b one.n two.n same one.number two.number
+        | inr ne ↦ absurd (one_number vector a b one two ne)
       ]
 
 -- The layout of what was placed is sound.
 
 -- the owners of an index are those of the extent there
-owners_head : (index : ℕ) (owners : List ℕ) (more : List (ℕ × ℕ))
-    → owners_of (pairs_with index owners ++ more) index ≡ owners ++ owners_of more index
-owners_head index [] more = refl
-owners_head index (u ∷ us) more = rw (eq-eqb index index refl)
-    (ap (λ (xs : List ℕ). u ∷ xs) (owners_head index us more))
+owners_one : (index s : ℕ) (owners : List ℕ) (more : List (ℕ × ℕ))
+    → owners_of (pairs_with index owners ++ more) s ≡ cond (nat_eq index s) owners [] ++ owners_of more s
+owners_one index s [] more = grind arith
+owners_one index s (u ∷ us) more = grind (arith, owners_one index s us more)
 
 owners_skip : (index s : ℕ) (owners : List ℕ) (more : List (ℕ × ℕ)) → index ≢ s
     → owners_of (pairs_with index owners ++ more) s ≡ owners_of more s
-owners_skip index s [] more ne = refl
-owners_skip index s (u ∷ us) more ne = rw (ne_eqb index s ne) (owners_skip index s us more ne)
+owners_skip index s owners more ne = rw (owners_one, ne_eqb index s ne)
 
 owners_before : (g : GraphParts) (first : ℕ) (es : List Numbered) (s : ℕ) → s < first
     → owners_of (owner_pairs g first es) s ≡ []
 owners_before g first [] s less = refl
 owners_before g first (e ∷ es) s less =
-    owners_skip first s (owners_of_extent g e) (owner_pairs g (first + 1) es) (omega (arith, less))
-    ∙ owners_before g (first + 1) es s (omega (arith, less))
+    rw (owners_skip first s (owners_of_extent g e) _ (omega (arith, less)))
+    (owners_before g (first + 1) es s (omega (arith, less)))
 
 owners_there : (g : GraphParts) (first : ℕ) (es : List Numbered) (k : ℕ)
     → owners_of (owner_pairs g first es) (first + k) ≡ option_map_or (owners_of_extent g) (slice_get es k) []
 owners_there g first [] k = refl
 owners_there g first (e ∷ es) zero =
     let sum : first + 0 ≡ first = omega arith in
-    let more : List (ℕ × ℕ) = owner_pairs g (first + 1) es in
-    rw sum (owners_head first (owners_of_extent g e) more
-    ∙ ap (λ (us : List ℕ). owners_of_extent g e ++ us) (owners_before g (first + 1) es first (omega arith))
-    ∙ append-nil (owners_of_extent g e))
+    rw (
+      sum,
+      owners_one first first (owners_of_extent g e) _,
+      eq-eqb first first refl,
+      owners_before g (first + 1) es first (omega arith),
+      append-nil,
+    )
 owners_there g first (e ∷ es) (suc k) =
     let sum : first + suc k ≡ first + 1 + k = omega arith in
-    rw sum (owners_skip first (first + 1 + k) (owners_of_extent g e) (owner_pairs g (first + 1) es) (omega arith)
-    ∙ owners_there g (first + 1) es k)
+    rw (sum, owners_skip first (first + 1 + k) (owners_of_extent g e) _ (omega arith)) (owners_there g (first + 1) es k)
 
 pub owners_are : (g : GraphParts) (located : List Numbered) (s : ℕ)
     → owners_of (owner_pairs g 0 located) s ≡ option_map_or (owners_of_extent g) (slice_get located s) []
@@ -259,10 +258,6 @@ owner_number : (g : GraphParts) (number : Option ℕ) (unit : ℕ) → Contains 
     → (n : ℕ) × (number ≡ Some n) × Contains (owners_at g n) unit
 owner_number g None unit h = absurd (none_in_empty unit h)
 owner_number g (Some n) unit h = (n, refl, h)
-
-number_of : (number : Option ℕ) → (number ≡ None → ⊥) → (n : ℕ) × (number ≡ Some n)
-number_of None h = absurd (h refl)
-number_of (Some n) h = (n, refl)
 
 -- the callers of a unit rise, and are others
 callers_rise : (g : GraphParts) (unit : ℕ) → Rises (callers_of g unit)
@@ -309,15 +304,12 @@ module _ (segments : List JoinedSegment) (controls : List (ℕ × Control)) (g :
   -- a segment has its number
   numbered : (s : ℕ) (e : Numbered) → IsAt s e → IsSegment e.placed.mark → (n : ℕ) × (e.number ≡ Some n)
       × IsSegmentOf g segments n e.placed
-  numbered s e at segment =
-      let spot = spot_at s e at in
-      let n = number_of e.number (λ none. spot.free none segment) in
-      (n.0, n.1, spot.numbered n.0 n.1)
+  numbered s e at segment = segment_at e (spot_at s e at) segment
 
   same_place : (n s t : ℕ) (e f : Numbered) → IsAt s e → IsAt t f → e.number ≡ Some n → f.number ≡ Some n → s ≡ t
   same_place n s t e f h k p q =
       let of = (spot_at s e h).numbered n p in
-      only located n s t e f (whole.once n (slice_get_within segments n of.j of.is)) h k p q
+      only n located s t e f (omega (arith, whole.once n (slice_get_within segments n of.j of.is))) h k p q
 
   -- where the extent of a joined segment is
   record Entry (n : ℕ) (j : JoinedSegment) : Type 0 where
@@ -430,7 +422,7 @@ module _ (segments : List JoinedSegment) (controls : List (ℕ × Control)) (g :
   overlaid s h =
       let at = stands s h.0 h.1 in
       let mark : at.0.placed.mark ≡ Overlaid = ap (λ (p : Placed). p.mark) at.2 ∙ h.2 in
-      let n = numbered s at.0 at.1 (subst IsSegment (sym mark) tt) in
+      let n = overlaid_at at.0 (spot_at s at.0 at.1) mark in
       let own = n.2.overlaid mark in
       record { n = n.0; own = own.0; owners = owners_are g located s ∙ rw (at.1, n.1, own.1) }
 
@@ -489,16 +481,13 @@ module _ (segments : List JoinedSegment) (controls : List (ℕ × Control)) (g :
       let a = unit_at u s h in
       let b = unit_at v s k in
       let one : a.entry.e ≡ b.entry.e = cc (a.entry.at, b.entry.at, a.place, b.place) in
-      let same : a.n ≡ b.n = cc (a.entry.number, b.entry.number, ap (λ (x : Numbered). x.number) one) in
-      elim (cases_order u v) [
-        | inl e ↦ e
-        | inr rest ↦ elim rest [
-          | inl less ↦ absurd
-              (omega (arith, same, units_rise segments u v a.n b.n less a.at.unit_is b.at.unit_is))
-          | inr less ↦ absurd
-              (omega (arith, same, units_rise segments v u b.n a.n less b.at.unit_is a.at.unit_is))
-        ]
-      ]
+      units_once segments u v a.n b.n (cc (
+        a.entry.number,
+        b.entry.number,
+        ap (λ
+            (x : Numbered). x.number) one,
+      )) a.at.unit_is
+      b.at.unit_is
 
   is_a_unit : (s : ℕ) (p : Placed) → IsPlaced l s p → IsCodeSegment p → Contains l.units s
   is_a_unit s p h code =
@@ -552,9 +541,9 @@ module _ (segments : List JoinedSegment) (controls : List (ℕ × Control)) (g :
 
 module _ (g : GraphParts) (segments : List JoinedSegment) (located : List Numbered)
     (whole : IsWhole g segments located) where
-  segment_at : (number : ℕ) (j : JoinedSegment) → slice_get segments number ≡ Some j
+  placed_as : (number : ℕ) (j : JoinedSegment) → slice_get segments number ≡ Some j
       → IsPlacedAs (parts_of_layout g located) (joined_base located number) j
-  segment_at number j at =
+  placed_as number j at =
       let entry = found g segments located whole number (slice_get_within segments number j at) in
       let there = got_in located (joined_index located number) entry.e entry.at in
       let of = (every_in (IsSpot g segments) located entry.e whole.spots there).numbered number entry.number in
@@ -579,5 +568,5 @@ module _ (g : GraphParts) (segments : List JoinedSegment) (located : List Number
     each = λ number j at.
         subst (λ (base : ℕ). IsPlacedAs (parts_of_layout g located) base j)
         (sym (get_or-map-range_with_len (joined_base located) 0 (length segments) number number 0
-        (slice_get_within segments number j at) (omega arith))) (segment_at number j at);
+        (slice_get_within segments number j at) (omega arith))) (placed_as number j at);
   }

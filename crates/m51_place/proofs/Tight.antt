@@ -1,36 +1,35 @@
 -- The weight of a graph and of its layouts, and how few bytes placing covers.
-use Rattle.m51_place.proofs.Common.{◌≡◌, ◌≢◌, inl, inr, ℕ, ◌+◌, ◌-◌, ◌<◌, ◌≤◌, true, false, Bool, cond, nat_eq, List}
-use Rattle.m51_place.proofs.Common.{[], ◌∷◌, ◌++◌, map, Option, Some, None, Ok, refl, sym, ap, ◌∙◌, arith, slice_get}
-use Rattle.m51_place.proofs.Common.{AllZip, Control, AreKept, Chain, Overlaid, Owners, AreRelated, vectors}
-use Rattle.m51_place.proofs.Common.{JoinedSegment, segments_of, GraphParts, IsGraph, joined_graph, All, IsValid}
-use Rattle.m51_place.proofs.Common.{ModuleParts, graph_of, Numbered, Ranked, fixed_of, nat_lt, shared_extents, order_of}
-use Rattle.m51_place.proofs.Common.{own_at, AreOneRun, before_overlaid, bytes_joined, IsWeightOf, overlaid_in}
-use Rattle.m51_place.proofs.Common.{OverlaysData, unit_weight, before_by, class_number, comes_before, group_number}
-use Rattle.m51_place.proofs.Common.{is_some, located_at, place_after, Result, Err, subst, suc, owners_of, option_map_or}
-use Rattle.m51_place.proofs.Common.{Refusal, LayoutParts, Placed, ChainsFrom, weight_of, layout_graph, AreResolved}
-use Rattle.m51_place.proofs.Common.{ProgramGraph, Placing, bytes_passing, is_argument_at, owners_at, owners_with}
-use Rattle.m51_place.proofs.Common.{located_of, parts_of_layout, list_any, and_parts, none-some, IsSegment, covers_byte}
-use Rattle.m51_place.proofs.Common.{zero, Kind, Direct, Reloc, UnitType, Mark, is_overlaid_data}
+use Rattle.m51_place.proofs.Common.{◌≡◌, ◌≢◌, inl, inr, ℕ, ◌+◌, ◌-◌, ◌<◌, ◌≤◌, true, Bool, cond, nat_eq, List, [], ◌∷◌}
+use Rattle.m51_place.proofs.Common.{◌++◌, map, Option, Some, None, Ok, refl, sym, ap, ◌∙◌, arith, slice_get, Chain}
+use Rattle.m51_place.proofs.Common.{Overlaid, Owners, AreRelated, vectors, JoinedSegment, segments_of, GraphParts}
+use Rattle.m51_place.proofs.Common.{IsGraph, joined_graph, Numbered, Ranked, nat_lt, shared_extents, own_at}
+use Rattle.m51_place.proofs.Common.{before_overlaid, bytes_joined, IsWeightOf, overlaid_in, OverlaysData, unit_weight}
+use Rattle.m51_place.proofs.Common.{before_by, class_number, comes_before, group_number, is_some, located_at}
+use Rattle.m51_place.proofs.Common.{place_after, Result, Err, subst, suc, owners_of, option_map_or, Refusal}
+use Rattle.m51_place.proofs.Common.{LayoutParts, Placed, ChainsFrom, weight_of, layout_graph, AreResolved, ProgramGraph}
+use Rattle.m51_place.proofs.Common.{Placing, bytes_passing, owners_at, located_of, parts_of_layout, list_any, and_parts}
+use Rattle.m51_place.proofs.Common.{none-some, covers_byte, zero, Kind, Direct, Reloc, UnitType, Mark, is_overlaid_data}
 use Rattle.m51_place.proofs.Numbering.{at_number, with_numbers}
 use Rattle.std.proofs.Common.{min}
 use Rattle.std.proofs.lemmas.Bool.Decides.{nat_tests}
 use Rattle.m51_place.specs.declared.ranked.Rank.{Rank}
 use Rattle.m51_place.specs.Order.{first_sort_key, second_sort_key}
-use Rattle.m51_place.proofs.Free.{are_after, AreAfter, conflicts, IsPlacedRanked, KeepApart, zip_every, both_ok}
-use Rattle.m51_place.proofs.Free.{place_append}
+use Rattle.m51_place.proofs.Free.{are_after, AreAfter, at_base, conflicts, KeepApart, later_every, pick_at, pick_in}
+use Rattle.m51_place.proofs.Free.{both_ok, place_append}
 use Rattle.m51_place.proofs.Weights.{AreLocals, has_byte, has_byte_tells, tally_range, weight_bound, bytes, data_byte}
 use Rattle.m51_place.proofs.Weights.{is_data, IsLocal, KeptApart, Local, first_of_list, local_of, locals, passing_is}
 use Rattle.m51_place.proofs.Weights.{weight_is, count_is, least, data_kind}
 use Rattle.m51_place.proofs.Conflicting.{conflict_tells, own_is}
-use Rattle.m51_place.proofs.Piled.{Scene, AreLaid, IsLaid, Piles, piles, AreTops, tops, local_at, located_sum}
+use Rattle.m51_place.proofs.Piled.{Scene, AreLaid, IsLaid, Piles, piles, AreTops, top, tops, local_at, located_sum}
 use Rattle.m51_place.proofs.Piled.{order_sum, own_of, ranked_bytes, order_all, under_all}
-use Rattle.m51_cells.proofs.Members.{Every, every_append, every_both, every_filter, every_map, every_of, every_weaker}
-use Rattle.m51_cells.proofs.Members.{Pairs, pairs_both, pairs_map, pairs_filter, total, total_map, total_sum, every_in}
-use Rattle.m51_cells.proofs.Members.{In, in_cases, in_contains, in_map}
+use Rattle.m51_cells.proofs.Members.{Every, every_append, every_map, every_of, every_weaker, Pairs, pairs_at}
+use Rattle.m51_cells.proofs.Members.{pairs_both, pairs_got, pairs_map, pairs_filter, total, total_map, total_sum}
+use Rattle.m51_cells.proofs.Members.{every_in, got_in, In, in_cases, in_contains, in_filter, in_map}
 use Rattle.m51_place.proofs.SoundLayout.{one_root_each, lies_in, lies_out, owners_are, root_in, root_out, sound}
-use Rattle.m51_place.proofs.Ordered.{AreParts, no_root, order_parts, lone_before}
-use Rattle.m51_place.proofs.Ranks.{IsRankedOf, order_ranked, Earlier, order_rises, all_joined, graph_is, IsJoined, IsOf}
-use Rattle.m51_place.proofs.Whole.{bare_absolute, fixed_apart, fixed_bare, IsWhole, placed_whole, unless_none, IsSpot}
+use Rattle.m51_place.proofs.Ordered.{AreParts, IsPlain, no_root, order_parts, lone_before}
+use Rattle.m51_place.proofs.Ranks.{IsRankedOf, Earlier, order, order_rises, Program, ranked, segments, shape}
+use Rattle.m51_place.proofs.Whole.{bare_absolute, fixed, fixed_bare, fixed_pairs, overlaid_at, IsWhole, placed_whole}
+use Rattle.m51_place.proofs.Whole.{unless_none, IsSpot}
 use Rattle.std.specs.Prelude.{◌↔◌}
 use Rattle.m51_module.specs.Chains.{IsHeaviestWalk}
 use Rattle.m51_place.specs.Bound.{IsWeight, count_below, covered_bytes, overlaid_bytes, overlays_byte}
@@ -42,47 +41,6 @@ use Rattle.m51_graph.proofs.Climbing.{tally_mono}
 -- Placing valid modules over their graph, as far as the overlaid segments: what they are placed over, and what that
 -- answers.
 
--- valid modules, control lines and their graph
-pub record Program : Type 0 where
-  pub modules : List ModuleParts
-  pub controls : List (ℕ × Control)
-  pub g : GraphParts
-  pub valid : All IsValid modules
-  pub kept : AreKept controls
-  pub is : IsGraph g
-  pub of : graph_of modules controls ≡ Ok g
-
-module _ (c : Program) where
-  abbrev pub segments : List JoinedSegment
-  segments = segments_of c.modules
-
-  abbrev pub fixed : List Numbered
-  fixed = fixed_of c.modules c.controls segments
-
-  abbrev pub order : List Ranked
-  order = order_of c.g c.controls segments
-
-  pub shape : IsOf segments c.controls c.g
-  shape = graph_is c.modules c.controls c.g c.of
-
-  pub joined : All IsJoined segments
-  joined = all_joined c.modules c.valid
-
-  pub ranked : Every (IsRankedOf c.g c.controls segments) order
-  ranked = order_ranked c.g c.controls segments
-
-  pub bare : Every (λ e. own_of c.g e ≡ None) fixed
-  bare = fixed_bare c.g c.modules c.controls segments shape joined c.kept.each
-
-  -- the overlaid segments of the order have the bytes of the joined segments
-  pub order_bytes : (test : ℕ → Bool) → total (ranked_bytes c.g test) (overlaid_in order)
-      ≡ bytes_joined c.g test 0 segments
-  order_bytes test =
-      order_sum c.g test segments c.controls (bare_absolute segments c.controls c.g shape joined) ranked
-
-  pub apart : shared_extents fixed ≡ None → Pairs (KeepApart c.g) fixed
-  apart shares = fixed_apart c.g fixed [] tt shares
-
 -- ranked segments of one number are one, which does not come before itself
 all_same : (a b c d n : ℕ) → before_by a a (before_by b b (before_by c c (before_by d d (nat_lt n n)))) ≡ true → ⊥
 all_same a b c d n h = grind (arith, nat_tests)
@@ -91,100 +49,91 @@ not_before : (r : Rank) → comes_before r r ≡ true → ⊥
 not_before r h =
     all_same (class_number r.class) (group_number r.group) (first_sort_key r.group) (second_sort_key r.group) r.number h
 
-pub differ : (g : GraphParts) (controls : List (ℕ × Control)) (segments : List JoinedSegment) (t u : Ranked)
-    → IsRankedOf g controls segments t → IsRankedOf g controls segments u → Earlier t u → t.number ≢ u.number
-differ g controls segments t u a b earlier same =
+differ : (c : Program) (t u : Ranked) → IsRankedOf c.g c.controls (segments c) t
+    → IsRankedOf c.g c.controls (segments c) u → Earlier t u → t.number ≢ u.number
+differ c t u a b earlier same =
     let segment : t.segment ≡ u.segment = cc (a.segment, b.segment, same) in
     let rank : t.rank ≡ u.rank = cc (a.rank, b.rank, a.own, b.own, segment, same) in
     not_before u.rank (rw rank at earlier)
-
-zip_pairs : (R : Ranked → Ranked → Type 0) (S : Numbered → Numbered → Type 0) (ts : List Ranked)
-    (later : List Numbered)
-    → ((t u : Ranked) (e f : Numbered) → IsPlacedRanked t e → IsPlacedRanked u f → R t u → S e f)
-    → AllZip IsPlacedRanked ts later → Pairs R ts → Pairs S later
-zip_pairs R S [] [] f h all = tt
-zip_pairs R S [] (e ∷ later) f h all = absurd h
-zip_pairs R S (t ∷ ts) [] f h all = absurd h
-zip_pairs R S (t ∷ ts) (e ∷ later) f h all = (
-  zip_every (R t) (S e) ts later (λ u x is r. f t u e x h.0 is r) h.1 all.0,
-  zip_pairs R S ts later f h.1 all.1,
-)
 
 -- What the overlaid segments of an order are placed over: extents that are placed before them and leave one run, and
 -- the weight of the graph.
 pub record Setting : Type 0 where
   pub c : Program
+  pub is : IsGraph c.g
   pub low : ℕ
   pub high : ℕ
   pub weight : ℕ
   pub shares : shared_extents (fixed c) ≡ None
   pub data_only : OverlaysData (segments c) c.g
-  pub front : List Numbered
-  pub front_is : place_after c.g (fixed c) (before_overlaid (order c)) ≡ Ok front
-  pub run : AreOneRun front low high
+  pub finds : FindsRun c.g (fixed c) (order c) low high
   pub weighed : IsWeightOf (segments c) c.g weight
 
 module _ (t : Setting) where
   pub all_parts : AreParts t.c.g (order t.c)
   all_parts = order_parts t.c.g t.c.controls (segments t.c) t.data_only
 
-  before : AreAfter t.c.g (fixed t.c) (before_overlaid (order t.c)) t.front
-  before = are_after t.c.g (before_overlaid (order t.c)) (fixed t.c) t.front (apart t.c t.shares) t.front_is
+  before : AreAfter t.c.g (fixed t.c) (before_overlaid (order t.c)) t.finds.extents
+  before = are_after t.c.g (before_overlaid (order t.c)) (fixed t.c) t.finds.extents
+      (fixed_pairs t.c t.shares) t.finds.placed
 
   -- the extents placed before the overlaid segments are plain
-  pub plain : Every (λ e. own_of t.c.g e ≡ None) t.front
-  plain = rw before.are (every_append _ (fixed t.c) before.later (bare t.c)
-      (zip_every _ _ (before_overlaid (order t.c)) before.later (λ u e is lone. rw is.is lone) before.each
+  pub plain : Every (λ e. own_of t.c.g e ≡ None) t.finds.extents
+  plain = rw before.are (every_append _ (fixed t.c) _ (fixed_bare t.c) (later_every before _ _
+      (λ u base room lone. lone)
       (lone_before t.c.g t.c.controls (segments t.c) (order t.c) (ranked t.c))))
 
   pub heights : AreTops (joined_graph t.c.g) (unit_weight (segments t.c) t.c.g) vectors
       (total (λ (x : Chain). x.bytes) t.weighed.chains)
   heights =
       tops (joined_graph t.c.g) (unit_weight (segments t.c) t.c.g)
-      (one_root_each t.c.g t.c.modules t.c.controls (segments t.c) (shape t.c) (joined t.c) t.shares)
-      vectors t.weighed.chains
-      t.weighed.heaviest
+      (one_root_each t.c t.shares) vectors t.weighed.chains t.weighed.heaviest
 
   abbrev pub scene : Scene
   scene = record {
     g = t.c.g;
-    kept = t.c.is;
+    kept = t.is;
     w = unit_weight (segments t.c) t.c.g;
-    top = heights.top;
-    rises = heights.rises;
+    adds = heights.adds;
     holds = heights.holds;
     free = t.weighed.free;
-    is_free = λ unit end. (t.weighed.tells unit).1 (no_root t.c.g t.c.is unit end);
+    is_free = λ unit end. (t.weighed.tells unit).1 (no_root t.c.g t.is unit end);
     low = t.low;
     high = t.high;
-    front = t.front;
-    run = t.run;
+    front = t.finds.extents;
+    run = t.finds.run;
     plain = plain;
   }
 
   abbrev pub unrooted : ℕ
   unrooted = bytes_joined t.c.g t.weighed.free 0 (segments t.c)
 
-  pub weighs : heights.top 7 + unrooted ≡ t.weight
+  pub weighs : top scene 7 + unrooted ≡ t.weight
   weighs = omega (arith, heights.last, t.weighed.is, total_sum (λ (x : Chain). x.bytes) t.weighed.chains)
 
   pub pairs : Pairs Earlier (overlaid_in (order t.c))
   pairs = pairs_filter Earlier (λ (u : Ranked). is_some u.own) (order t.c)
       (order_rises t.c.g t.c.controls (segments t.c))
 
+  -- they have the bytes of the joined segments
+  order_bytes : (test : ℕ → Bool) → total (ranked_bytes t.c.g test) (overlaid_in (order t.c))
+      ≡ bytes_joined t.c.g test 0 (segments t.c)
+  order_bytes test = order_sum t.c.g test (segments t.c) t.c.controls (bare_absolute t.c) (ranked t.c)
+
   -- they are all laid, or the run is too short
-  pub answer : Piles scene unrooted (place_after t.c.g t.front (overlaid_in (order t.c)))
+  pub answer : Piles scene unrooted (place_after t.c.g t.finds.extents (overlaid_in (order t.c)))
   answer =
       piles scene (overlaid_in (order t.c)) unrooted all_parts.locals pairs
-      (λ u. omega (arith, order_bytes t.c (nat_eq u))) (omega (arith, order_bytes t.c t.weighed.free))
+      (λ u. omega (arith, order_bytes (nat_eq u))) (omega (arith, order_bytes t.weighed.free))
 
-  module _ (located : List Numbered) (located_is : place_after t.c.g t.front (overlaid_in (order t.c)) ≡ Ok located)
+  module _ (located : List Numbered) (located_is : place_after t.c.g t.finds.extents (overlaid_in
+      (order t.c)) ≡ Ok located)
     where
       pub laid : AreLaid scene unrooted located
       laid = rw located_is at answer
 
-      after : AreAfter t.c.g t.front (overlaid_in (order t.c)) located
-      after = are_after t.c.g (overlaid_in (order t.c)) t.front located before.apart located_is
+      after : AreAfter t.c.g t.finds.extents (overlaid_in (order t.c)) located
+      after = are_after t.c.g (overlaid_in (order t.c)) t.finds.extents located before.apart located_is
 
       abbrev xs : List Local
       xs = map (local_at t.c.g) located
@@ -194,14 +143,15 @@ module _ (t : Setting) where
           omega (
             arith,
             total_map (bytes test) (local_at t.c.g) located,
-            located_sum t.c.g test t.front located (overlaid_in (order t.c)) plain after,
-            order_bytes t.c test,
+            located_sum t.c.g test plain after,
+            order_bytes test,
           )
 
       -- the extents before the overlaid segments, and these
       each_located : (P : Numbered → Type 0) → ((e : Numbered) → own_of t.c.g e ≡ None → P e)
           → ((e : Numbered) → IsLaid scene laid.done [] e → P e) → Every P located
-      each_located P bare lies = rw laid.are (every_append P t.front laid.done (every_weaker _ P t.front bare plain)
+      each_located P bare lies = rw laid.are (every_append P t.finds.extents laid.done
+          (every_weaker _ P t.finds.extents bare plain)
           (every_weaker _ P laid.done lies laid.laid))
 
       -- each of them lies in the run
@@ -212,14 +162,13 @@ module _ (t : Setting) where
             one_root = λ u a b own. absurd (cc (none, own));
           }) (λ e l. rw l.is (record {
             ends = λ u own some. ends l.base l.t.segment.size (is_data (located_at l.t l.base).placed) l.till some;
-            one_root = λ u a b own. t.c.is.one_root l.t.number u a b
+            one_root = λ u a b own. t.is.one_root l.t.number u a b
                 (record { own = u; own_is = own_is t.c.g l.t.number u own; owner = inl refl });
           }))
         where
           ends : (base size : ℕ) (d : Bool) → (0 < size → base + size ≤ t.high) → 0 < cond d size 0
               → base + cond d size 0 ≤ 256
-          ends base size true till some = omega (arith, till some, t.run.most)
-          ends base size false till some = absurd (omega (arith, some))
+          ends base size d till some = grind (arith, till, t.finds.run.most)
 
       met : Every (λ e. (byte o : ℕ) → own_of t.c.g e ≡ Some o
           → has_byte e.placed.base (cond (is_data e.placed) e.placed.size 0) byte ≡ true
@@ -231,30 +180,26 @@ module _ (t : Setting) where
           let from = l.from some in
           let till = l.till some in
           (has_byte_tells t.low (t.high - t.low) byte).1
-          (omega (arith, from, inside.2), omega (arith, till, inside.3, t.run.order))))
+          (omega (arith, from, inside.2), omega (arith, till, inside.3, t.finds.run.order))))
 
       -- two of related owners share no byte
       abbrev Against : Numbered → Numbered → Type 0
       Against e f = (a b : ℕ) → own_of t.c.g e ≡ Some a → own_of t.c.g f ≡ Some b → AreRelated (joined_graph t.c.g) a b
           → conflicts t.c.g e f ≡ true
 
-      different : Pairs Against after.later
-      different =
-          zip_pairs _ _ (overlaid_in (order t.c)) after.later
-          (λ r u e f is is' other. rw (is.is, is'.is) (λ a b own own' related.
-          (conflict_tells t.c.g t.c.is.units r.number u.number other).1
-          (Owners a b (record { own = a; own_is = own_is t.c.g r.number a own; owner = inl refl })
-          (record { own = b; own_is = own_is t.c.g u.number b own'; owner = inl refl }) related))) after.each
-          (numbers (overlaid_in (order t.c)) (every_filter _ (λ (u : Ranked). is_some u.own) (order t.c) (ranked t.c))
-          pairs)
+      different : Pairs Against (map at_base after.picks)
+      different = pairs_map at_base Against after.picks (pairs_got _ after.picks
+          (λ i j p q less at at' a b own own' related.
+          (conflict_tells t.c.g t.is.units p.0.number q.0.number (differ t.c p.0 q.0 (of p (got_in _ i p at))
+          (of q (got_in _ j q at'))
+          (pairs_at Earlier (overlaid_in (order t.c)) i j p.0 q.0 pairs less (pick_at after i p at)
+          (pick_at after j q at')))).1
+          (Owners a b (record { own = a; own_is = own_is t.c.g p.0.number a own; owner = inl refl })
+          (record { own = b; own_is = own_is t.c.g q.0.number b own'; owner = inl refl }) related)))
         where
-          numbers : (rs : List Ranked) → Every (IsRankedOf t.c.g t.c.controls (segments t.c)) rs → Pairs Earlier rs
-              → Pairs (λ (r u : Ranked). r.number ≢ u.number) rs
-          numbers [] all rising = tt
-          numbers (r ∷ rs) all rising = (
-            every_both _ _ _ rs (λ u a e. differ t.c.g t.c.controls (segments t.c) r u all.0 a e) all.1 rising.0,
-            numbers rs all.1 rising.1,
-          )
+          of : (p : Ranked × ℕ) → In p after.picks → IsRankedOf t.c.g t.c.controls (segments t.c) p.0
+          of p i = every_in _ (order t.c) p.0 (ranked t.c)
+              (in_filter (λ (u : Ranked). is_some u.own) (order t.c) p.0 (pick_in after p i)).0
 
       apart_locals : Pairs (λ e f. KeptApart (joined_graph t.c.g) (local_at t.c.g e) (local_at t.c.g f)) located
       apart_locals =
@@ -264,13 +209,13 @@ module _ (t : Setting) where
             none = λ a b byte own own' related has has'.
                 keep.none (other a b own own' related)
                 (_, (data_byte e.placed byte has).4, (data_byte f.placed byte has').4);
-          }) after.apart (rw after.are (plain_pairs t.front plain))
+          }) after.apart (rw after.are (plain_pairs t.finds.extents plain))
         where
           plain_pairs : (es : List Numbered) → Every (λ e. own_of t.c.g e ≡ None) es
-              → Pairs Against (es ++ after.later)
+              → Pairs Against (es ++ map at_base after.picks)
           plain_pairs [] none = different
           plain_pairs (e ∷ es) none = (
-            every_of _ (es ++ after.later) (λ f there a b own. absurd (cc (none.0, own))),
+            every_of _ (es ++ map at_base after.picks) (λ f there a b own. absurd (cc (none.0, own))),
             plain_pairs es none.1,
           )
 
@@ -284,11 +229,11 @@ module _ (t : Setting) where
           weight_bound (joined_graph t.c.g) xs (unit_weight (segments t.c) t.c.g) t.weighed.chains t.weighed.free
           (has_byte t.low (t.high - t.low))
           items
-          t.c.is.no_cycle (λ u. sym (all_sum (nat_eq u))) t.weighed.heaviest
+          t.is.no_cycle (λ u. sym (all_sum (nat_eq u))) t.weighed.heaviest
           (λ unit is_free. (t.weighed.tells unit).0 is_free)
           (every_map _ _ located met) in
           in_run _ _ _ _ _ _ _ t.weighed.is most (all_sum t.weighed.free) (tally_range t.low (t.high - t.low) 256)
-          t.run.order
+          t.finds.run.order
         where
           in_run : (bytes free free' met low high weight : ℕ) → weight ≡ bytes + free' → bytes + free ≤ met
               → free ≡ free' → met ≡ min 256 (low + (high - low)) - min 256 low → low ≤ high → low + weight ≤ high
@@ -309,14 +254,9 @@ of_located g count (Ok located) p h = record { located = located; is = refl; pla
 of_located g count (Err refusal) p h = absurd (cc h)
 
 -- the first owner of an extent is its own unit
-first_with : (g : GraphParts) (argument : Bool) (own : Option ℕ) → first_of_list (owners_with g argument own) ≡ own
-first_with g argument None = refl
-first_with g argument (Some own) = refl
-
 first_is_own : (g : GraphParts) (number : Option ℕ)
     → first_of_list (option_map_or (owners_at g) number []) ≡ option_map_or (own_at g) number None
-first_is_own g None = refl
-first_is_own g (Some n) = first_with g (is_argument_at g n) (own_at g n)
+first_is_own g number = grind arith
 
 -- the segments of the layout are the extents
 locals_are : (g : GraphParts) (located : List Numbered) (number : ℕ) (rest : List Numbered)
@@ -342,7 +282,7 @@ chains_there p q w heavy there back (v ∷ more) (c ∷ chains) (inl h) =
 chains_there p q w heavy there back (v ∷ more) (c ∷ chains) (inr h) =
     inr (there v c.root h.0, heavy c h.1, chains_there p q w heavy there back more chains h.2)
 
-module _ (c : Program) (resolved : AreResolved c.modules) (located : List Numbered)
+module _ (c : Program) (is : IsGraph c.g) (resolved : AreResolved c.modules) (located : List Numbered)
     (located_is : located_of c.modules c.controls c.g ≡ Ok located) where
   abbrev pub layout : LayoutParts
   layout = parts_of_layout c.g located
@@ -355,25 +295,22 @@ module _ (c : Program) (resolved : AreResolved c.modules) (located : List Number
 
   passing_joined : (test : ℕ → Bool) → bytes_passing layout test 0 layout.placed ≡ bytes_joined c.g test 0 (segments c)
   passing_joined test =
-      let after = are_after c.g (order c) (fixed c) located (apart c rules.0) rules.1 in
+      let after = are_after c.g (order c) (fixed c) located (fixed_pairs c rules.0) rules.1 in
       let same = locals_are c.g located 0 located (every_of _ _ (at_number located)) in
       omega (
         arith,
         passing_is layout test 0 layout.placed,
         ap (λ (xs : List Local). total (bytes test) xs) same,
         total_map (bytes test) (local_at c.g) located,
-        located_sum c.g test (fixed c) located (order c) (bare c) after,
-        order_all c.g test (segments c) c.controls (bare_absolute (segments c) c.controls c.g (shape c) (joined c)),
+        located_sum c.g test (fixed_bare c) after,
+        order_all c.g test (segments c) c.controls (bare_absolute c),
       )
 
   same_weights : unit_weight (segments c) c.g ≡ weight_of layout
   same_weights = λ i unit. sym (weight_is layout unit 0 layout.placed ∙ passing_joined (nat_eq unit)) i
 
   same_roots : (v u : ℕ) → (layout_graph layout).IsRoot v u ↔ (joined_graph c.g).IsRoot v u
-  same_roots v u = (
-    root_in (segments c) c.controls c.g (shape c) c.is located whole v u,
-    root_out (segments c) c.controls c.g (shape c) c.is located whole v u,
-  )
+  same_roots v u = (root_in _ _ _ (shape c) is _ whole v u, root_out _ _ _ (shape c) is _ whole v u)
 
   pub agree : (weight : ℕ) → IsWeightOf (segments c) c.g weight → IsWeight layout weight
   agree weight h = record {
@@ -385,9 +322,9 @@ module _ (c : Program) (resolved : AreResolved c.modules) (located : List Number
     free = h.free;
     tells = λ unit. (
       λ f vector lies. (h.tells unit).0 f vector
-          (lies_in (segments c) c.controls c.g (shape c) c.is located whole vector unit lies),
+          (lies_in _ _ _ (shape c) is _ whole vector unit lies),
       λ none. (h.tells unit).1 (λ vector lies. none vector
-          (lies_out (segments c) c.controls c.g (shape c) c.is located whole vector unit lies)),
+          (lies_out _ _ _ (shape c) is _ whole vector unit lies)),
     );
     is = rw passing_joined h.is;
   }
@@ -401,9 +338,9 @@ module _ (c : Program) (resolved : AreResolved c.modules) (located : List Number
     free = h.free;
     tells = λ unit. (
       λ f vector lies. (h.tells unit).0 f vector
-          (lies_out (segments c) c.controls c.g (shape c) c.is located whole vector unit lies),
+          (lies_out _ _ _ (shape c) is _ whole vector unit lies),
       λ none. (h.tells unit).1 (λ vector lies. none vector
-          (lies_in (segments c) c.controls c.g (shape c) c.is located whole vector unit lies)),
+          (lies_in _ _ _ (shape c) is _ whole vector unit lies)),
     );
     is = rw passing_joined at h.is;
   }
@@ -411,9 +348,9 @@ module _ (c : Program) (resolved : AreResolved c.modules) (located : List Number
 pub weights_agree : WeightsAgree
 weights_agree modules controls g p weight valid resolved kept is graph_is placed h =
     let c : Program = record
-    { modules = modules; controls = controls; g = g; valid = valid; kept = kept; is = is; of = graph_is } in
+    { modules = modules; controls = controls; g = g; valid = valid; kept = kept; of = graph_is } in
     let of = of_located g _ (located_of modules controls g) p placed in
-    subst (λ (x : Placing). IsWeight x.layout weight) of.placing (agree c resolved of.located of.is weight h)
+    rw (← of.placing) (agree c is resolved of.located of.is weight h)
 
 -- Placing covers by overlaid DATA as few bytes as it can.
 
@@ -428,29 +365,21 @@ in_range_most test base size n h =
       count_is test n,
     )
 
--- an overlaid extent has an own unit
-not_bare : (g : GraphParts) (at : List JoinedSegment) (e : Numbered) (number : Option ℕ) → IsSpot g at e
-    → e.number ≡ number → e.placed.mark ≡ Overlaid → option_map_or (own_at g) number None ≡ None → ⊥
-not_bare g _ e None spot is mark none = spot.free is (subst IsSegment (sym mark) tt)
-not_bare g _ e (Some n) spot is mark none =
-    let own = (spot.numbered n is).overlaid mark in none-some own.0 (sym none ∙ own.1)
-
-module _ (c : Program) (low high weight : ℕ) (resolved : AreResolved c.modules)
+module _ (c : Program) (is : IsGraph c.g) (low high weight : ℕ) (resolved : AreResolved c.modules)
     (data_only : OverlaysData (segments c) c.g) (finds : FindsRun c.g (fixed c) (order c) low high)
     (located : List Numbered) (located_is : located_of c.modules c.controls c.g ≡ Ok located)
-    (h : IsWeight (layout c resolved located located_is) weight) where
+    (h : IsWeight (layout c is resolved located located_is) weight) where
   abbrev t : Setting
   t = record {
     c = c;
+    is = is;
     low = low;
     high = high;
     weight = weight;
-    shares = (rules c resolved located located_is).0;
+    shares = (rules c is resolved located located_is).0;
     data_only = data_only;
-    front = finds.extents;
-    front_is = finds.placed;
-    run = finds.run;
-    weighed = back c resolved located located_is weight h;
+    finds = finds;
+    weighed = back c is resolved located located_is weight h;
   }
 
   -- what is placed up to the last overlaid segment, and the rest
@@ -460,7 +389,7 @@ module _ (c : Program) (low high weight : ℕ) (resolved : AreResolved c.modules
   middle : (es : List Numbered) × (place_after c.g finds.extents (overlaid_in (order c)) ≡ Ok es)
       × (place_after c.g es parts.rest ≡ Ok located)
   middle =
-      let whole = rw parts.are at (rules c resolved located located_is).1 in
+      let whole = rw parts.are at (rules c is resolved located located_is).1 in
       let later = rw finds.placed at (rw place_append at whole) in
       both_ok (place_after c.g finds.extents (overlaid_in (order c))) (λ es. place_after c.g es parts.rest) located
       (rw place_append at later)
@@ -490,17 +419,17 @@ module _ (c : Program) (low high weight : ℕ) (resolved : AreResolved c.modules
 
   bare_out : (e : Numbered) → In e located → e.placed.mark ≡ Overlaid → own_of c.g e ≡ None → ⊥
   bare_out e there mark none =
-      not_bare c.g (segments c) e e.number
-      (every_in (IsSpot c.g (segments c)) located e (whole c resolved located located_is).spots there) refl mark none
+      let spots = (whole c is resolved located located_is).spots in
+      let of = overlaid_at e (every_in (IsSpot c.g (segments c)) located e spots there) mark in
+      none-some _ (sym (rw of.1 at none) ∙ (of.2.overlaid mark).1)
 
   -- the extents before the overlaid segments, these, and plain ones
   sides : (e : Numbered) (byte : ℕ) → In e located → e.placed.mark ≡ Overlaid
       → has_byte e.placed.base e.placed.size byte ≡ true → IsIn byte
-  sides e byte there mark has = elim (in_cases middle.0 rest.later e (rw rest.are at there)) [
+  sides e byte there mark has = elim (in_cases middle.0 (map at_base rest.picks) e (rw rest.are at there)) [
     | inr other ↦ absurd (bare_out e there mark
-        (every_in (λ e. own_of c.g e ≡ None) rest.later e
-        (zip_every (λ u. own_at c.g u.number ≡ None) (λ e. own_of c.g e ≡ None) parts.rest rest.later
-        (λ u e is lone. rw is.is lone) rest.each parts.after) other))
+        (every_in (λ e. own_of c.g e ≡ None) _ e
+        (later_every rest (IsPlain c.g) (λ e. own_of c.g e ≡ None) (λ u base room lone. lone) parts.after) other))
     | inl first ↦ elim (in_cases finds.extents done.done e (rw done.are at first)) [
       | inl front ↦ absurd (bare_out e there mark (every_in (λ e. own_of c.g e ≡ None) finds.extents e (plain t) front))
       | inr in_done ↦ laid_in e byte (every_in (IsLaid (scene t) done.done []) done.done e done.laid in_done) has
@@ -516,12 +445,12 @@ module _ (c : Program) (low high weight : ℕ) (resolved : AreResolved c.modules
       sides image.0 byte image.1
       (ap (λ (x : Placed). x.mark) image.2 ∙ (data_kind p.kind p.reloc p.mark both.0).1) (rw image.2 both.1)
 
-  pub tight : (covered_bytes (layout c resolved located located_is) ≡ weight) × (low ≤ high) × (weight ≤ high - low)
+  pub tight : (covered_bytes (layout c is resolved located located_is) ≡ weight) × (low ≤ high) × (weight ≤ high - low)
   tight =
       let test : ℕ → Bool = λ byte. list_any (covers_byte byte) (map (λ (e : Numbered). e.placed) located) in
       let bound =
-      least (layout c resolved located located_is) weight
-      (sound (segments c) c.controls c.g (shape c) c.is located (whole c resolved located located_is)) h in
+      least (layout c is resolved located located_is) weight
+      (sound _ _ _ (shape c) is _ (whole c is resolved located located_is)) h in
       let room = holds t middle.0 middle.1 in (
         omega (arith, in_range_most test low weight 256 covered_in, bound),
         finds.run.order,
@@ -531,11 +460,9 @@ module _ (c : Program) (low high weight : ℕ) (resolved : AreResolved c.modules
 pub placing_tight : PlacingIsTight
 placing_tight modules controls g p low high weight valid resolved kept is graph_is placed data_only finds h =
     let c : Program = record
-    { modules = modules; controls = controls; g = g; valid = valid; kept = kept; is = is; of = graph_is } in
+    { modules = modules; controls = controls; g = g; valid = valid; kept = kept; of = graph_is } in
     let of = of_located g _ (located_of modules controls g) p placed in
-    subst (λ (x : Placing). (covered_bytes x.layout ≡ weight) × (low ≤ high) × (weight ≤ high - low)) of.placing
-    (tight c low high weight resolved data_only finds of.located of.is
-    (subst (λ (x : Placing). IsWeight x.layout weight) (sym of.placing) h))
+    rw (← of.placing) (tight c is low high weight resolved data_only finds of.located of.is (rw (← of.placing) at h))
 
 -- Where overlaid segments are of DATA of type UNIT only, a map's figure of overlaid bytes is what they cover.
 
@@ -545,14 +472,13 @@ same_data kind reloc mark h = grind arith
 
 -- so each extent counts in the one figure where it counts in the other
 module _ (g : GraphParts) (segments : List JoinedSegment) (data_only : OverlaysData segments g) where
-  of_data : (e : Numbered) (number : Option ℕ) → IsSpot g segments e → e.number ≡ number → e.placed.mark ≡ Overlaid
+  of_data : (e : Numbered) → IsSpot g segments e → e.placed.mark ≡ Overlaid
       → (e.placed.kind ≡ Direct) × (e.placed.reloc ≡ UnitType)
-  of_data e None spot is mark = absurd (spot.free is (subst IsSegment (sym mark) tt))
-  of_data e (Some n) spot is mark =
-      let of = spot.numbered n is in
-      let own = of.overlaid mark in
-      let told = data_only.data_only n own.0 of.j (own_is g n own.0 own.1) of.is in
-      (of.kind ∙ told.0, of.reloc ∙ told.1)
+  of_data e spot mark =
+      let of = overlaid_at e spot mark in
+      let own = of.2.overlaid mark in
+      let told = data_only.data_only of.0 own.0 of.2.j (own_is g of.0 own.0 own.1) of.2.is in
+      (of.2.kind ∙ told.0, of.2.reloc ∙ told.1)
 
   any_same : (byte : ℕ) (es : List Numbered) → Every (IsSpot g segments) es
       → list_any (overlays_byte byte) (map (λ (e : Numbered). e.placed) es)
@@ -560,7 +486,7 @@ module _ (g : GraphParts) (segments : List JoinedSegment) (data_only : OverlaysD
   any_same byte [] spots = refl
   any_same byte (e ∷ es) spots =
       rw (
-        same_data e.placed.kind e.placed.reloc e.placed.mark (of_data e e.number spots.0 refl),
+        same_data e.placed.kind e.placed.reloc e.placed.mark (of_data e spots.0),
         any_same byte es spots.1,
       )
 
@@ -569,14 +495,13 @@ module _ (g : GraphParts) (segments : List JoinedSegment) (data_only : OverlaysD
       ≡ count_below (λ byte. list_any (covers_byte byte) (map (λ (e : Numbered). e.placed) es)) n
   unfolding count_below
   count_same es zero spots = refl
-  count_same es (suc n) spots =
-      let one : Bool → ℕ = λ b. cond b 1 0 in
-      omega (arith, ap one (any_same n es spots), count_same es n spots)
+  count_same es (suc n) spots = grind (arith, any_same n es spots, count_same es n spots)
 
 pub figure_is_weight : FigureIsWeight
 figure_is_weight modules controls g p low high weight valid resolved kept is graph_is placed data_only finds h =
     let of = of_located g _ (located_of modules controls g) p placed in
     let whole = placed_whole modules controls g of.located graph_is valid resolved kept of.is in
-    subst (λ (x : Placing). overlaid_bytes x.layout ≡ covered_bytes x.layout) of.placing
-    (count_same g (segments_of modules) data_only of.located 256 whole.spots)
-    ∙ (placing_tight modules controls g p low high weight valid resolved kept is graph_is placed data_only finds h).0
+    let same : overlaid_bytes p.layout ≡ covered_bytes p.layout =
+    rw (← of.placing) (count_same g (segments_of modules) data_only of.located 256 whole.spots) in
+    same ∙ (placing_tight modules controls g p low high weight valid resolved kept is graph_is placed data_only finds
+    h).0

@@ -1,22 +1,21 @@
 -- Segments of overlaid DATA as bytes: those of related units have together no more than they cover.
-use Rattle.m51_place.proofs.Common.{◌≡◌, ℕ, zero, suc, ◌+◌, ◌-◌, ◌<◌, ◌≤◌, true, Bool, cond, ◌&&◌, not, List, [], ◌∷◌}
-use Rattle.m51_place.proofs.Common.{inl, inr, refl, sym, ◌∙◌, arith, nat_lt, Decides, Decides-ltb, and_decides}
-use Rattle.m51_place.proofs.Common.{false≢true, cases_Bool, cases_lt, one_if, tally, ◌*◌, false, ◌||◌, nat_eq, Option}
-use Rattle.m51_place.proofs.Common.{Some, None, ap, subst, list_any, option_map_or, slice_get, Contains, Ram, Kind}
-use Rattle.m51_place.proofs.Common.{Direct, Reloc, Covers, extent_of, LayoutParts, Mark, Overlaid, Placed, extent_at}
-use Rattle.m51_place.proofs.Common.{data_of, is_first, is_overlaid_data, sum_along, weight_along, weight_of, AreRelated}
-use Rattle.m51_place.proofs.Common.{Same, Before, After, Owners, layout_graph, owners_of, ProgramGraph, IsInside}
-use Rattle.m51_place.proofs.Common.{IsSound, Edges, IsWalk, Reaches, reach_edge, bytes_passing, own_passes, ◌++◌, map}
-use Rattle.m51_place.proofs.Common.{sum_by, list_any_at, get_or_from_slice_get, slice_get_within, Chain, ChainsFrom}
-use Rattle.m51_place.proofs.Common.{FirstUnderNone, SecondUnderNone, UnderTwo, vectors, covers_byte}
+use Rattle.m51_place.proofs.Common.{◌||◌, ◌≡◌, ℕ, zero, suc, ◌+◌, ◌-◌, ◌<◌, ◌≤◌, true, Bool, cond, ◌&&◌, not, List, []}
+use Rattle.m51_place.proofs.Common.{◌∷◌, inl, inr, refl, sym, ◌∙◌, arith, nat_lt, Decides, false≢true, cases_Bool}
+use Rattle.m51_place.proofs.Common.{one_if, tally, ◌*◌, false, nat_eq, Option, Some, None, ap, subst, list_any}
+use Rattle.m51_place.proofs.Common.{option_map_or, slice_get, Contains, Ram, Kind, Direct, Reloc, Covers, extent_of}
+use Rattle.m51_place.proofs.Common.{LayoutParts, Mark, Overlaid, Placed, extent_at, data_of, is_first, is_overlaid_data}
+use Rattle.m51_place.proofs.Common.{sum_along, weight_along, weight_of, AreRelated, Same, Before, After, Owners}
+use Rattle.m51_place.proofs.Common.{layout_graph, owners_of, ProgramGraph, IsInside, IsSound, Edges, IsWalk, Reaches}
+use Rattle.m51_place.proofs.Common.{reach_edge, bytes_passing, own_passes, ◌++◌, map, sum_by, list_any_at}
+use Rattle.m51_place.proofs.Common.{get_or_from_slice_get, slice_get_within, Chain, ChainsFrom, FirstUnderNone}
+use Rattle.m51_place.proofs.Common.{SecondUnderNone, UnderTwo, vectors, covers_byte}
 use Rattle.m51_place.proofs.Numbering.{at_number, number_got, with_numbers}
 use Rattle.std.proofs.lemmas.Bool.Decides.{nat_tests}
 use Rattle.std.specs.Prelude.{nat_le}
 use Rattle.std.proofs.Common.{min}
-use Rattle.m51_place.proofs.Free.{le_decides}
 use Rattle.m51_cells.proofs.Members.{Every, Pairs, every_both, total, any_in, every_map, every_of, every_weaker, In}
-use Rattle.m51_cells.proofs.Members.{in_any, pairs_got, pairs_map, pairs_weaker, total_add, total_le, total_sum}
-use Rattle.m51_cells.proofs.Members.{total_swap, total_zero, in_cases, total-append}
+use Rattle.m51_cells.proofs.Members.{pairs_got, pairs_map, pairs_weaker, total_add, total_le, total_sum, total_swap}
+use Rattle.m51_cells.proofs.Members.{total_zero, in_cases, total-append}
 use Rattle.std.proofs.lemmas.Bool.{eqb-true, or_cases, false_from_ne_true}
 use Rattle.std.proofs.lemmas.List.Sums.{sum-map}
 use Rattle.m51_cells.specs.Cells.{cells_in}
@@ -33,8 +32,7 @@ abbrev pub has_byte : ℕ → ℕ → ℕ → Bool
 has_byte base size byte = nat_le base byte && nat_lt byte (base + size)
 
 pub has_byte_tells : (base size byte : ℕ) → Decides (has_byte base size byte) ((base ≤ byte) × (byte < base + size))
-has_byte_tells base size byte =
-    and_decides (nat_le base byte) (nat_lt byte (base + size)) (le_decides base byte) (Decides-ltb byte (base + size))
+has_byte_tells base size byte = (λ h. grind (arith, nat_tests), λ h. grind (arith, nat_tests))
 
 -- how many of the bytes below n there are
 byte_more : (base size n : ℕ)
@@ -62,10 +60,7 @@ parted hit base size (suc n) h =
 taken : (hit : ℕ → Bool) (base size n : ℕ) → (0 < size → base + size ≤ n)
     → ((byte : ℕ) → has_byte base size byte ≡ true → hit byte ≡ true)
     → tally (without hit base size) n + size ≡ tally hit n
-taken hit base size n ends h = elim (cases_lt 0 size) [
-  | inl some ↦ omega (arith, parted hit base size n h, tally_range base size n, ends some)
-  | inr none ↦ omega (arith, parted hit base size n h, tally_range base size n, none)
-]
+taken hit base size n ends h = grind (arith, parted hit base size n h, tally_range base size n, ends)
 
 joined : (size rest left all : ℕ) → rest ≤ left → left + size ≡ all → size + rest ≤ all
 joined size rest left all h k = omega arith
@@ -172,14 +167,9 @@ once_bytes : (size o : ℕ) (us : List ℕ) → Once o us
     → total (λ u. cond (nat_eq u o) size 0) us ≤ cond (list_any (λ u. nat_eq u o) us) size 0
 once_bytes size o [] once = omega arith
 once_bytes size o (u ∷ us) once =
-    let rest = once_bytes size o us once.1 in
-    elim (cases_Bool (nat_eq u o)) [
-      | inl same ↦ elim (cases_Bool (list_any (λ v. nat_eq v o) us)) [
-        | inl there ↦ absurd (once.0 (eqb-true u o same) (any_in o us there))
-        | inr none ↦ let zero_is = rw none at rest in rw same (omega (arith, zero_is))
-      ]
-      | inr other ↦ rw other (omega (arith, rest))
-    ]
+    let new : nat_eq u o ≡ true → list_any (λ v. nat_eq v o) us ≡ true → ⊥ =
+    λ same there. once.0 (eqb-true u o same) (any_in o us there) in
+    grind (arith, once_bytes size o us once.1, new)
 
 pub passing : (test : ℕ → Bool) (own : Option ℕ) → option_map_or test own false ≡ true → (u : ℕ) × (own ≡ Some u)
     × (test u ≡ true)
@@ -200,12 +190,9 @@ module _ (p : ProgramGraph) (xs : List Local) (are : AreLocals p xs) (units : Li
       + cond (option_map_or free own false) x.size 0 ≤ cond (option_map_or chosen own false) x.size 0
   counted x None is h = omega (arith, total_zero units)
   counted x (Some o) is h =
-      let once = once_bytes x.size o units (h.once o is) in
-      elim (cases_Bool (list_any (λ u. nat_eq u o) units)) [
-        | inl there ↦ let most = rw there at once in rw (there, h.bound o is (any_in o units there))
-            (omega (arith, most))
-        | inr none ↦ let most = rw none at once in rw none (omega (arith, most))
-      ]
+      let listed : list_any (λ u. nat_eq u o) units ≡ true → free o ≡ false =
+      λ there. h.bound o is (any_in o units there) in
+      grind (arith, once_bytes x.size o units (h.once o is), listed)
 
   module _ (hit : ℕ → Bool) (each : Every IsCounted xs)
       (related : (a b : ℕ) → chosen a ≡ true → chosen b ≡ true → AreRelated p a b)
@@ -272,13 +259,10 @@ locals l number rest = map (local_at l) (with_numbers number rest)
 
 one_passing : (test : ℕ → Bool) (d : Bool) (size : ℕ) (owners : List ℕ) → cond (d && own_passes test owners) size 0
     ≡ cond (option_map_or test (first_of_list owners) false) (cond d size 0) 0
-one_passing test true size [] = refl
-one_passing test false size [] = refl
-one_passing test d size (o ∷ os) = grind arith
+one_passing test d size owners = grind arith
 
 first_is : (unit : ℕ) (owners : List ℕ) → is_first unit owners ≡ own_passes (nat_eq unit) owners
-first_is unit [] = refl
-first_is unit (o ∷ os) = refl
+first_is unit owners = grind arith
 
 pub passing_is : (l : LayoutParts) (test : ℕ → Bool) (number : ℕ) (rest : List Placed)
     → bytes_passing l test number rest ≡ total (bytes test) (locals l number rest)
@@ -365,8 +349,7 @@ walk_bound l sound u more walk =
   where
     either : (o : ℕ) → (list_any (λ v. nat_eq v o) (u ∷ more) || false) ≡ true
         → list_any (λ v. nat_eq v o) (u ∷ more) ≡ true
-    either o h = elim (or_cases (list_any (λ v. nat_eq v o) (u ∷ more)) false h)
-        [ inl is ↦ is | inr bad ↦ absurd (false≢true bad) ]
+    either o h = grind arith
 
     same_totals : total (weight_of l) (u ∷ more)
         ≡ total (λ v. total (bytes (nat_eq v)) (locals l 0 l.placed)) (u ∷ more)
@@ -380,22 +363,11 @@ abbrev Distinct : List ℕ → Type 0
 Distinct [] = Unit {0}
 Distinct (v ∷ more) = (In v more → ⊥) × Distinct more
 
--- tested from the first on
-are_distinct : List ℕ → Bool
-are_distinct [] = true
-are_distinct (v ∷ more) = cond (list_any (λ u. nat_eq u v) more) false (are_distinct more)
-
-distinct : (vs : List ℕ) → are_distinct vs ≡ true → Distinct vs
-unfolding are_distinct
-distinct [] h = tt
-distinct (v ∷ more) h = elim (cases_Bool (list_any (λ u. nat_eq u v) more)) [
-  | inl there ↦ absurd (cc (rw there at h))
-  | inr none ↦ (λ k. absurd (cc (none, in_any v more k)), distinct more (rw none at h))
-]
-
 vectors_distinct : Distinct vectors
-unfolding are_distinct
-vectors_distinct = distinct vectors refl
+vectors_distinct = (
+  λ h. grind arith,
+  (λ h. grind arith, (λ h. grind arith, (λ h. grind arith, (λ h. grind arith, (λ h. grind arith, (λ h. h, tt)))))),
+)
 
 once_append : (o : ℕ) (us vs : List ℕ) → Once o us → Once o vs → (In o us → In o vs → ⊥) → Once o (us ++ vs)
 once_append o [] vs h k apart = k
@@ -508,7 +480,7 @@ weight_bound p xs w chains free hit are no_cycle weighs heaviest from_free met =
 pub count_is : (p : ℕ → Bool) (n : ℕ) → tally p n ≡ count_below p n
 unfolding count_below
 count_is p zero = refl
-count_is p (suc n) = let one : one_if (p n) ≡ cond (p n) 1 0 = grind arith in omega (arith, one, count_is p n)
+count_is p (suc n) = grind (arith, count_is p n)
 
 met : (l : LayoutParts) (byte n : ℕ) (e : Placed) → slice_get l.placed n ≡ Some e
     → has_byte e.base (cond (is_data e) e.size 0) byte ≡ true → list_any (covers_byte byte) l.placed ≡ true

@@ -1,26 +1,26 @@
 -- What each placed extent is, and that each joined segment is placed once.
-use Rattle.m51_place.proofs.Common.{◌≢◌, ◌≡◌, inl, inr, ℕ, zero, suc, ◌+◌, ◌*◌, ◌<◌, ◌≤◌, true, List, [], ◌∷◌, Option}
-use Rattle.m51_place.proofs.Common.{Some, None, refl, sym, ap, subst, ◌∙◌, arith, slice_get, option_map_or, All}
-use Rattle.m51_place.proofs.Common.{false≢true, slice_get-map, same_Some, none-some, Kind, Code, Xdata, Direct, Idata}
-use Rattle.m51_place.proofs.Common.{Bits, Number, Reloc, Abs, extent_of, Fits, FitsMemory, Control, Absolute, Overlaid}
-use Rattle.m51_place.proofs.Common.{Placed, IsSegment, IsInside, IsFit, JoinedSegment, GraphParts, is_absolute}
-use Rattle.m51_place.proofs.Common.{cases_Bool, Numbered, Ranked, absolute, absolutes_from, own_at, located_at, mark_of}
-use Rattle.m51_place.proofs.Common.{◌-◌, false, Bool, ◌++◌, length, get_or, append_assoc, position, position_or_len}
-use Rattle.m51_place.proofs.Common.{append-nil, fails_before_first, slice_get-get_or, Ram, IsAllowed, ModuleParts}
-use Rattle.m51_place.proofs.Common.{extent_at, banks_of, fixed_of, first_met, reserves_of, shared_at, shared_after}
-use Rattle.m51_place.proofs.Common.{nat_eq, Result, Ok, AllZip, one_if, slice_get_within, AreKept, Refusal, Plain}
-use Rattle.m51_place.proofs.Common.{IsValid, segments_of, AreResolved, graph_of, unless, shared_extents, order_of}
-use Rattle.m51_place.proofs.Common.{ranked_from, located_of, place_after, IsNumbered}
+use Rattle.m51_place.proofs.Common.{◌≢◌, ◌≡◌, ℕ, zero, suc, ◌+◌, ◌*◌, ◌<◌, ◌≤◌, true, List, [], ◌∷◌, Option, Some, None}
+use Rattle.m51_place.proofs.Common.{refl, sym, ap, subst, ◌∙◌, arith, slice_get, option_map_or, All, false≢true}
+use Rattle.m51_place.proofs.Common.{slice_get-map, same_Some, none-some, Kind, Code, Xdata, Direct, Number, Reloc, Abs}
+use Rattle.m51_place.proofs.Common.{extent_of, Fits, Control, Absolute, Overlaid, Placed, IsSegment, IsInside, IsFit}
+use Rattle.m51_place.proofs.Common.{JoinedSegment, GraphParts, is_absolute, Numbered, Ranked, absolute, absolutes_from}
+use Rattle.m51_place.proofs.Common.{own_at, located_at, mark_of, ◌-◌, false, Bool, ◌++◌, length, get_or, append_assoc}
+use Rattle.m51_place.proofs.Common.{position, position_or_len, append-nil, fails_before_first, slice_get-get_or, Ram}
+use Rattle.m51_place.proofs.Common.{IsAllowed, ModuleParts, extent_at, banks_of, fixed_of, first_met, reserves_of}
+use Rattle.m51_place.proofs.Common.{shared_at, shared_after, nat_eq, Result, Ok, length-map, map, one_if}
+use Rattle.m51_place.proofs.Common.{slice_get_within, AreKept, Refusal, Plain, IsValid, segments_of, AreResolved}
+use Rattle.m51_place.proofs.Common.{graph_of, unless, shared_extents, ranked_from, located_of, place_after, IsNumbered}
 use Rattle.m51_place.proofs.Numbering.{at_number, with_numbers}
-use Rattle.std.proofs.lemmas.Bool.{true_from_ne_false, cases_order, eq-eqb, eqb-true}
+use Rattle.std.proofs.lemmas.Bool.{true_from_ne_false, eq-eqb}
+use Rattle.std.proofs.lemmas.Bool.Decides.{nat_tests}
 use Rattle.m51_graph.specs.Locals.{overlaid_by}
 use Rattle.m51_graph.specs.Units.{unit_titles}
 use Rattle.m51_cells.proofs.Members.{Every, all_every, every_append, every_of, every_weaker, Pairs, pairs_push, total}
 use Rattle.m51_cells.proofs.Members.{total-append, total_none, every_all, contains_in, every_map, in_filter}
 use Rattle.std.proofs.Common.{filter, codes, length-append}
-use Rattle.m51_place.proofs.Ranks.{absolute_at, absolutes_are, is_fixed, IsJoined, IsOf, IsRankedOf, joined_at}
-use Rattle.m51_place.proofs.Ranks.{place_is, extent_count, all_joined, graph_is, as_many_own, once, order_moves}
-use Rattle.m51_place.proofs.Ranks.{order_ranked, ranked_count}
+use Rattle.m51_place.proofs.Ranks.{absolute_at, absolutes_are, as_many_own, extent_count, is_fixed, IsOf, IsRankedOf}
+use Rattle.m51_place.proofs.Ranks.{joined_at, once, order, order_moves, place_is, Program, ranked, ranked_count}
+use Rattle.m51_place.proofs.Ranks.{segments, shape}
 use Rattle.std.specs.List.{cons_option}
 use Rattle.std.proofs.lemmas.List.Quantifiers.{position-Some}
 use Rattle.m51_graph.proofs.Judged.{none_of_both}
@@ -28,7 +28,7 @@ use Rattle.m51_cells.specs.declared.cell.Space.TheVariants.{Xram}
 use Rattle.m51_control.specs.declared.control.Control.TheVariants.{Reserve}
 use Rattle.m51_place.specs.Bases.{share}
 use Rattle.m51_place.specs.Fixed.{bank, bank_if, reserve_as, reserve_of, uses, without_number}
-use Rattle.m51_place.proofs.Free.{all_fail, KeepApart, share_tells, are_after, IsPlacedRanked, zip_every}
+use Rattle.m51_place.proofs.Free.{all_fail, KeepApart, share_tells, are_after, at_base, later_every, later_total}
 use Rattle.m51_resolve.proofs.Positions.{none_found}
 use Rattle.m51_place.proofs.Piled.{own_of}
 use Rattle.std.specs.Prelude.{find}
@@ -59,30 +59,25 @@ pub record IsSpot (g : GraphParts) (segments : List JoinedSegment) (e : Numbered
   pub numbered : (number : ℕ) → e.number ≡ Some number → IsSegmentOf g segments number e.placed
   pub free : e.number ≡ None → IsSegment e.placed.mark → ⊥
 
+number_of : (number : Option ℕ) → (number ≡ None → ⊥) → (n : ℕ) × (number ≡ Some n)
+number_of None h = absurd (h refl)
+number_of (Some n) h = (n, refl)
+
+-- an extent is a joined segment by its mark
+pub segment_at : {g : GraphParts} {js : List JoinedSegment} (e : Numbered) → IsSpot g js e → IsSegment e.placed.mark
+    → (n : ℕ) × (e.number ≡ Some n) × IsSegmentOf g js n e.placed
+segment_at e spot segment =
+    let n = number_of e.number (λ none. spot.free none segment) in (n.0, n.1, spot.numbered n.0 n.1)
+
+pub overlaid_at : {g : GraphParts} {js : List JoinedSegment} (e : Numbered) → IsSpot g js e → e.placed.mark ≡ Overlaid
+    → (n : ℕ) × (e.number ≡ Some n) × IsSegmentOf g js n e.placed
+overlaid_at e spot mark = segment_at e spot (subst IsSegment (sym mark) tt)
+
 -- what fits lies inside its memory
-memory_inside : (reloc : Reloc) (base size at : ℕ) → FitsMemory reloc base size → base ≤ at → at < base + size
-    → at < 65536
-memory_inside reloc base size at h from below = grind arith
-
-direct_ends : (reloc : Reloc) (base size : ℕ) → Fits Direct reloc base size → base + size ≤ 0x80
-direct_ends reloc base size h = grind arith
-
 fits_inside : (kind : Kind) (reloc : Reloc) (base size : ℕ) → Fits kind reloc base size
     → IsInside (extent_of kind base size)
-fits_inside Direct reloc base size h c covers =
-    let below : c.at < 8 * base + 8 * size = covers.below in
-    omega (arith, direct_ends reloc base size h, below)
-fits_inside Idata reloc base size h c covers =
-    let ends : base + size ≤ 0x100 = h in
-    let below : c.at < 8 * base + 8 * size = covers.below in
-    omega (arith, ends, below)
-fits_inside Bits reloc base size h c covers =
-    let ends : base + size ≤ 0x80 = h in
-    let below : c.at < 256 + base + size = covers.below in
-    omega (arith, ends, below)
-fits_inside Code reloc base size h c covers = memory_inside reloc base size c.at h covers.from covers.below
-fits_inside Xdata reloc base size h c covers = memory_inside reloc base size c.at h covers.from covers.below
-fits_inside Number reloc base size h c covers = absurd h
+fits_inside kind reloc base size h c covers =
+    let from = covers.from in let below = covers.below in grind (arith, h, from, below)
 
 -- what fits in program memory ends in it, but for an empty segment of a block, whose base is an address
 code_room : (reloc : Reloc) (base size : ℕ) → base ≤ 65536 → Fits Code reloc base size → base + size ≤ 65536
@@ -92,109 +87,89 @@ room_of : (kind : Kind) (reloc : Reloc) (base size : ℕ) → (Fits Code reloc b
     → Fits kind reloc base size → kind ≡ Code → base + size ≤ 65536
 room_of kind reloc base size low h code = let fits = rw code at h in code_room reloc base size (low fits) fits
 
--- the own unit of a joined segment is that of the graph
-pub own_is_of : (segments : List JoinedSegment) (controls : List (ℕ × Control)) (g : GraphParts)
-    → IsOf segments controls g → (number : ℕ) (j : JoinedSegment) → slice_get segments number ≡ Some j
-    → own_at g number ≡ overlaid_by (unit_titles segments) controls j
-own_is_of segments controls g is number j at = rw (is.own, slice_get-map, at)
+module _ (c : Program) where
+  -- the own unit of a joined segment is that of the graph
+  own_is_of : (number : ℕ) (j : JoinedSegment) → slice_get (segments c) number ≡ Some j
+      → own_at c.g number ≡ overlaid_by (unit_titles (segments c)) c.controls j
+  own_is_of number j at = rw ((shape c).own, slice_get-map, at)
 
-module _ (segments : List JoinedSegment) (controls : List (ℕ × Control)) (g : GraphParts)
-    (is : IsOf segments controls g) (all : All IsJoined segments) where
-  marked : (number : ℕ) (j : JoinedSegment) (unit : ℕ) → slice_get segments number ≡ Some j → own_at g number
-      ≡ Some unit → j.overlay ≡ true
-  marked number j unit at owner = true_from_ne_false j.overlay
-      (λ bare. none-some unit (rw (own_is_of segments controls g is number j at, bare) at owner))
+  marked : (number : ℕ) (j : JoinedSegment) (unit : ℕ) → slice_get (segments c) number ≡ Some j
+      → own_at c.g number ≡ Some unit → j.overlay ≡ true
+  marked number j unit at owner =
+      true_from_ne_false j.overlay (λ bare. none-some unit (rw (own_is_of number j at, bare) at owner))
 
-  -- an absolute segment, which is not overlaid
-  pub bare_absolute : (number : ℕ) (j : JoinedSegment) → slice_get segments number ≡ Some j → is_absolute j.reloc ≡ true
-      → own_at g number ≡ None
-  bare_absolute number j at abs = rw (
-    own_is_of segments controls g is number j at,
-    (joined_at IsJoined segments number j all at).plain abs,
-  ) refl
+  -- an absolute segment is not overlaid
+  pub bare_absolute : (number : ℕ) (j : JoinedSegment) → slice_get (segments c) number ≡ Some j
+      → is_absolute j.reloc ≡ true → own_at c.g number ≡ None
+  bare_absolute number j at abs = rw (own_is_of number j at, (joined_at c number j at).plain abs) refl
 
-  absolute_spot : (number : ℕ) (j : JoinedSegment) → slice_get segments number ≡ Some j → is_absolute j.reloc ≡ true
-      → IsSpot g segments (absolute number j)
-  absolute_spot number j at abs =
-      let joined : IsJoined j = joined_at IsJoined segments number j all at in
+  -- a joined segment that fits where it is placed
+  spot_of : (number : ℕ) (reloc : Reloc) (p : Placed) → IsSegmentOf c.g (segments c) number p
+      → Fits p.kind reloc p.base p.size → IsSpot c.g (segments c) (record { placed = p; number = Some number })
+  spot_of number reloc p of fits =
+      let joined = joined_at c number of.j of.is in
       record {
         fit = record {
-          kind = joined.kind;
-          inside = fits_inside j.kind Abs j.base j.size (joined.fits abs);
-          absolute = λ _. joined.some abs;
-          code = λ _ e. cc e;
+          kind = rw of.kind joined.kind;
+          inside = fits_inside p.kind reloc p.base p.size fits;
+          absolute = λ e. rw of.size (joined.some (of.absolute e));
+          code = λ code e. let own = of.overlaid e in
+              joined.code (marked number of.j own.0 of.is own.1) (sym of.kind ∙ code);
         };
-        numbered = λ n e. subst (λ m. IsSegmentOf g segments m (absolute number j).placed) (same_Some number n e)
-            (record {
-              j = j;
-              is = at;
-              title = refl;
-              kind = refl;
-              reloc = refl;
-              size = refl;
-              room = room_of j.kind Abs j.base j.size
-                  (λ h. let ends : j.base + j.size ≤ 65536 = h in omega (arith, ends)) (joined.fits abs);
-              segment = tt;
-              fixed = λ _. (refl, refl);
-              absolute = λ _. abs;
-              overlaid = λ e. absurd (cc e);
-              owned = λ unit owner. absurd (none-some unit (rw (bare_absolute number j at abs) at owner));
-            });
+        numbered = λ n e. rw (← same_Some number n e) of;
         free = λ e. absurd (cc e);
       }
+
+  absolute_spot : (number : ℕ) (j : JoinedSegment) → slice_get (segments c) number ≡ Some j → is_absolute j.reloc ≡ true
+      → IsSpot c.g (segments c) (absolute number j)
+  absolute_spot number j at abs =
+      let fits = (joined_at c number j at).fits abs in
+      spot_of number Abs (absolute number j).placed (record {
+        j = j;
+        is = at;
+        title = refl;
+        kind = refl;
+        reloc = refl;
+        size = refl;
+        room = room_of j.kind Abs j.base j.size
+            (λ h. let ends : j.base + j.size ≤ 65536 = h in omega (arith, ends)) fits;
+        segment = tt;
+        fixed = λ _. (refl, refl);
+        absolute = λ _. abs;
+        overlaid = λ e. absurd (cc e);
+        owned = λ unit owner. absurd (cc (bare_absolute number j at abs, owner));
+      }) fits
 
   -- a relocatable segment that is placed
-  plain_segment : (owner : Option ℕ) → IsSegment (mark_of owner)
-  plain_segment None = tt
-  plain_segment (Some unit) = tt
-
-  not_absolute : (owner : Option ℕ) → mark_of owner ≡ Absolute → ⊥
-  not_absolute None e = cc e
-  not_absolute (Some unit) e = cc e
-
-  has_owner : (owner : Option ℕ) → mark_of owner ≡ Overlaid → (unit : ℕ) × (owner ≡ Some unit)
-  has_owner None e = absurd (cc e)
-  has_owner (Some unit) e = (unit, refl)
-
-  pub placed_spot : (t : Ranked) (base : ℕ) → IsRankedOf g controls segments t → base < 65536
-      → Fits t.segment.kind t.segment.reloc base t.segment.size → IsSpot g segments (located_at t base)
+  placed_spot : (t : Ranked) (base : ℕ) → IsRankedOf c.g c.controls (segments c) t → base < 65536
+      → Fits t.segment.kind t.segment.reloc base t.segment.size → IsSpot c.g (segments c) (located_at t base)
   placed_spot t base h low fits =
       let j = t.segment in
-      let joined : IsJoined j = joined_at IsJoined segments t.number j all h.segment in
-      record {
-        fit = record {
-          kind = joined.kind;
-          inside = fits_inside j.kind j.reloc base j.size fits;
-          absolute = λ e. absurd (not_absolute t.own e);
-          code = λ code e. let owner = has_owner t.own e in
-              joined.code (marked t.number j owner.0 h.segment (sym h.own ∙ owner.1)) code;
-        };
-        numbered = λ n e. subst (λ m. IsSegmentOf g segments m (located_at t base).placed) (same_Some t.number n e)
-            (record {
-              j = j;
-              is = h.segment;
-              title = refl;
-              kind = refl;
-              reloc = refl;
-              size = refl;
-              room = room_of j.kind j.reloc base j.size (λ _. omega (arith, low)) fits;
-              segment = plain_segment t.own;
-              fixed = λ abs. absurd (false≢true (sym h.relocatable ∙ abs));
-              absolute = λ e. absurd (not_absolute t.own e);
-              overlaid = λ e. let owner = has_owner t.own e in (owner.0, sym h.own ∙ owner.1);
-              owned = λ unit owner. ap mark_of (h.own ∙ owner);
-            });
-        free = λ e. absurd (cc e);
-      }
+      spot_of t.number j.reloc (located_at t base).placed (record {
+        j = j;
+        is = h.segment;
+        title = refl;
+        kind = refl;
+        reloc = refl;
+        size = refl;
+        room = room_of j.kind j.reloc base j.size (λ _. omega (arith, low)) fits;
+        segment = plain_segment t.own;
+        fixed = λ abs. absurd (false≢true (sym h.relocatable ∙ abs));
+        absolute = λ e. absurd (not_absolute t.own e);
+        overlaid = λ e. let owner = has_owner t.own e in (owner.0, sym h.own ∙ owner.1);
+        owned = λ unit owner. ap mark_of (h.own ∙ owner);
+      }) fits
+    where
+      plain_segment : (owner : Option ℕ) → IsSegment (mark_of owner)
+      plain_segment None = tt
+      plain_segment (Some unit) = tt
 
-  -- what holds of all absolute segments
-  each_absolute : (P : Numbered → Type 0)
-      → ((number : ℕ) (j : JoinedSegment) → slice_get segments number ≡ Some j → is_absolute j.reloc ≡ true
-      → P (absolute number j)) → Every P (absolutes_from 0 segments)
-  each_absolute P each =
-      let all = every_map absolute_at P _ (every_of _ (filter is_fixed (with_numbers 0 segments)) (λ p i.
-      let is = in_filter is_fixed (with_numbers 0 segments) p i in each p.0 p.1 (at_number segments p is.0) is.1)) in
-      rw (← absolutes_are 0 segments) at all
+      not_absolute : (owner : Option ℕ) → mark_of owner ≡ Absolute → ⊥
+      not_absolute owner e = grind arith
+
+      has_owner : (owner : Option ℕ) → mark_of owner ≡ Overlaid → (unit : ℕ) × (owner ≡ Some unit)
+      has_owner None e = absurd (cc e)
+      has_owner (Some unit) e = (unit, refl)
 
 -- The fixed extents: what each is, which joined numbers they have, and that no two of them share a cell.
 
@@ -267,52 +242,52 @@ reserves_free (line ∷ more) allowed =
 
 absolutes_few : (number : ℕ) (rest : List JoinedSegment) → length (absolutes_from number rest) ≤ length rest
 absolutes_few number [] = omega arith
-absolutes_few number (j ∷ more) =
-    let h = absolutes_few (number + 1) more in
-    elim (cases_Bool (is_absolute j.reloc))
-    [ inl abs ↦ rw abs (omega (arith, h)) | inr rel ↦ rw rel (omega (arith, h)) ]
+absolutes_few number (j ∷ more) = grind (arith, absolutes_few (number + 1) more)
 
-module _ (g : GraphParts) (modules : List ModuleParts) (controls : List (ℕ × Control)) (segments : List JoinedSegment)
-    (is : IsOf segments controls g) (joined : All IsJoined segments)
-    (allowed : All (λ (line : ℕ × Control). IsAllowed line.1) controls) where
+module _ (c : Program) where
   abbrev others : List Numbered
-  others = banks_of modules ++ reserves_of controls
+  others = banks_of c.modules ++ reserves_of c.controls
 
-  free : AreFree others (4 + length controls)
-  free = free_append (banks_free modules) (reserves_free controls (all_every _ controls allowed))
+  abbrev pub fixed : List Numbered
+  fixed = fixed_of c.modules c.controls (segments c)
+
+  free : AreFree others (4 + length c.controls)
+  free = free_append (banks_free c.modules) (reserves_free c.controls (all_every _ c.controls c.kept.each))
 
   -- what holds of all fixed extents
-  fixed_each : (P : Numbered → Type 0) → ((e : Numbered) → IsFree e → P e) → Every P (absolutes_from 0 segments)
-      → Every P (fixed_of modules controls segments)
-  fixed_each P holds h =
-      every_append P others (absolutes_from 0 segments) (every_weaker IsFree P others holds free.each) h
+  fixed_each : (P : Numbered → Type 0) → ((e : Numbered) → IsFree e → P e)
+      → ((number : ℕ) (j : JoinedSegment) → slice_get (segments c) number ≡ Some j → is_absolute j.reloc ≡ true
+      → P (absolute number j)) → Every P fixed
+  fixed_each P holds each =
+      let all = with_numbers 0 (segments c) in
+      every_append P others (absolutes_from 0 (segments c)) (every_weaker IsFree P others holds free.each)
+      (rw (absolutes_are 0 (segments c)) (every_map absolute_at P _ (every_of _ (filter is_fixed all) (λ p i.
+      let is = in_filter is_fixed all p i in each p.0 p.1 (at_number (segments c) p is.0) is.1))))
 
-  pub fixed_spots : Every (IsSpot g segments) (fixed_of modules controls segments)
-  fixed_spots = fixed_each (IsSpot g segments)
-      (λ e h. record { fit = h.fit; numbered = λ n at. absurd (none-some n (sym h.number ∙ at)); free = λ _. h.free })
-      (each_absolute segments controls g is joined _ (absolute_spot segments controls g is joined))
+  pub fixed_spots : Every (IsSpot c.g (segments c)) fixed
+  fixed_spots = fixed_each (IsSpot c.g (segments c))
+      (λ e h. record { fit = h.fit; numbered = λ n at. absurd (cc (h.number, at)); free = λ _. h.free })
+      (absolute_spot c)
 
   -- they are not overlaid
-  pub fixed_bare : Every (λ e. own_of g e ≡ None) (fixed_of modules controls segments)
-  fixed_bare = fixed_each (λ e. own_of g e ≡ None) (λ e h. rw h.number)
-      (each_absolute segments controls g is joined _ (bare_absolute segments controls g is joined))
+  pub fixed_bare : Every (λ e. own_of c.g e ≡ None) fixed
+  fixed_bare = fixed_each (λ e. own_of c.g e ≡ None) (λ e h. rw h.number) (bare_absolute c)
 
-  pub fixed_count : (m : ℕ) → total (extent_count m) (fixed_of modules controls segments)
-      ≡ total (extent_count m) (absolutes_from 0 segments)
+  fixed_count : (m : ℕ) → total (extent_count m) fixed ≡ total (extent_count m) (absolutes_from 0 (segments c))
   fixed_count m =
       omega (
         arith,
-        total-append (extent_count m) others (absolutes_from 0 segments),
+        total-append (extent_count m) others (absolutes_from 0 (segments c)),
         total_none (extent_count m) others (every_weaker IsFree _ others (λ e h. rw h.number) free.each),
       )
 
-  pub fixed_few : length (fixed_of modules controls segments) ≤ 4 + length controls + length segments
+  fixed_few : length fixed ≤ 4 + length c.controls + length (segments c)
   fixed_few =
       omega (
         arith,
-        length-append others (absolutes_from 0 segments),
+        length-append others (absolutes_from 0 (segments c)),
         free.few,
-        absolutes_few 0 segments,
+        absolutes_few 0 (segments c),
       )
 
 -- no two fixed extents share a cell
@@ -323,7 +298,7 @@ refuses_met earlier e (Some index) is h =
     let at = position-Some (λ (q : Numbered). share (extent_at q.placed) (extent_at e.placed)) earlier index e is in
     absurd (cc (rw (slice_get-get_or earlier index e at.0) at h))
 
-pub fixed_apart : (g : GraphParts) (rest earlier : List Numbered) → Pairs (KeepApart g) earlier
+fixed_apart : (g : GraphParts) (rest earlier : List Numbered) → Pairs (KeepApart g) earlier
     → shared_after earlier rest ≡ None → Pairs (KeepApart g) (earlier ++ rest)
 fixed_apart g [] earlier apart h = rw append-nil apart
 fixed_apart g (e ∷ more) earlier apart h =
@@ -334,6 +309,9 @@ fixed_apart g (e ∷ more) earlier apart h =
     (every_weaker _ (λ q. KeepApart g q e) earlier
     (λ q fails. record { none = λ _ meet. absurd (cc (fails, (share_tells _ (extent_at e.placed)).1 meet)) })
     (all_fail meets earlier (none_found meets earlier none)))) rules.1)
+
+pub fixed_pairs : (c : Program) → shared_extents (fixed c) ≡ None → Pairs (KeepApart c.g) (fixed c)
+fixed_pairs c shares = fixed_apart c.g (fixed c) [] tt shares
 
 -- What was placed: each joined segment once, and extents in conflict apart.
 
@@ -349,60 +327,45 @@ pub unless_none : {V : Type 0} (rule : Option Refusal) (after : Result V Refusal
 unless_none None after v h = (refl, h)
 unless_none (Some refusal) after v h = absurd (cc h)
 
-later_count : (m : ℕ) (order : List Ranked) (later : List Numbered) → AllZip IsPlacedRanked order later
-    → (total (extent_count m) later ≡ total (ranked_count m) order) × (length order ≡ length later)
-later_count m [] [] h = (refl, refl)
-later_count m [] (e ∷ later) h = absurd h
-later_count m (t ∷ order) [] h = absurd h
-later_count m (t ∷ order) (e ∷ later) h =
-    let rest = later_count m order later h.1 in
-    let here = ap (extent_count m) h.0.is in
-    (omega (arith, here, rest.0), omega (arith, rest.1))
-
 ranked_few : (g : GraphParts) (controls : List (ℕ × Control)) (number : ℕ) (rest : List JoinedSegment)
     → length (ranked_from g controls number rest) ≤ length rest
 ranked_few g controls number [] = omega arith
-ranked_few g controls number (j ∷ more) =
-    let h = ranked_few g controls (number + 1) more in
-    elim (cases_Bool (is_absolute j.reloc))
-    [ inl abs ↦ rw abs (omega (arith, h)) | inr rel ↦ rw rel (omega (arith, h)) ]
+ranked_few g controls number (j ∷ more) = grind (arith, ranked_few g controls (number + 1) more)
 
-pub whole : (modules : List ModuleParts) (controls : List (ℕ × Control)) (g : GraphParts) (located : List Numbered)
-    → IsOf (segments_of modules) controls g → All IsJoined (segments_of modules)
-    → AreKept controls → length (segments_of modules) ≤ 2000 → located_of modules controls g ≡ Ok located
-    → IsWhole g (segments_of modules) located
-whole modules controls g located is joined kept few h =
-    let segments : List JoinedSegment = segments_of modules in
-    let fixed : List Numbered = fixed_of modules controls segments in
-    let order : List Ranked = order_of g controls segments in
-    let rules = unless_none (shared_extents fixed) (place_after g fixed order) located h in
-    let after = are_after g order fixed located (fixed_apart g fixed [] tt rules.0) rules.1 in
-    let moved = length_permutation (ranked_from g controls 0 segments) order (order_moves g controls segments) in
+-- what is placed for valid modules over their graph is their whole program
+pub placed_whole : (modules : List ModuleParts) (controls : List (ℕ × Control)) (g : GraphParts)
+    (located : List Numbered) → graph_of modules controls ≡ Ok g → All IsValid modules → AreResolved modules
+    → AreKept controls → located_of modules controls g ≡ Ok located → IsWhole g (segments_of modules) located
+placed_whole modules controls g located is valid resolved kept h =
+    let c : Program = record
+    { modules = modules; controls = controls; g = g; valid = valid; kept = kept; of = is } in
+    let rules = unless_none (shared_extents (fixed c)) (place_after g (fixed c) (order c)) located h in
+    let after = are_after g (order c) (fixed c) located (fixed_pairs c rules.0) rules.1 in
+    let moved = length_permutation (ranked_from g controls 0 (segments c)) (order c)
+    (order_moves g controls (segments c)) in
+    let few : length (segments c) ≤ 2000 = resolved.few_segments in
     record {
-      spots = rw after.are (every_append (IsSpot g segments) fixed after.later
-          (fixed_spots g modules controls segments is joined kept.each)
-          (zip_every (IsRankedOf g controls segments) _ order after.later (λ t e p r. rw p.is
-          (placed_spot segments controls g is joined t p.base r p.low p.fits)) after.each
-          (order_ranked g controls segments)));
+      spots = rw after.are (every_append (IsSpot g (segments c)) (fixed c) _ (fixed_spots c) (later_every after _ _
+          (λ t base room r. placed_spot c t base r room.low room.fits) (ranked c)));
       apart = after.apart;
       once = λ m below.
           omega (
             arith,
-            ap (λ (es : List Numbered). total (extent_count m) es) after.are,
-            total-append (extent_count m) fixed after.later,
-            fixed_count g modules controls segments is joined kept.each m,
-            (later_count m order after.later after.each).0,
-            once g controls segments m below,
+            later_total after (extent_count m) (ranked_count m) (λ _ _. refl),
+            fixed_count c m,
+            once g controls (segments c) m below,
           );
       few =
           omega (
             arith,
             ap (λ (es : List Numbered). length es) after.are,
-            length-append fixed after.later,
-            fixed_few g modules controls segments is joined kept.each,
-            (later_count 0 order after.later after.each).1,
+            length-append (fixed c) (map at_base after.picks),
+            length-map after.picks at_base,
+            length-map after.picks (λ (p : Ranked × ℕ). p.0),
+            ap (λ (ts : List Ranked). length ts) after.order_is,
+            fixed_few c,
             moved,
-            ranked_few g controls 0 segments,
+            ranked_few g controls 0 (segments c),
             kept.few,
             few,
           );
@@ -410,8 +373,7 @@ whole modules controls g located is joined kept few h =
 
 -- extents with the number of a joined segment, and how many there are
 number_is : (m : ℕ) (number : Option ℕ) → option_map_or (nat_eq m) number false ≡ true → number ≡ Some m
-number_is m None h = absurd (false≢true h)
-number_is m (Some n) h = ap (λ (k : ℕ). Some k) (sym (eqb-true m n h))
+number_is m number h = grind (arith, nat_tests)
 
 one_counted : (m : ℕ) (es : List Numbered) (k : ℕ) (e : Numbered) → slice_get es k ≡ Some e → e.number ≡ Some m
     → 1 ≤ total (extent_count m) es
@@ -419,17 +381,6 @@ one_counted m [] k e h number = absurd (cc h)
 one_counted m (x ∷ es) zero e h number =
     let same : x ≡ e = cc h in rw (same, number, eq-eqb m m refl) (omega arith)
 one_counted m (x ∷ es) (suc k) e h number = omega (arith, one_counted m es k e h number)
-
-two_counted : (m : ℕ) (es : List Numbered) (i j : ℕ) (e f : Numbered) → i < j → slice_get es i ≡ Some e
-    → slice_get es j ≡ Some f → e.number ≡ Some m → f.number ≡ Some m → 2 ≤ total (extent_count m) es
-two_counted m [] i j e f less h k p q = absurd (cc h)
-two_counted m (x ∷ es) i zero e f less h k p q = absurd (omega (arith, less))
-two_counted m (x ∷ es) zero (suc j) e f less h k p q =
-    let same : x ≡ e = cc h in
-    let behind = one_counted m es j f k q in
-    rw (same, p, eq-eqb m m refl) (omega (arith, behind))
-two_counted m (x ∷ es) (suc i) (suc j) e f less h k p q =
-    omega (arith, two_counted m es i j e f (omega (arith, less)) h k p q)
 
 pub record IsFound (located : List Numbered) (m : ℕ) : Type 0 where
   pub e : Numbered
@@ -462,33 +413,24 @@ find_place located m (Some index) is h =
       number = number_is m (get_or located index d).number at.1;
     }
 
-pub found : (g : GraphParts) (segments : List JoinedSegment) (located : List Numbered) → IsWhole g segments located
-    → (m : ℕ) → m < length segments → IsFound located m
-found g segments located h m below = find_place located m (position (is_number m) located) refl (h.once m below)
+pub found : (g : GraphParts) (js : List JoinedSegment) (located : List Numbered) → IsWhole g js located
+    → (m : ℕ) → m < length js → IsFound located m
+found g js located h m below = find_place located m (position (is_number m) located) refl (h.once m below)
 
-pub only : (located : List Numbered) (m i j : ℕ) (e f : Numbered) → total (extent_count m) located ≡ 1
-    → slice_get located i ≡ Some e → slice_get located j ≡ Some f → e.number ≡ Some m → f.number ≡ Some m → i ≡ j
-only located m i j e f once h k p q = elim (cases_order i j) [
-  | inl same ↦ same
-  | inr rest ↦ elim rest [
-    | inl less ↦ absurd (omega (arith, once, two_counted m located i j e f less h k p q))
-    | inr less ↦ absurd (omega (arith, once, two_counted m located j i f e less k h q p))
-  ]
-]
+pub only : (m : ℕ) (es : List Numbered) (i j : ℕ) (e f : Numbered) → total (extent_count m) es ≤ 1
+    → slice_get es i ≡ Some e → slice_get es j ≡ Some f → e.number ≡ Some m → f.number ≡ Some m → i ≡ j
+only m [] i j e f once h k p q = absurd (cc h)
+only m (x ∷ es) zero zero e f once h k p q = refl
+only m (x ∷ es) zero (suc j) e f once h k p q =
+    absurd (omega (arith, once, one_counted m (x ∷ []) 0 e h p, one_counted m es j f k q))
+only m (x ∷ es) (suc i) zero e f once h k p q =
+    absurd (omega (arith, once, one_counted m (x ∷ []) 0 f k q, one_counted m es i e h p))
+only m (x ∷ es) (suc i) (suc j) e f once h k p q = omega (arith, only m es i j e f (omega (arith, once)) h k p q)
 
 -- each is numbered as the graph's owners are
-pub numbered : (segments : List JoinedSegment) (controls : List (ℕ × Control)) (g : GraphParts) (es : List Numbered)
-    → IsOf segments controls g → Every (IsSpot g segments) es → All (IsNumbered g) es
-numbered segments controls g es is spots = every_all (IsNumbered g) es
-    (every_weaker _ (IsNumbered g) es (λ e spot. record {
-      inside = λ n at. let of = spot.numbered n at in
-          omega (arith, slice_get_within segments n of.j of.is, as_many_own segments controls g is);
-    }) spots)
-
--- what is placed for valid modules over their graph is their whole program
-pub placed_whole : (modules : List ModuleParts) (controls : List (ℕ × Control)) (g : GraphParts)
-    (located : List Numbered) → graph_of modules controls ≡ Ok g → All IsValid modules → AreResolved modules
-    → AreKept controls → located_of modules controls g ≡ Ok located → IsWhole g (segments_of modules) located
-placed_whole modules controls g located is valid resolved kept h =
-    whole modules controls g located (graph_is modules controls g is)
-    (all_joined modules valid) kept resolved.few_segments h
+pub numbered : {js : List JoinedSegment} {controls : List (ℕ × Control)} {g : GraphParts} (es : List Numbered)
+    → IsOf js controls g → Every (IsSpot g js) es → All (IsNumbered g) es
+numbered es is spots = every_all _ es (every_weaker _ (IsNumbered _) es (λ e spot. record {
+  inside = λ n at. let of = spot.numbered n at in
+      omega (arith, slice_get_within _ n of.j of.is, as_many_own _ _ _ is);
+}) spots)

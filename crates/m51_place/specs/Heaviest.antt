@@ -1,7 +1,6 @@
 -- Of the code: how the heaviest walks are found, for each unit one number, the bytes of the heaviest walk from it.
-use Rattle.std.specs.Prelude.{◌≡◌, ◌≢◌, ℕ, ◌+◌, ◌<◌, ◌≤◌, Bool, true, false, nat_lt, if◌then◌else◌, List, [], ◌∷◌}
-use Rattle.std.specs.Prelude.{◌++◌, length, sum, slice_index, slice_set, Option, Some, None}
-use Rattle.std.specs.List.{Contains}
+use Rattle.std.specs.Prelude.{◌≡◌, ◌≢◌, ℕ, ◌+◌, ◌<◌, ◌≤◌, Bool, true, false, ◌&&◌, nat_eq, nat_lt, List, []}
+use Rattle.std.specs.Prelude.{◌∷◌, if◌then◌else◌, ◌++◌, length, sum, slice_index, slice_set, Option, Some, None}
 use Rattle.m51_module.specs.declared.parts.LayoutParts.{LayoutParts}
 use Rattle.m51_module.specs.Chains.{weight_along, weight_of}
 use Rattle.m51_module.specs.Walks.{Edges, HasEdge, IsWalk}
@@ -38,6 +37,14 @@ pub record AreBest (l : LayoutParts) (best : List ℕ) : Type 0 where
   pub reached : AreReached l best
   pub top : AreTop l l.edges best
 
+-- what is known where one unit is lifted along an edge
+pub record HasRoom (l : LayoutParts) (weights best : List ℕ) (from to : ℕ) : Type 0 where
+  pub in_weights : from < length weights
+  pub from_in : from < length best
+  pub to_in : to < length best
+  pub weight : slice_index weights from ≡ weight_of l from
+  pub most : weight_of l from + slice_index best to ≤ 256
+
 -- one number rises to the bytes of the walk along an edge, unless it has as many
 abbrev pub Lifts : LayoutParts → ℕ → ℕ → List ℕ → List ℕ → Bool → Type 0
 Lifts l u v old new true =
@@ -60,21 +67,20 @@ FollowsHeaviest l best u (v ∷ more) = (slice_index best u ≢ weight_of l u) �
 
 -- the edge leads from the unit to one whose heaviest walk has, with the bytes of the unit, as many bytes as that from
 -- the unit
-pub record LeadsOn (weights best : List ℕ) (unit : ℕ) (edge : ℕ × ℕ) : Type 0 where
-  pub from : edge.0 ≡ unit
-  pub rest : slice_index weights unit + slice_index best edge.1 ≡ slice_index best unit
+abbrev pub leads_on : List ℕ → List ℕ → ℕ → ℕ × ℕ → Bool
+leads_on weights best unit edge =
+    nat_eq edge.0 unit && nat_eq (slice_index weights unit + slice_index best edge.1) (slice_index best unit)
 
 -- the lesser of a unit and the one that was found
 abbrev pub lesser : Option ℕ → ℕ → ℕ
 lesser None unit = unit
 lesser (Some other) unit = if nat_lt other unit then other else unit
 
--- of the first of the edges, the least unit that leads on
-abbrev pub IsLeastOn : Edges → List ℕ → List ℕ → ℕ → Option ℕ → Type 0
-IsLeastOn done weights best unit None = (edge : ℕ × ℕ) → Contains done edge → LeadsOn weights best unit edge → ⊥
-IsLeastOn done weights best unit (Some v) =
-    Contains done (unit, v) × LeadsOn weights best unit (unit, v)
-    × ((w : ℕ) → Contains done (unit, w) → LeadsOn weights best unit (unit, w) → v ≤ w)
+-- the least of the unit that was found and of those to which the edges that pass lead
+abbrev pub least_of : (ℕ × ℕ → Bool) → Option ℕ → Edges → Option ℕ
+least_of passes found [] = found
+least_of passes found (edge ∷ more) =
+    least_of passes (if passes edge then Some (lesser found edge.1) else found) more
 
 -- the walk ends in the unit, or continues to the next
 abbrev pub Steps : LayoutParts → List ℕ → ℕ → Option ℕ → Type 0

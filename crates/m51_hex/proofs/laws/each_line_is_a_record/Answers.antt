@@ -1,4 +1,4 @@
-use Rattle.m51_hex.proofs.AcceptedLines.{read_is_text}
+use Rattle.m51_hex.proofs.RecordLaws.{read_is_text}
 use Rattle.m51_hex.proofs.RecordLaws.{text_is_read}
 use Rattle.m51_hex.proofs.laws.each_line_is_a_record.Goals as goal
 

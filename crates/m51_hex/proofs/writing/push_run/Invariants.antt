@@ -1,5 +1,5 @@
 use Rattle.std.proofs.Common.{◌≡◌, ◌++◌}
-use Rattle.m51_hex.proofs.RunLines.{first_lines}
+use Rattle.m51_hex.proofs.Spelling.{first_lines}
 use Rattle.m51_hex.proofs.writing.push_run.Given as goal
 
 abbrev pub invariant-loop-number : goal.invariant-loop-number

@@ -1,64 +1,44 @@
-use Rattle.m51_monitor.proofs.Common.{◌≡◌, ◌<◌, ◌≤◌, ◌-◌, length, sym, ap, ◌∙◌, arith, slice_index, common_steps}
-use Rattle.m51_monitor.proofs.Common.{length-set}
-use Rattle.m51_monitor.proofs.Holding.{left, left_some, none_left, one_less}
+use Rattle.m51_monitor.proofs.Common.{◌≡◌, ◌<◌, length, ap, ◌∙◌, arith, slice_index, common_steps}
+use Rattle.m51_monitor.proofs.Entering.{left, left_step, none_left, one_same}
 use Rattle.m51_monitor.proofs.Placing.{item_is}
 use Rattle.m51_monitor.proofs.activity.count_less.Goals as goal
 
-pub bounds-holders-from : goal.bounds-holders-from
-bounds-holders-from c =
-    let locals = c.args.locals.now in
-    let now = c.loop-index.holders in
-    let index = c.loop-index.index in
-    let inside : index < length locals = grind (arith, common_steps) in
-    let below : slice_index locals index < length now =
-    rw c.loop-index.invariant.len (item_is locals (length c.args.holders.now) index c.requires.inside inside) in
-    rw c.from.ensures below
+pub take_one-requires-clause-inside : goal.take_one-requires-clause-inside
+take_one-requires-clause-inside c = rw c.loop-index.invariant.len
+    (item_is c.args.locals.now (length c.args.holders.now) c.loop-index.index c.requires.inside
+    (grind (arith, common_steps)))
 
-pub bounds-holders-from-in-loop-index : goal.bounds-holders-from-in-loop-index
-bounds-holders-from-in-loop-index c =
-    let locals = c.args.locals.now in
-    let now = c.loop-index.holders in
+pub take_one-requires-clause-some : goal.take_one-requires-clause-some
+take_one-requires-clause-some c =
     let index = c.loop-index.index in
-    let inside : index < length locals = grind (arith, common_steps) in
-    let below : slice_index locals index < length now =
-    rw c.loop-index.invariant.len (item_is locals (length c.args.holders.now) index c.requires.inside inside) in
-    rw c.from.ensures below
-
-pub overflow_sub-holders : goal.overflow_sub-holders
-overflow_sub-holders c =
     let locals = c.args.locals.now in
-    let now = c.loop-index.holders in
-    let index = c.loop-index.index in
+    let s = slice_index locals index in
     let inside : index < length locals = grind (arith, common_steps) in
-    let below : slice_index locals index < length now =
-    rw c.loop-index.invariant.len (item_is locals (length c.args.holders.now) index c.requires.inside inside) in
-    let held = c.requires.some (slice_index locals index) (rw (sym c.loop-index.invariant.len) below) in
-    let all = c.loop-index.invariant.number (slice_index locals index) in
-    let left_one = left_some locals index inside in
-    let some : 1 ≤ slice_index now (slice_index locals index) = omega (arith, held, all, left_one) in
-    rw c.from.ensures some
+    omega (
+      arith,
+      c.requires.some s (item_is locals (length c.args.holders.now) index c.requires.inside inside),
+      c.loop-index.invariant.number s,
+      left_step locals index s inside,
+      one_same s,
+    )
 
 pub loop-index-preserved : goal.loop-index-preserved
-loop-index-preserved c =
-    let locals = c.args.locals.now in
-    let now = c.loop-index.holders in
-    let index = c.loop-index.index in
-    let inside : index < length locals = grind (arith, common_steps) in
-    let below : slice_index locals index < length now =
-    rw c.loop-index.invariant.len (item_is locals (length c.args.holders.now) index c.requires.inside inside) in
-    let held = c.requires.some (slice_index locals index) (rw (sym c.loop-index.invariant.len) below) in
-    let all = c.loop-index.invariant.number (slice_index locals index) in
-    let left_one = left_some locals index inside in
-    let some : 1 ≤ slice_index now (slice_index locals index) = omega (arith, held, all, left_one) in
-    rw c.from.ensures (record {
-      len = length-set now (slice_index locals index) (slice_index now (slice_index locals index) - 1)
-          ∙ c.loop-index.invariant.len;
-      number = one_less locals now c.args.holders.now index inside below some c.loop-index.invariant.number;
-    })
+loop-index-preserved c = record {
+  len = c.take_one.ensures.len ∙ c.loop-index.invariant.len;
+  number = λ t. omega (
+    arith,
+    c.take_one.ensures.number t,
+    c.loop-index.invariant.number t,
+    left_step c.args.locals.now c.loop-index.index t (grind (arith, common_steps)),
+  );
+}
 
 pub returns-clause-number : goal.returns-clause-number
 returns-clause-number c = λ t.
     let all : c.loop-index.index ≡ length c.args.locals.now = grind (arith, common_steps) in
-    let none = ap (λ k. left c.args.locals.now k t) all ∙ none_left c.args.locals.now t in
-    let number = c.loop-index.invariant.number t in
-    omega (arith, none, number)
+    omega (
+      arith,
+      ap (λ k. left c.args.locals.now k t) all,
+      none_left c.args.locals.now t,
+      c.loop-index.invariant.number t,
+    )

@@ -1,5 +1,5 @@
 use Rattle.m51_monitor.proofs.Common.{◌≡◌, ◌+◌, ℕ, length, slice_index, times}
-use Rattle.m51_monitor.proofs.Holding.{left}
+use Rattle.m51_monitor.proofs.Entering.{left}
 use Rattle.m51_monitor.proofs.activity.count_less.Given as goal
 
 abbrev pub invariant-loop-index : goal.invariant-loop-index

@@ -1,5 +1,5 @@
-use Rattle.m51_monitor.proofs.Common.{◌≡◌, length, rules, subst, sym, ◌∙◌, AreHolders}
-use Rattle.m51_monitor.proofs.Holding.{held_less, some_held, whole_row}
+use Rattle.m51_monitor.proofs.Common.{◌≡◌, length, rules, sym, ◌∙◌}
+use Rattle.m51_monitor.proofs.Entering.{held_less, some_held, whole_row}
 use Rattle.m51_monitor.proofs.Placing.{below}
 use Rattle.m51_monitor.proofs.activity.release.Goals as goal
 
@@ -22,6 +22,5 @@ returns c = λ units are.
     let len : length new ≡ length old = rw c.deref_mut.ensures.value at c.count_less.ensures.len in
     let number = rw c.deref_mut.ensures.value at c.count_less.ensures.number in
     let all : c.args.holders.now.len ≡ length old = search rules in
-    subst (λ holders. AreHolders c.args.layout.now units holders)
-    (sym (whole_row c.args.holders.now.len old new (all ∙ sym len)))
-    (held_less c.args.layout.now c.args.unit c.locals.result.now c.locals.ensures units old new are len number)
+    rw (whole_row c.args.holders.now.len old new (all ∙ sym len))
+    (held_less _ _ _ c.locals.ensures units _ _ are len number)

@@ -1,5 +1,5 @@
 use Rattle.m51_monitor.proofs.Finding.{same_root_found}
-use Rattle.m51_monitor.proofs.Topping.{found_root}
+use Rattle.m51_monitor.proofs.Framing.{found_root}
 use Rattle.m51_flat.specs.Vectors.{vector_of}
 use Rattle.m51_monitor.proofs.judging.root_wanted.Goals as goal
 

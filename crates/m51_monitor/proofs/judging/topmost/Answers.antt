@@ -1,5 +1,5 @@
 use Rattle.m51_monitor.proofs.Common.{arith, common_steps}
-use Rattle.m51_monitor.proofs.Topping.{last_split}
+use Rattle.m51_monitor.proofs.Framing.{last_split}
 use Rattle.m51_monitor.proofs.judging.topmost.Goals as goal
 
 pub returns : goal.returns

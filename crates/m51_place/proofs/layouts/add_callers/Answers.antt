@@ -1,10 +1,11 @@
-use Rattle.m51_place.proofs.Common.{◌≡◌, ℕ, ◌+◌, ◌*◌, ◌++◌, Bool, cond, List, [], ◌∷◌, append-nil, filter, map, sym, ap}
-use Rattle.m51_place.proofs.Common.{◌∙◌, range_with_len, edge_test, append_assoc}
+use Rattle.m51_place.proofs.Common.{◌≡◌, ℕ, ◌+◌, ◌++◌, Bool, cond, List, [], ◌∷◌, append-nil, filter, sym, ◌∙◌}
+use Rattle.m51_place.proofs.Common.{range_with_len, edge_test, append_assoc}
 use Rattle.std.proofs.lemmas.List.{map-append}
 use Rattle.m51_place.specs.Placement.{pairs_with}
-use Rattle.m51_place.proofs.Counting.{passing_more}
-use Rattle.m51_place.proofs.layouts.add_callers.Goals as goal
+use Rattle.std.proofs.lemmas.List.Elements.{filter-append}
+use Rattle.m51_cells.proofs.Small.{range_more}
 use Rattle.m51_place.proofs.layouts.add_callers.Goals.{then-is_caller+in_ok-push, else-is_caller}
+use Rattle.m51_place.proofs.layouts.add_callers.Goals as goal
 
 more_pairs : (p : ℕ → Bool) (index count : ℕ) (old now : List (ℕ × ℕ))
     → now ≡ old ++ pairs_with index (filter p (range_with_len 0 count))
@@ -12,11 +13,13 @@ more_pairs : (p : ℕ → Bool) (index count : ℕ) (old now : List (ℕ × ℕ)
     ≡ old ++ pairs_with index (filter p (range_with_len 0 (count + 1)))
 more_pairs p index count old now is =
     let before : List ℕ = filter p (range_with_len 0 count) in
-    let last : List ℕ = cond (p count) (count ∷ []) [] in
-    ap (λ (xs : List (ℕ × ℕ)). xs ++ pairs_with index last) is
-    ∙ append_assoc old (pairs_with index before) (pairs_with index last)
-    ∙ ap (λ (xs : List (ℕ × ℕ)). old ++ xs)
-    (sym (map-append (λ unit. (index, unit)) before last) ∙ ap (pairs_with index) (sym (passing_more p count)))
+    rw (
+      is,
+      range_more count,
+      filter-append p (range_with_len 0 count) (count ∷ []),
+      map-append {B = ℕ × ℕ} (λ unit. (index, unit)) before (cond (p count) (count ∷ []) []),
+      append_assoc,
+    )
 
 pub loop-caller-preserved : goal.loop-caller-preserved
 loop-caller-preserved c =

@@ -17,7 +17,7 @@ parts_of_layout-requires-clause-numbered c =
     let all = placed_whole _ _ _ _ c.requires c.modules.ensures.valid c.modules.ensures.resolved c.lines.ensures.kept
     c.in_ok-located.ensures in
     rw c.deref-2.ensures.value
-    (numbered _ c.args.controls.now _ _ (graph_is c.args.joined.now c.args.controls.now _ c.requires) all.spots)
+    (numbered _ (graph_is c.args.joined.now c.args.controls.now _ c.requires) all.spots)
 
 pub make-requires : goal.make-requires
 make-requires c =

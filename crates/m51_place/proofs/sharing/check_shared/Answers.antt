@@ -1,8 +1,27 @@
-use Rattle.m51_place.proofs.Common.{◌≡◌, Err, take, ap, ◌∙◌, Numbered}
+use Rattle.m51_place.proofs.Common.{◌≡◌, ℕ, ◌+◌, ◌<◌, List, [], ◌∷◌, ◌++◌, length, drop, take, get_or, Option, Err, sym}
+use Rattle.m51_place.proofs.Common.{ap, ◌∙◌, arith, Refusal, drop_rest, Numbered, first_met, shared_at, shared_after}
+use Rattle.m51_place.proofs.Common.{shared_extents}
+use Rattle.std.specs.Option.{option_or}
 use Rattle.std.proofs.lemmas.Result.{err_from_is_err_and}
 use Rattle.m51_graph.specs.Graphs.{passed}
-use Rattle.m51_place.proofs.Meetings.{next_rule, refused_here}
 use Rattle.m51_place.proofs.sharing.check_shared.Goals as goal
+
+-- what an extent answers for itself
+abbrev next_rule : List Numbered → Numbered → Option Refusal
+next_rule earlier e = shared_at earlier e (first_met earlier e)
+
+refused_first : (rule rest : Option Refusal) (e : Refusal) → Err e ≡ passed rule → Err e ≡ passed (option_or rule rest)
+refused_first rule rest e h = grind arith
+
+-- what the next extent refuses is refused
+refused_here : (fixed : List Numbered) (i : ℕ) (d : Numbered) (e : Refusal) → i < length fixed
+    → shared_after (take i fixed) (drop i fixed) ≡ shared_extents fixed → Err e
+    ≡ passed (next_rule (take i fixed) (get_or fixed i d)) → Err e ≡ passed (shared_extents fixed)
+refused_here fixed i d e below whole h =
+    refused_first (next_rule (take i fixed) (get_or fixed i d))
+    (shared_after (take i fixed ++ get_or fixed i d ∷ []) (drop (i + 1) fixed)) e h
+    ∙ ap passed
+    (sym (ap (λ (rest : List Numbered). shared_after (take i fixed) rest) (drop_rest fixed i d below)) ∙ whole)
 
 pub returns-in_err-check_next : goal.returns-in_err-check_next
 returns-in_err-check_next c =

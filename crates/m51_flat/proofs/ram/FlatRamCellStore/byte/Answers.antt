@@ -2,7 +2,7 @@ use Rattle.m51_flat.proofs.Common.{◌≡◌, ◌<◌, rules, sym, ap, subst, �
 use Rattle.m51_flat.proofs.Common.{flat_cells}
 use Rattle.std.proofs.lemmas.Grind.{common_steps}
 use Rattle.m51_flat.specs.States.{byte_seen}
-use Rattle.m51_flat.proofs.Bytes.{flat_byte}
+use Rattle.m51_flat.proofs.BitLaws.{flat_byte}
 use Rattle.m51_flat.proofs.ram.FlatRamCellStore.byte.Goals as goal
 
 pub returns : goal.returns

@@ -1,6 +1,6 @@
 use Rattle.m51_flat.proofs.Common.{◌≡◌, ◌<◌, ◌+◌, ◌/◌, rules, arith, length, slice_index}
 use Rattle.std.proofs.lemmas.Grind.{common_steps}
-use Rattle.m51_flat.proofs.Bytes.{flat_bit}
+use Rattle.m51_flat.proofs.BitLaws.{flat_bit}
 use Rattle.m51_flat.proofs.ram.FlatRamCellStore.put.Goals as goal
 
 pub returns-in-Bit-clause-cells : goal.returns-in-Bit-clause-cells

@@ -1,13 +1,6 @@
 use Rattle.m51_monitor.proofs.Common.{◌≡◌, ◌<◌, length, sym, ◌∙◌, arith, slice_index, common_steps, eqb-true}
-use Rattle.m51_monitor.proofs.FlagBytes.{length_flags, full_byte}
+use Rattle.m51_monitor.proofs.Marks.{length_flags, full_byte}
 use Rattle.m51_monitor.proofs.bits.Flags.are_set.Goals as goal
-
-pub index-requires : goal.index-requires
-index-requires c =
-    let bytes = c.self.inside.bytes.items in
-    let flags = rw (← c.self.view_is) at c.requires in
-    let inside : c.args.byte < length bytes = omega (arith, flags, length_flags bytes) in
-    grind (arith, common_steps, inside)
 
 pub returns : goal.returns
 returns c = λ set.

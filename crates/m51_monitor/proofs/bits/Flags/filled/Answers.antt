@@ -1,5 +1,5 @@
 use Rattle.m51_monitor.proofs.Common.{◌*◌, ap, ◌∙◌}
-use Rattle.m51_monitor.proofs.FlagBytes.{length_flags, all_filled}
+use Rattle.m51_monitor.proofs.Marks.{length_flags, all_filled}
 use Rattle.m51_monitor.proofs.bits.Flags.filled.Goals as goal
 
 pub returns-clause-len : goal.returns-clause-len

@@ -1,20 +1,6 @@
 use Rattle.m51_monitor.proofs.Common.{◌≡◌, ◌/◌, ◌<◌, length, arith, slice_index, common_steps}
-use Rattle.m51_monitor.proofs.FlagBytes.{length_flags, bit_set}
+use Rattle.m51_monitor.proofs.Marks.{length_flags, bit_set}
 use Rattle.m51_monitor.proofs.bits.Flags.set.Goals as goal
-
-pub index-byte-requires : goal.index-byte-requires
-index-byte-requires c =
-    let bytes = c.self.inside.bytes.items in
-    let flags = rw (← c.self.view_is) at c.requires in
-    let inside : c.args.index / 8 < length bytes = omega (arith, flags, length_flags bytes) in
-    grind (arith, common_steps, inside)
-
-pub index_mut-requires : goal.index_mut-requires
-index_mut-requires c =
-    let bytes = c.self.inside.bytes.items in
-    let flags = rw (← c.self.view_is) at c.requires in
-    let inside : c.args.index / 8 < length bytes = omega (arith, flags, length_flags bytes) in
-    grind (arith, common_steps, inside)
 
 pub returns : goal.returns
 returns c =

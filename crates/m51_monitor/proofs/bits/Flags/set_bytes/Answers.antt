@@ -1,5 +1,5 @@
 use Rattle.m51_monitor.proofs.Common.{◌≤◌, length, arith, common_steps}
-use Rattle.m51_monitor.proofs.FlagBytes.{length_flags, bytes_set}
+use Rattle.m51_monitor.proofs.Marks.{length_flags, bytes_set}
 use Rattle.m51_monitor.proofs.bits.Flags.set_bytes.Goals as goal
 
 pub fill_bytes-requires : goal.fill_bytes-requires

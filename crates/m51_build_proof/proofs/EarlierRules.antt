@@ -1,34 +1,50 @@
--- The line of L12 comes only where the build comes as far as placing: no earlier step has it.
-use Rattle.m51_build_proof.proofs.Common.{◌≡◌, ℕ, ◌+◌, Bool, cond, List, [], ◌∷◌, length, Option, Some, None, Result}
-use Rattle.m51_build_proof.proofs.Common.{Ok, Err, refl, sym, ap, subst, ◌∙◌, option_map, list_any, option_or}
-use Rattle.m51_build_proof.proofs.Common.{same_Some, and_then, Control, Refusal, L1, L2, L3, L4, L5, L6, L7, L12}
-use Rattle.m51_build_proof.proofs.Common.{ModuleParts, chosen_of, members_of, segments_of, first_refusal, resolved_of}
-use Rattle.m51_build_proof.proofs.Common.{unless_refused, GraphParts, graph_of, unless, leads, refusal_text, joined_of}
-use Rattle.m51_build_proof.proofs.Common.{placed_of, InputError, InputsTree, BuildJob, build_files, input_outcome}
-use Rattle.m51_build_proof.proofs.Common.{Follows, IsInputsOutcome, IsProgramOutcome, Unlinked, program_in, Outcome}
-use Rattle.m51_build_proof.proofs.Common.{AreAnswered, Given, IsGivenOutcome, Refused, IsReport, AreOfBytes, arith}
-use Rattle.std.proofs.Common.{nat_eq}
+-- The line of L12 comes only where the build comes as far as placing: no other refusal and no earlier step has it.
+use Rattle.m51_build_proof.proofs.Common.{Refusal, L1, L2, L3, L4, L5, L6, L7, L12, option_or, same_Some, and_then}
+use Rattle.m51_build_proof.proofs.Common.{Control, ModuleParts, segments_of, GraphParts, graph_of, unless, leads}
+use Rattle.m51_build_proof.proofs.Common.{InputError, InputsTree, BuildJob, build_files, Outcome}
+use Rattle.std.proofs.Common.{◌≡◌, ℕ, false, ◌++◌, List, codes, refl, sym, ap, ◌∙◌, ◌+◌, Bool, cond, [], ◌∷◌, length}
+use Rattle.std.proofs.Common.{Option, Some, None, Result, Ok, Err, arith, ◌⊎◌, inl, inr, nat_eq, take}
+use Rattle.std.proofs.lemmas.Bool.{false≢true}
+use Rattle.m51_print.specs.Refusals.{refusal_text, after_blank}
+use Rattle.std.specs.Prelude.{option_map}
+use Rattle.std.specs.List.{list_any}
+use Rattle.m51_resolve.specs.Choice.{chosen_of, members_of}
+use Rattle.m51_resolve.specs.Rules.{first_refusal, resolved_of, unless_refused, contrary_external, large_segment}
+use Rattle.m51_resolve.specs.Rules.{mixed_segment, more_than, shared_public, undefined_external, joined_units}
+use Rattle.m51_linker.specs.Link.{joined_of, placed_of}
+use Rattle.m51_chain.specs.Linking.{Follows, IsInputsOutcome, Unlinked, program_in}
+use Rattle.m51_chain.specs.ProgramFiles.{AreAnswered, Given, IsGivenOutcome, Refused}
+use Rattle.m51_chain.specs.Programs.{IsReport}
+use Rattle.m51_build_proof.specs.Builds.{AreOfBytes}
+use Rattle.std.specs.Str.{bytes_eq}
+use Rattle.std.proofs.lemmas.Slice.Eq.{bytes_eq-Decides}
+use Rattle.std.proofs.lemmas.List.{append_cancel_left, append_cancel_right}
+use Rattle.m51_module.specs.declared.linked.Refusal.TheVariants.{L8}
 use Rattle.m51_cells.specs.declared.limits.TheConstants.{MOST_MODULES, MOST_SEGMENTS, MOST_UNITS}
-use Rattle.m51_control.specs.declared.error.ControlError.TheVariants as control
-use Rattle.m51_module.specs.declared.library_error.LibError.TheVariants as library
 use Rattle.m51_module.specs.declared.linked.Quantity.{Quantity}
 use Rattle.m51_module.specs.declared.linked.Quantity.TheVariants.{Modules, Segments, Units}
-use Rattle.m51_module.specs.declared.linked.Refusal.TheVariants.{L8}
-use Rattle.m51_resolve.specs.Rules.{contrary_external, large_segment, mixed_segment, more_than, shared_public}
-use Rattle.m51_resolve.specs.Rules.{undefined_external, joined_units}
 use Rattle.m51_graph.specs.Drawing.{edges_of, fixup_edges}
 use Rattle.m51_graph.specs.Graphs.{cyclic_from, first_under_two, has_overlaid, on_cycles, parts_of, roots_above}
 use Rattle.m51_graph.specs.Graphs.{under_two}
 use Rattle.m51_graph.specs.Lines.{bad_line}
 use Rattle.m51_graph.specs.Locals.{lost_segment}
 use Rattle.m51_graph.specs.Units.{unit_titles}
-use Rattle.m51_inputs.specs.declared.error.InputError.TheVariants as input
-use Rattle.m51_script.specs.declared.error.ScriptError.TheVariants as script
 use Rattle.m51_sim.specs.Report.{report_of}
 use Rattle.m51_chain.specs.declared.status.Status.TheVariants.{Link}
 use Rattle.m51_build_proof.specs.Overlay.{ComesToPlacing, L12OnlyAtPlacing}
-use Rattle.m51_build_proof.proofs.Outcomes.{not_link}
-use Rattle.m51_build_proof.proofs.RefusalLines.{line_of_l12}
+use Rattle.m51_build_proof.proofs.Verdicts.{IsOf, not_link, not_link_of_files}
+
+-- two texts that differ in the first eight bytes
+apart : {one two : List ℕ} → one ≡ two → bytes_eq (take 8 one) (take 8 two) ≡ false → ⊥
+apart same differs = false≢true (sym differs ∙ (bytes_eq-Decides _ _).1 (ap (take 8) same))
+
+pub line_of_l12 : (why : Refusal) (name : List ℕ) → refusal_text why ≡ refusal_text (L12 name) → why ≡ L12 name
+line_of_l12 (L12 other) name h =
+    let words = append_cancel_right (codes "LINK L12" ++ after_blank other) (codes "LINK L12" ++ after_blank name)
+    (codes "\n") h in
+    let names = append_cancel_left (codes "LINK L12") (after_blank other) (after_blank name) words in
+    ap L12 (append_cancel_left (codes " ") other name names)
+line_of_l12 other name h = absurd (apart h refl)
 
 module _ (name : List ℕ) where
   -- a rule is not L12, nor are those after it
@@ -102,66 +118,34 @@ module _ (name : List ℕ) where
     chosen : resolved_of inputs.modules inputs.libraries ≡ Ok modules
     graph : graph_of modules inputs.controls ≡ Ok g
 
-  by_graph : (inputs : InputsTree) (modules : List ModuleParts) (found : Result GraphParts Refusal)
-      → resolved_of inputs.modules inputs.libraries ≡ Ok modules
-      → graph_of modules inputs.controls ≡ found → and_then found (placed_of modules inputs.controls) ≡ Err (L12 name)
-      → IsDrawn inputs
-  by_graph inputs modules (Ok g) chosen is h = record { modules = modules; g = g; chosen = chosen; graph = is }
-  by_graph inputs modules (Err refusal) chosen is h =
-      let same : refusal ≡ L12 name = cc h in
-      absurd (not_drawn modules inputs.controls (rw same at is))
-
   not_answered : (chosen : List ModuleParts) (rule : Option Refusal) → first_refusal chosen ≡ rule
       → unless_refused chosen rule ≡ Err (L12 name) → ⊥
   not_answered chosen None is h = absurd (cc h)
   not_answered chosen (Some refusal) is h = let same : refusal ≡ L12 name = cc h in
       not_chosen chosen (rw same at is)
 
-  by_choice : (inputs : InputsTree) (found : Result (List ModuleParts) Refusal)
-      → resolved_of inputs.modules inputs.libraries ≡ found
-      → and_then found (joined_of inputs.controls) ≡ Err (L12 name) → IsDrawn inputs
-  by_choice inputs (Ok modules) is h = by_graph inputs modules (graph_of modules inputs.controls) is refl h
-  by_choice inputs (Err refusal) is h =
-      let same : refusal ≡ L12 name = cc h in
-      let chosen : List ModuleParts = chosen_of inputs.modules (members_of inputs.libraries) in
-      absurd (not_answered chosen (first_refusal chosen) refl (rw same at is))
+  -- the first of two steps has the error, or else the second
+  either_step : {A B : Type 0} (first : Result A Refusal) (next : A → Result B Refusal)
+      → and_then first next ≡ Err (L12 name)
+      → (first ≡ Err (L12 name)) ⊎ ((value : A) × (first ≡ Ok value) × (next value ≡ Err (L12 name)))
+  either_step (Ok value) next h = inr (value, refl, h)
+  either_step (Err refusal) next h = let same : refusal ≡ L12 name = cc h in inl (rw same refl)
 
   is_drawn : (inputs : InputsTree) → program_in inputs ≡ Err (L12 name) → IsDrawn inputs
-  is_drawn inputs h = by_choice inputs (resolved_of inputs.modules inputs.libraries) refl h
-
--- refused files have other statuses
-not_of_files : (files : List (List ℕ)) (error : InputError) (outcome : Outcome) → outcome ≡ input_outcome files error
-    → outcome.status ≡ Link → ⊥
-not_of_files files (input.Sources faulty) outcome is h = cc (ap (λ (o : Outcome). o.status) (sym is) ∙ h)
-not_of_files files (input.Object word error) outcome is h = cc (ap (λ (o : Outcome). o.status) (sym is) ∙ h)
-not_of_files files (input.Library word (library.B1 name)) outcome is h =
-    cc (ap (λ (o : Outcome). o.status) (sym is) ∙ h)
-not_of_files files (input.Library word (library.B2 name)) outcome is h =
-    cc (ap (λ (o : Outcome). o.status) (sym is) ∙ h)
-not_of_files files (input.Library word (library.B3 name)) outcome is h =
-    cc (ap (λ (o : Outcome). o.status) (sym is) ∙ h)
-not_of_files files (input.Library word (library.Object error)) outcome is h =
-    cc (ap (λ (o : Outcome). o.status) (sym is) ∙ h)
-not_of_files files (input.Library word library.Full) outcome is h = cc (ap (λ (o : Outcome). o.status) (sym is) ∙ h)
-not_of_files files (input.Library word library.Memory) outcome is h = cc (ap (λ (o : Outcome). o.status) (sym is) ∙ h)
-not_of_files files (input.Control (control.C1 line)) outcome is h = cc (ap (λ (o : Outcome). o.status) (sym is) ∙ h)
-not_of_files files (input.Control control.Limit) outcome is h = cc (ap (λ (o : Outcome). o.status) (sym is) ∙ h)
-not_of_files files (input.Control control.Memory) outcome is h = cc (ap (λ (o : Outcome). o.status) (sym is) ∙ h)
-not_of_files files (input.Script (script.S1 line)) outcome is h = cc (ap (λ (o : Outcome). o.status) (sym is) ∙ h)
-not_of_files files (input.Script (script.S2 line)) outcome is h = cc (ap (λ (o : Outcome). o.status) (sym is) ∙ h)
-not_of_files files (input.Script (script.S3 line)) outcome is h = cc (ap (λ (o : Outcome). o.status) (sym is) ∙ h)
-not_of_files files (input.Script script.Limit) outcome is h = cc (ap (λ (o : Outcome). o.status) (sym is) ∙ h)
-not_of_files files (input.Script script.Memory) outcome is h = cc (ap (λ (o : Outcome). o.status) (sym is) ∙ h)
-not_of_files files input.Memory outcome is h = cc (ap (λ (o : Outcome). o.status) (sym is) ∙ h)
+  is_drawn inputs h = elim (either_step (resolved_of inputs.modules inputs.libraries) (joined_of inputs.controls) h) [
+    | inl e ↦
+        let chosen : List ModuleParts = chosen_of inputs.modules (members_of inputs.libraries) in
+        absurd (not_answered chosen (first_refusal chosen) refl e)
+    | inr c ↦ elim (either_step (graph_of c.0 inputs.controls) (placed_of c.0 inputs.controls) c.2) [
+      | inl e ↦ absurd (not_drawn c.0 inputs.controls e)
+      | inr g ↦ record { modules = c.0; g = g.0; chosen = c.1; graph = g.1 }
+    ]
+  ]
 
 module _ (job : BuildJob) (contents : List (List ℕ)) (outcome : Outcome) (name : List ℕ) (bytes : AreOfBytes contents)
     (status : outcome.status ≡ Link)
     (text : outcome.text ≡ refusal_text (L12 name)) where
-  abbrev Reported : InputsTree → Type 0
-  Reported inputs = IsProgramOutcome (program_in inputs) (λ linked. IsReport linked job.hex inputs.script job.steps)
-      outcome
-
-  of_program : (inputs : InputsTree) → AreAnswered (build_files job) contents (Ok inputs) → Reported inputs
+  of_program : (inputs : InputsTree) → AreAnswered (build_files job) contents (Ok inputs) → IsOf job inputs outcome
       → ComesToPlacing job contents
   of_program inputs read (Unlinked why is one) =
       let why_is : why ≡ L12 name = line_of_l12 why name (sym (ap (λ (o : Outcome). o.text) one) ∙ text) in
@@ -186,10 +170,9 @@ module _ (job : BuildJob) (contents : List (List ℕ)) (outcome : Outcome) (name
   of_files : (given : Result InputsTree InputError) → AreAnswered (build_files job) contents given
       → IsGivenOutcome (build_files job) (IsInputsOutcome (λ script linked. IsReport linked job.hex script job.steps))
       given outcome → ComesToPlacing job contents
-  of_files given answer (Refused error is one) = absurd (not_of_files job.files error outcome one status)
+  of_files given answer (Refused error is one) = absurd (not_link_of_files job.files error outcome one status)
   of_files given answer (Given inputs is comes) =
-      of_program inputs (subst (λ (x : Result InputsTree InputError). AreAnswered (build_files job) contents x) is
-      answer) comes
+      of_program inputs (rw is at answer) comes
 
 pub l12_only_at_placing : L12OnlyAtPlacing
 l12_only_at_placing job contents outcome name bytes h status text =

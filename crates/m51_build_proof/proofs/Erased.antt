@@ -1,31 +1,29 @@
 -- The image of a linked program is erased outside its runs: a field lies only where there is content.
-use Rattle.m51_build_proof.proofs.Common.{◌≡◌, ◌⊎◌, inl, inr, ℕ, zero, suc, ◌+◌, ◌-◌, ◌<◌, ◌≤◌, true, ◌||◌, List, []}
-use Rattle.m51_build_proof.proofs.Common.{◌∷◌, ◌++◌, length, map, Option, Some, None, refl, ap, ◌∙◌, arith, option_map}
-use Rattle.m51_build_proof.proofs.Common.{slice_get, unwrap_or, All, flat_map, range_with_len, option_map_or, option_or}
-use Rattle.m51_build_proof.proofs.Common.{leb-true, All-head, All-tail, IsImage, byte_at, content_of, byte_among, Piece}
-use Rattle.m51_build_proof.proofs.Common.{ModuleParts, IsValid, Placing, Bool, false, cond, ◌&&◌}
+use Rattle.m51_build_proof.proofs.Common.{option_map_or, option_or, ModuleParts, Placing}
+use Rattle.std.proofs.Common.{◌≡◌, ◌⊎◌, inl, inr, ℕ, zero, suc, ◌+◌, ◌-◌, ◌<◌, ◌≤◌, true, ◌||◌, List, [], ◌∷◌, ◌++◌}
+use Rattle.std.proofs.Common.{length, map, Option, Some, None, refl, ap, ◌∙◌, arith, Bool, false, cond, ◌&&◌, get_or}
+use Rattle.std.specs.Prelude.{option_map, slice_get, unwrap_or, is_some, nat_le, nat_lt}
+use Rattle.std.specs.List.{All, flat_map, range_with_len, Contains, cons_option, filter_map}
+use Rattle.std.proofs.lemmas.Bool.{leb-true, le-leb, lt-ltb}
+use Rattle.std.proofs.lemmas.List.Elements.{All-head, All-tail, All-get_or}
+use Rattle.m51_linker.specs.Image.{IsImage, byte_at, content_of, IsFilled, fields_of, fixup_field, module_content}
+use Rattle.m51_linker.specs.Image.{module_fields, placed_field, placed_piece}
+use Rattle.m51_linker.specs.Stretches.{byte_among, Stretch, byte_in, stretch_at}
+use Rattle.m51_module.specs.declared.content.Piece.{Piece}
+use Rattle.m51_module.specs.Validity.{IsValid, IsFixupValid, IsHeld, field_len}
 use Rattle.m51_hex.specs.Writing.{end_of}
-use Rattle.std.proofs.Common.{get_or}
-use Rattle.std.specs.Prelude.{is_some, nat_le, nat_lt}
-use Rattle.std.specs.List.{Contains, cons_option, filter_map}
-use Rattle.std.proofs.lemmas.Bool.{le-leb, lt-ltb}
-use Rattle.std.proofs.lemmas.List.Elements.{All-get_or}
 use Rattle.std.proofs.lemmas.List.Folds.{list_any_at}
 use Rattle.std.proofs.lemmas.Option.{get_or_from_slice_get, slice_get_within}
 use Rattle.m51_cells.proofs.Small.{first_or_after, none_in_empty}
 use Rattle.m51_hex.specs.Laws.{IsErasedOutside, is_in_run, is_in_runs}
 use Rattle.m51_fields.specs.declared.fields.FieldBytes.{FieldBytes}
 use Rattle.m51_fields.specs.Fields.{bytes_of_field, field_of}
-use Rattle.m51_linker.specs.Image.{IsFilled, fields_of, fixup_field, module_content, module_fields, placed_field}
-use Rattle.m51_linker.specs.Image.{placed_piece}
 use Rattle.m51_linker.specs.Runs.{AreRuns, IsInRun}
-use Rattle.m51_linker.specs.Stretches.{Stretch, byte_in, stretch_at}
 use Rattle.m51_linker.specs.Targets.{address_of}
 use Rattle.m51_linker.proofs.RunsGrow.{ends_below}
 use Rattle.m51_module.specs.declared.content.Fixup.{Fixup}
 use Rattle.m51_module.specs.declared.content.Form.{Form}
 use Rattle.m51_module.specs.declared.linked.Run.{Run}
-use Rattle.m51_module.specs.Validity.{IsFixupValid, IsHeld, field_len}
 
 -- the stretch has a byte for the address
 record IsIn (s : Stretch) (address : ℕ) : Type 0 where

@@ -1,38 +1,65 @@
--- Each job has an outcome.
-use Rattle.std.proofs.Common.{◌≡◌, ℕ, suc, ◌+◌, Bool, true, false, cond, List, [], ◌∷◌, length, Option, Result, Ok}
-use Rattle.std.proofs.Common.{Err, refl, ap, subst, sym, ◌∙◌, arith}
-use Rattle.std.specs.Prelude.{count_by}
+-- Each job has an outcome, and a build only one.
+use Rattle.m51_build_proof.proofs.Common.{leads, InputError, InputsTree, one_text, Linked, Refusal, LayoutParts}
+use Rattle.m51_build_proof.proofs.Common.{vectors, segments_of, BuildJob, build_files, input_outcome, link_outcome}
+use Rattle.m51_build_proof.proofs.Common.{Outcome, same_Ok, ModuleParts, Script}
+use Rattle.std.proofs.Common.{◌≡◌, inl, inr, ℕ, zero, suc, ◌+◌, ◌<◌, Bool, true, false, List, [], ◌∷◌, ◌++◌, length}
+use Rattle.std.proofs.Common.{map, Option, None, Result, Ok, Err, refl, sym, ap, subst, ◌∙◌, arith, cond}
+use Rattle.std.specs.List.{range_with_len, All}
+use Rattle.m51_inputs.proofs.OneEach.{one_answer as one_for_files}
+use Rattle.m51_linker.specs.Image.{IsImage, byte_at, content_of, IsFilled}
+use Rattle.m51_linker.specs.Link.{Program, AreRoots, IsLinked}
+use Rattle.m51_linker.specs.Stretches.{byte_among}
+use Rattle.m51_chain.specs.Linking.{Follows, IsInputsOutcome, Unlinked, program_in, sole_program, IsLinkedOutcome}
+use Rattle.m51_chain.specs.Linking.{IsProgramOutcome}
+use Rattle.m51_chain.specs.ProgramFiles.{AreAnswered, Given, IsGivenOutcome, ProgramFiles, Refused, control_content}
+use Rattle.m51_chain.specs.ProgramFiles.{script_content, word_contents, IsFilesOutcome}
+use Rattle.m51_chain.specs.Programs.{IsReport, program_report}
+use Rattle.m51_build_proof.specs.Builds.{AreOfBytes}
+use Rattle.std.proofs.lemmas.List.Elements.{All-head, All-tail}
+use Rattle.m51_module.specs.Validity.{IsValid}
+use Rattle.std.specs.Prelude.{is_some, slice_index_or, count_by}
+use Rattle.std.proofs.lemmas.Bool.{cases_eq, cases_Bool}
+use Rattle.std.proofs.lemmas.List.FromFn.{get_or-map-range_with_len, length-map-range_with_len}
+use Rattle.m51_graph.specs.Graph.{AreRootBits}
+use Rattle.m51_graph.specs.Relating.{root_byte}
+use Rattle.m51_graph.proofs.Relations.{bits_tell}
+use Rattle.m51_linker.specs.Growing.{AddsIf, longer, run_at}
+use Rattle.m51_linker.specs.Growing.AddsByte.{Joined, Apart, First}
+use Rattle.m51_linker.specs.Memory.{IsHeldBelow}
+use Rattle.m51_linker.specs.Runs.{AreRuns}
+use Rattle.m51_linker.proofs.RunsGrow.{runs_more, same_runs}
+use Rattle.m51_module.specs.declared.image.TheConstants.{IMAGE_LEN}
+use Rattle.m51_module.specs.declared.linked.Run.{Run}
+use Rattle.m51_module.specs.Chains.{AreHeaviest}
+use Rattle.m51_module.specs.Sound.{IsSound}
+use Rattle.m51_place.proofs.Tight.{weights_agree}
+use Rattle.m51_build_proof.proofs.Known.{graph_kept, IsStartable, sole_startable, files_startable, valid_modules}
+use Rattle.m51_build_proof.proofs.Known.{modules_known, startable}
+use Rattle.m51_build_proof.proofs.Weights.{has_weight}
+use Rattle.m51_chain.proofs.OneOutcome.{one_outcome}
+use Rattle.m51_build_proof.specs.Headline.{IsOnly}
+use Rattle.m51_build_proof.proofs.Verdicts.{rules_of_program}
+use Rattle.m51_chain.proofs.Accepted.{on_value}
+use Rattle.m51_chain.proofs.Joined.{all_fresh}
+use Rattle.m51_chain.specs.Parties.{AreBoardsOf, IsBoardOf, IsPartyWork, party_outcome, programs_of, party_files}
+use Rattle.m51_party.proofs.One.{only_family}
+use Rattle.m51_party.specs.Rounds.{family_of}
+use Rattle.m51_sim.specs.Boards.{BoardState}
+use Rattle.m51_build_proof.proofs.StartedBoards.{started_board}
 use Rattle.std.proofs.lemmas.List.Sums.{sum_by-cons}
-use Rattle.m51_asm.proofs.AnsweredLines.{one_answer as one_text}
 use Rattle.m51_asm.specs.Answer.{AnswerTree}
 use Rattle.m51_asm.specs.Answer as answers
 use Rattle.m51_build_proof.proofs.BoundFound.{has_bound}
-use Rattle.m51_build_proof.proofs.Existence.{has_linked, one_of_each}
-use Rattle.m51_build_proof.proofs.Parties.{party_work}
-use Rattle.m51_build_proof.proofs.SoundPrograms.{IsStartable, files_startable, valid_modules}
-use Rattle.m51_build_proof.specs.Builds.{AreOfBytes}
-use Rattle.m51_build_proof.specs.Headline.{IsOnly}
-use Rattle.m51_chain.proofs.OneOutcome.{one_outcome}
-use Rattle.m51_chain.specs.Analyses.{link_files}
+use Rattle.m51_chain.specs.Analyses.{link_files, IsBounded, IsDisassembled, bound_outcome, text_outcome}
 use Rattle.m51_chain.specs.Assembles.{IsOneOutcome, assembled_outcome}
-use Rattle.m51_chain.specs.Generates.{IsCounted, IsGenOutcome, IsGenerated}
-use Rattle.m51_chain.specs.InputRefusals.{input_outcome}
-use Rattle.m51_chain.specs.Linking.{Follows, IsInputsOutcome, IsLinkedOutcome, IsProgramOutcome, Unlinked, program_in}
-use Rattle.m51_chain.specs.Linking.{sole_program}
-use Rattle.m51_chain.specs.Parties.{IsPartyWork, party_files}
-use Rattle.m51_chain.specs.ProgramFiles.{AreAnswered, Given, IsFilesOutcome, IsGivenOutcome, ProgramFiles, Refused}
-use Rattle.m51_chain.specs.ProgramFiles.{control_content}
-use Rattle.m51_chain.specs.ProgramFiles.{script_content, word_contents}
+use Rattle.m51_chain.specs.Generates.{IsCounted, IsGenOutcome, IsGenerated, summary_outcome}
 use Rattle.m51_chain.specs.Verbs.{IsOutcome}
 use Rattle.m51_disasm.specs.Answer.{disassembled}
 use Rattle.m51_generator.specs.Lines.{generated}
 use Rattle.m51_hex.specs.declared.error.HexError.{HexError}
 use Rattle.m51_hex.specs.Memory.{Memory}
 use Rattle.m51_hex.specs.Reading.{memory_from}
-use Rattle.m51_inputs.proofs.OneEach.{one_answer as one_for_files}
-use Rattle.m51_inputs.specs.declared.error.InputError.{InputError}
 use Rattle.m51_inputs.specs.Files.{includes_of, sources_of}
-use Rattle.m51_inputs.specs.Inputs.{InputsTree}
 use Rattle.m51_jobs.specs.declared.job.FlatJob.{FlatJob}
 use Rattle.m51_jobs.specs.declared.job.GenJob.{GenJob}
 use Rattle.m51_jobs.specs.declared.job.Job.{Job}
@@ -40,44 +67,123 @@ use Rattle.m51_jobs.specs.declared.job.Job.TheVariants as jobs
 use Rattle.m51_jobs.specs.declared.job.LinkJob.{LinkJob}
 use Rattle.m51_jobs.specs.declared.job.PartyJob.{PartyJob}
 use Rattle.m51_jobs.specs.Endings.{is_source}
-use Rattle.m51_linker.specs.declared.linked.Linked.{Linked}
-use Rattle.m51_linker.specs.Link.{IsLinked, Program}
-use Rattle.m51_module.specs.declared.image.TheConstants.{IMAGE_LEN}
-use Rattle.m51_module.specs.declared.linked.Refusal.{Refusal}
-use Rattle.m51_module.specs.declared.parts.LayoutParts.{LayoutParts}
 use Rattle.m51_module.specs.declared.source.SourceFile.{SourceFile}
 use Rattle.m51_script.specs.declared.error.ScriptError.{ScriptError}
-use Rattle.m51_script.specs.declared.script.Script.{Script}
 use Rattle.m51_text.specs.Answer.{text_of}
-use Rattle.m51_chain.specs.Analyses.{IsBounded, IsDisassembled, bound_outcome, text_outcome}
-use Rattle.m51_chain.specs.Generates.{summary_outcome}
 use Rattle.m51_chain.specs.declared.work.Reason.TheVariants as reason
 use Rattle.m51_chain.specs.FaultLines.{fault_lines}
 use Rattle.m51_chain.specs.FlatRuns.{IsFlatOutcome, IsFlatWork, IsScripted, flat_report, script_in}
 use Rattle.m51_chain.specs.FlatRuns as flats
-use Rattle.m51_chain.specs.LinkRefusals.{link_outcome}
 use Rattle.m51_chain.specs.Optional.{content_if}
-use Rattle.m51_chain.specs.Outcome.{Outcome, refused}
+use Rattle.m51_chain.specs.Outcome.{refused}
 use Rattle.m51_chain.specs.Refusals.{hex_outcome}
 use Rattle.m51_chain.specs.ScriptRefusals.{script_outcome}
 use Rattle.m51_build_proof.specs.Answers.{IsReady}
 use Rattle.m51_hex.proofs.LowRecords.{image_length, image_of, image_read}
+use Rattle.m51_chain.specs.Parties as parties
+use Rattle.m51_jobs.specs.declared.job.AsmJob.{AsmJob}
 
 -- there is an outcome of this kind
-record Found (Is : Outcome → Type 0) : Type 0 where
-  outcome : Outcome
-  is : Is outcome
+abbrev Found : (Outcome → Type 0) → Type 0
+Found Is = (outcome : Outcome) × Is outcome
+
+-- ---- a program can be linked
+
+last_of : (run : Run) (more : List Run) → (front : List Run) × (last : Run) × (run ∷ more ≡ front ++ last ∷ [])
+last_of run [] = ([], run, refl)
+last_of run (next ∷ more) =
+    let l = last_of next more in (run ∷ l.0, l.1, ap (λ (rs : List Run). run ∷ rs) l.2)
+
+next : (held : Bool) (address : ℕ) (old : List Run) → (new : List Run) × AddsIf held address old new
+next false address old = (old, refl)
+next true address [] = (run_at address ∷ [], First refl refl)
+next true address (run ∷ more) =
+    let l = last_of run more in
+    elim (cases_eq (l.1.first + l.1.len) address) [
+      | inl ends ↦ (l.0 ++ longer l.1 ∷ [], Joined l.0 l.1 l.2 ends refl)
+      | inr other ↦ ((run ∷ more) ++ run_at address ∷ [], Apart l.0 l.1 l.2 other refl)
+    ]
+
+-- the runs of a memory
+runs_to : (content : List (Option ℕ)) (n : ℕ) → (runs : List Run) × AreRuns (IsHeldBelow content n) runs
+runs_to content zero = (
+  [],
+  record {
+    whole = λ k d below. absurd (omega (arith, below));
+    all = λ address held. absurd (omega (arith, held.below));
+    ascending = λ i j d less below. absurd (omega (arith, below));
+  },
+)
+runs_to content (suc n) =
+    let before = runs_to content n in
+    let held : Bool = is_some (slice_index_or content n None) in
+    let after = next held n before.0 in
+    let one_more : n + 1 ≡ suc n = omega arith in (
+      after.0,
+      subst (λ k. AreRuns (IsHeldBelow content k) after.0) one_more
+          (runs_more content n held before.0 after.0 before.1 refl after.1),
+    )
+
+module _ (p : Program) (size : ℕ) (whole : size ≡ IMAGE_LEN) where
+  bytes : List ℕ
+  bytes = map (byte_at p.modules p.placing) (range_with_len 0 size)
+
+  image_is : IsImage p.modules p.placing bytes
+  unfolding bytes
+  image_is = record {
+    len = length-map-range_with_len (byte_at p.modules p.placing) 0 size ∙ whole;
+    each = λ address below. get_or-map-range_with_len (byte_at p.modules p.placing) 0 size address address 0
+        (omega (arith, below)) (omega arith);
+  }
+
+  content : List (Option ℕ)
+  content = map (byte_among (content_of p.modules p.placing)) (range_with_len 0 size)
+
+  content_at : (address : ℕ) → address < size
+      → slice_index_or content address None ≡ byte_among (content_of p.modules p.placing) address
+  unfolding content
+  content_at address below = get_or-map-range_with_len (byte_among (content_of p.modules p.placing)) 0 size address
+      address None below (omega arith)
+
+  runs_are : AreRuns (IsFilled p.modules p.placing) (runs_to content size).0
+  runs_are =
+      same_runs (IsHeldBelow content size) (IsFilled p.modules p.placing) (runs_to content size).0
+      (λ address h. record {
+        inside = omega (arith, h.below);
+        filled = ap is_some (sym (content_at address h.below)) ∙ h.held;
+      })
+      (λ address h. let below : address < size = omega (arith, h.inside) in
+      record { below = below; held = ap is_some (content_at address below) ∙ h.filled })
+      (runs_to content size).1
+
+  roots : List ℕ
+  roots = map (root_byte (leads p.graph.edges) p.graph.roots) (range_with_len 0 (length p.graph.units))
+
+  roots_are : AreRoots p.graph roots
+  unfolding roots
+  roots_are = record {
+    len = length-map-range_with_len (root_byte (leads p.graph.edges) p.graph.roots) 0 (length p.graph.units);
+    each = λ unit below. subst (AreRootBits p.graph unit)
+        (sym (get_or-map-range_with_len (root_byte (leads p.graph.edges) p.graph.roots) 0 (length p.graph.units) unit
+        unit 0 below (omega arith)))
+        (bits_tell p.graph unit vectors);
+  }
+
+  has_linked : (linked : Linked) × IsLinked p linked
+  has_linked = (
+    record { layout = p.placing.layout; image = bytes; written = (runs_to content size).0; roots = roots },
+    record { layout = refl; image = image_is; written = runs_are; roots = roots_are },
+  )
 
 -- ---- what is linked
 
 module _ (program : Result Program Refusal) (Is : Linked → Outcome → Type 0)
     (each : (p : Program) → program ≡ Ok p → (linked : Linked) → IsLinked p linked → Found (Is linked)) where
   found_by : (r : Result Program Refusal) → program ≡ r → Found (IsProgramOutcome program Is)
-  found_by (Err why) is = record { outcome = link_outcome why; is = Unlinked why is refl }
+  found_by (Err why) is = (link_outcome why, Unlinked why is refl)
   found_by (Ok p) is =
       let l = has_linked p IMAGE_LEN refl in
-      let o = each p is l.linked l.is in
-      record { outcome = o.outcome; is = Follows p l.linked is l.is o.is }
+      let o = each p is l.0 l.1 in (o.0, Follows p l.0 is l.1 o.1)
 
   program_found : Found (IsProgramOutcome program Is)
   program_found = found_by program refl
@@ -86,16 +192,37 @@ module _ (files : ProgramFiles) (contents : List (List ℕ)) (Is : InputsTree �
     (each : (inputs : InputsTree) → AreAnswered files contents (Ok inputs) → Found (Is inputs)) where
   given_found : (given : Result InputsTree InputError) → AreAnswered files contents given
       → Found (IsGivenOutcome files Is given)
-  given_found (Err error) read = record { outcome = input_outcome files.words error; is = Refused error refl refl }
-  given_found (Ok inputs) read =
-      let o = each inputs read in record { outcome = o.outcome; is = Given inputs refl o.is }
+  given_found (Err error) read = (input_outcome files.words error, Refused error refl refl)
+  given_found (Ok inputs) read = let o = each inputs read in (o.0, Given inputs refl o.1)
 
   files_found : Found (IsFilesOutcome files contents Is)
   files_found =
       let one = one_for_files one_text files.words (word_contents files contents) (control_content files contents)
       (script_content files contents) in
-      let o = given_found one.answer one.is in
-      record { outcome = o.outcome; is = record { given = one.answer; answer = one.is; is = o.is } }
+      let o = given_found one.answer one.is in (o.0, record { given = one.answer; answer = one.is; is = o.1 })
+
+build_found : (job : BuildJob) (contents : List (List ℕ)) → AreOfBytes contents
+    → Found (IsOutcome (jobs.Build job) contents)
+build_found job contents bytes =
+    files_found (build_files job) contents
+    (IsInputsOutcome (λ script linked. IsReport linked job.hex script job.steps)) (λ inputs read.
+    program_found (program_in inputs) (λ linked. IsReport linked job.hex inputs.script job.steps)
+    (λ p is linked l.
+    let rules = rules_of_program inputs p is in
+    let k = modules_known (build_files job) contents inputs p.modules bytes read rules.chosen in
+    let start = startable inputs p rules k.valid k.kept in
+    let kept = graph_kept p.modules inputs.controls p.graph k.resolved rules.drawn in
+    let weight = has_weight (segments_of p.modules) p.graph kept in
+    let w = weights_agree p.modules inputs.controls p.graph p.placing weight.weight k.valid k.resolved k.kept kept
+    rules.drawn rules.placed weight.is in (
+      program_report linked w.chains job.hex inputs.script job.steps,
+      record {
+        sound = subst IsSound (sym l.layout) start.sound;
+        chains = w.chains;
+        heaviest = subst (λ (x : LayoutParts). AreHeaviest x w.chains) (sym l.layout) w.heaviest;
+        is = refl;
+      },
+    )))
 
 -- what becomes of a layout and an image, where the layout is sound and has a root at 0000H
 module _ (job : LinkJob) (contents : List (List ℕ)) (Is : LayoutParts → List ℕ → Outcome → Type 0)
@@ -106,46 +233,79 @@ module _ (job : LinkJob) (contents : List (List ℕ)) (Is : LayoutParts → List
       files_found (link_files job) contents (IsInputsOutcome (λ script linked. Is linked.layout linked.image))
       (λ inputs read. program_found (program_in inputs) (λ linked. Is linked.layout linked.image)
       (λ p is linked l. each linked.layout linked.image
-      (subst IsStartable (sym l.layout) (files_startable (link_files job) contents inputs p bytes read is))))
+      (subst IsStartable (sym l.layout) (files_startable (link_files job) contents inputs p bytes read
+      (rules_of_program inputs p is)))))
 
 dis_found : (job : LinkJob) (contents : List (List ℕ)) → AreOfBytes contents
     → Found (IsOutcome (jobs.Dis job) contents)
 dis_found job contents =
-    looked_at job contents IsDisassembled
-    (λ layout image ok. record { outcome = text_outcome (disassembled layout image); is = refl })
+    looked_at job contents IsDisassembled (λ layout image ok. (text_outcome (disassembled layout image), refl))
 
 stack_found : (job : LinkJob) (contents : List (List ℕ)) → AreOfBytes contents
     → Found (IsOutcome (jobs.Stack job) contents)
 stack_found job contents =
-    looked_at job contents IsBounded
-    (λ layout image ok. let b = has_bound layout image ok.sound ok.root in
-    record {
-      outcome = bound_outcome layout b.answer;
-      is = record { sound = ok.sound; answer = b.answer; tied = b.tied; answers = b.answers; is = refl };
-    })
+    looked_at job contents IsBounded (λ layout image ok.
+    let b = has_bound layout image ok.sound ok.root in (
+      bound_outcome layout b.answer,
+      record { sound = ok.sound; answer = b.answer; tied = b.tied; answers = b.answers; is = refl },
+    ))
+
+-- ---- the boards of a party
+
+-- a program that is linked is started
+one_board : (script : Script) (m : ModuleParts) (p : Program) → IsValid m → sole_program m ≡ Ok p
+    → (board : BoardState) × IsBoardOf script p board
+one_board script m p valid is =
+    let l = has_linked p IMAGE_LEN refl in
+    let ok = subst IsStartable (sym l.1.layout) (sole_startable m p valid is) in
+    let b = started_board l.0.layout ok l.0.image script in
+    (b.0, record { linked = l.0; is = l.1; started = b.1 })
+
+all_boards : (script : Script) (modules : List ModuleParts) (programs : List Program) → All IsValid modules
+    → programs_of modules ≡ Ok programs → (boards : List BoardState) × AreBoardsOf script programs boards
+all_boards script [] programs valid h = rw (← same_Ok {A = List Program} {E = Refusal} [] programs h) ([], tt)
+all_boards script (m ∷ modules) programs valid h =
+    on_value (sole_program m) _ programs ((boards : List BoardState) × AreBoardsOf script programs boards)
+    (λ p is later.
+    on_value (programs_of modules) _ programs ((boards : List BoardState) × AreBoardsOf script programs boards)
+    (λ more are done.
+    let first = one_board script m p (All-head IsValid m modules valid) is in
+    let rest = all_boards script modules more (All-tail IsValid m modules valid) are in
+    rw (← same_Ok {A = List Program} {E = Refusal} (p ∷ more) programs done)
+    (first.0 ∷ rest.0, (first.1, rest.1))) later) h
+
+party_work : (steps : ℕ) (inputs : InputsTree) → All IsValid inputs.modules → Found (IsPartyWork steps inputs)
+party_work steps inputs valid = by (programs_of inputs.modules) refl
+  where
+    by : (r : Result (List Program) Refusal) → programs_of inputs.modules ≡ r → Found (IsPartyWork steps inputs)
+    by (Err why) is = (link_outcome why, parties.Unlinked why is refl)
+    by (Ok programs) is =
+        let b = all_boards inputs.script inputs.modules programs valid is in
+        let one = only_family b.0 steps (all_fresh inputs.script programs b.0 b.1) in (
+          party_outcome b.0 steps,
+          parties.Ran programs b.0 is b.1 (record { family = family_of b.0 steps; belongs = one.is; is = refl }),
+        )
 
 party_found : (job : PartyJob) (contents : List (List ℕ)) → AreOfBytes contents
     → Found (IsOutcome (jobs.Party job) contents)
 party_found job contents bytes =
-    files_found (party_files job) contents (IsPartyWork job.steps) (λ inputs read.
-    let w = party_work job.steps inputs (valid_modules (party_files job) contents inputs bytes read) in
-    record { outcome = w.0; is = w.1 })
+    files_found (party_files job) contents (IsPartyWork job.steps)
+    (λ inputs read. party_work job.steps inputs (valid_modules (party_files job) contents inputs bytes read))
 
 -- ---- what is generated
 
 generated_found : (source : SourceFile) (steps : ℕ) (a : AnswerTree) → Found (IsGenerated source steps a)
-generated_found source steps (answers.Faults faults) =
-    record { outcome = refused reason.Source (fault_lines source.name [] faults); is = refl }
+generated_found source steps (answers.Faults faults) = (refused reason.Source (fault_lines source.name [] faults), refl)
 generated_found source steps (answers.Gives parts rows) =
     program_found (sole_program parts) (IsCounted steps)
-    (λ p is linked l. record { outcome = summary_outcome linked.layout linked.image steps; is = refl })
+    (λ p is linked l. (summary_outcome linked.layout linked.image steps, refl))
 
 gen_found : (job : GenJob) → Found (IsGenOutcome job)
 gen_found job =
     let source : SourceFile = generated job.units job.start in
     let one = one_text source.name (text_of source []) in
     let o = generated_found source job.steps one.answer in
-    record { outcome = o.outcome; is = record { answer = one.answer; answered = one.is; is = o.is } }
+    (o.0, record { answer = one.answer; answered = one.is; is = o.1 })
 
 -- ---- what is assembled
 
@@ -157,43 +317,39 @@ no_source : (names contents : List (List ℕ)) → count_by is_source names ≡ 
 no_source [] contents none = refl
 no_source (name ∷ names) [] none = refl
 no_source (name ∷ names) (bytes ∷ contents) none =
-    none_by (is_source name) _ _ (counted_on name names ∙ none) (λ others. no_source names contents others)
-  where
-    none_by : (b : Bool) (s : SourceFile) (count : ℕ) → cond b 1 0 + count ≡ 0
-        → (count ≡ 0 → sources_of names contents ≡ [])
-        → cond b (s ∷ sources_of names contents) (sources_of names contents) ≡ []
-    none_by true s count none rest = absurd (omega (arith, none))
-    none_by false s count none rest = rest (omega (arith, none))
-
-record HasSource (sources : List SourceFile) : Type 0 where
-  source : SourceFile
-  is : sources ≡ source ∷ []
+    let counted = counted_on name names ∙ none in
+    elim (cases_Bool (is_source name)) [
+      | inl is ↦ absurd (omega (arith, rw is at counted))
+      | inr other ↦ rw other (no_source names contents (omega (arith, rw other at counted)))
+    ]
 
 one_source : (names contents : List (List ℕ)) → count_by is_source names ≡ 1 → length contents ≡ length names
-    → HasSource (sources_of names contents)
+    → (source : SourceFile) × (sources_of names contents ≡ source ∷ [])
 one_source [] contents one count = absurd (omega (arith, one))
 one_source (name ∷ names) [] one count = absurd (omega (arith, count))
 one_source (name ∷ names) (bytes ∷ contents) one count =
-    one_by (is_source name) _ _ (counted_on name names ∙ one) (λ rest. no_source names contents rest)
-    (λ rest. one_source names contents rest (omega (arith, count)))
-  where
-    one_by : (b : Bool) (s : SourceFile) (count : ℕ) → cond b 1 0 + count ≡ 1
-        → (count ≡ 0 → sources_of names contents ≡ [])
-        → (count ≡ 1 → HasSource (sources_of names contents))
-        → HasSource (cond b (s ∷ sources_of names contents) (sources_of names contents))
-    one_by true s count one none some =
-        record { source = s; is = ap (λ (rest : List SourceFile). s ∷ rest) (none (omega (arith, one))) }
-    one_by false s count one none some = some (omega (arith, one))
+    let counted = counted_on name names ∙ one in
+    elim (cases_Bool (is_source name)) [
+      | inl is ↦
+          let none : count_by is_source names ≡ 0 = omega (arith, rw is at counted) in
+          rw (is, no_source names contents none) (_, refl)
+      | inr other ↦
+          rw other (one_source names contents (omega (arith, rw other at counted)) (omega (arith, count)))
+    ]
 
-assembled_found : (files : List (List ℕ)) (sources includes : List SourceFile) → HasSource sources
-    → Found (IsOneOutcome files sources includes)
-assembled_found files sources includes h =
-    subst (λ (s : List SourceFile). Found (IsOneOutcome files s includes)) (sym h.is)
-    (let one = one_text h.source.name (text_of h.source includes) in
-    record {
-      outcome = assembled_outcome files h.source includes one.answer;
-      is = record { answer = one.answer; answered = one.is; is = refl };
-    })
+assembled_found : (files : List (List ℕ)) (source : SourceFile) (includes : List SourceFile)
+    → Found (IsOneOutcome files (source ∷ []) includes)
+assembled_found files source includes =
+    let one = one_text source.name (text_of source includes) in (
+      assembled_outcome files source includes one.answer,
+      record { answer = one.answer; answered = one.is; is = refl },
+    )
+
+asm_found : (job : AsmJob) (contents : List (List ℕ)) → count_by is_source job.files ≡ 1
+    → length contents ≡ length job.files → Found (IsOutcome (jobs.Asm job) contents)
+asm_found job contents fit count =
+    let s = one_source job.files contents fit count in
+    rw s.1 (assembled_found job.files s.0 (includes_of job.files contents))
 
 -- ---- what is run on one memory
 
@@ -201,19 +357,15 @@ scripted_found : (job : FlatJob) (image : List ℕ) (file : Option (List ℕ)) �
 scripted_found job image file = by (script_in file) refl
   where
     by : (r : Result Script ScriptError) → script_in file ≡ r → Found (IsScripted job image file)
-    by (Err error) is = record { outcome = script_outcome error; is = flats.ScriptRefused error is refl }
-    by (Ok with) is = record { outcome = flat_report image with job.steps; is = flats.Ran with is refl }
+    by (Err error) is = (script_outcome error, flats.ScriptRefused error is refl)
+    by (Ok with) is = (flat_report image with job.steps, flats.Ran with is refl)
 
 flat_by : (job : FlatJob) (file : List ℕ) (script : Option (List ℕ)) (size : ℕ) → size ≡ IMAGE_LEN
     → (r : Result Memory HexError) → memory_from file ≡ r → Found (IsFlatWork job file script)
-flat_by job file script size whole (Err error) is =
-    record { outcome = hex_outcome job.file error; is = flats.HexRefused error is refl }
+flat_by job file script size whole (Err error) is = (hex_outcome job.file error, flats.HexRefused error is refl)
 flat_by job file script size whole (Ok m) is =
     let o = scripted_found job (image_of m size) script in
-    record {
-      outcome = o.outcome;
-      is = flats.HexRead (image_of m size) (image_length m size ∙ whole) (image_read file m size whole is) o.is;
-    }
+    (o.0, flats.HexRead (image_of m size) (image_length m size ∙ whole) (image_read file m size whole is) o.1)
 
 flat_found : (job : FlatJob) (contents : List (List ℕ)) (count : ℕ) → length contents ≡ suc count
     → Found (IsFlatOutcome job contents)
@@ -226,20 +378,22 @@ flat_found job (file ∷ others) count some =
 only_one : (job : Job) (contents : List (List ℕ)) → Found (IsOutcome job contents)
     → (outcome : Outcome) × IsOnly job contents outcome
 only_one job contents found =
-    (found.outcome, record { is = found.is; only = λ other h. one_outcome job contents other found.outcome h found.is })
+    (found.0, record { is = found.1; only = λ other h. one_outcome job contents other found.0 h found.1 })
+
+pub one_of_each : (job : BuildJob) (contents : List (List ℕ)) → AreOfBytes contents
+    → (outcome : Outcome) × IsOnly (jobs.Build job) contents outcome
+one_of_each job contents bytes = only_one (jobs.Build job) contents (build_found job contents bytes)
 
 pub one_of_job : (job : Job) (contents : List (List ℕ)) → IsReady job contents
     → (outcome : Outcome) × IsOnly job contents outcome
-one_of_job (jobs.Build job) contents ready = one_of_each job contents ready.bytes
-one_of_job (jobs.Asm job) contents ready =
-    only_one (jobs.Asm job) contents
-    (assembled_found job.files (sources_of job.files contents) (includes_of job.files contents)
-    (one_source job.files contents ready.fit ready.count))
-one_of_job (jobs.Library job) contents ready =
-    only_one (jobs.Library job) contents (record { outcome = _; is = refl })
-one_of_job (jobs.Flat job) contents ready =
-    only_one (jobs.Flat job) contents (flat_found job contents _ ready.count)
-one_of_job (jobs.Gen job) contents ready = only_one (jobs.Gen job) contents (gen_found job)
-one_of_job (jobs.Dis job) contents ready = only_one (jobs.Dis job) contents (dis_found job contents ready.bytes)
-one_of_job (jobs.Stack job) contents ready = only_one (jobs.Stack job) contents (stack_found job contents ready.bytes)
-one_of_job (jobs.Party job) contents ready = only_one (jobs.Party job) contents (party_found job contents ready.bytes)
+one_of_job job contents ready = only_one job contents (found job contents ready)
+  where
+    found : (job : Job) (contents : List (List ℕ)) → IsReady job contents → Found (IsOutcome job contents)
+    found (jobs.Build job) contents ready = build_found job contents ready.bytes
+    found (jobs.Asm job) contents ready = asm_found job contents ready.fit ready.count
+    found (jobs.Library job) contents ready = (_, refl)
+    found (jobs.Flat job) contents ready = flat_found job contents _ ready.count
+    found (jobs.Gen job) contents ready = gen_found job
+    found (jobs.Dis job) contents ready = dis_found job contents ready.bytes
+    found (jobs.Stack job) contents ready = stack_found job contents ready.bytes
+    found (jobs.Party job) contents ready = party_found job contents ready.bytes

@@ -1,37 +1,186 @@
--- Each sound layout with a root at 0000H has a board after a reset.
-use Rattle.m51_build_proof.proofs.Common.{◌≡◌, ◌<◌, ◌%◌, ◌&&◌, ◌||◌, ◌∷◌, ◌∙◌, inl, inr, ℕ, zero, suc, Bool}
-use Rattle.m51_build_proof.proofs.Common.{true, false, List, [], Option, Some, None, refl, sym, ap, subst, arith}
-use Rattle.m51_build_proof.proofs.Common.{and_parts, false≢true, list_any, range_with_len, slice_get, map, LayoutParts}
-use Rattle.m51_build_proof.proofs.Common.{Script}
-use Rattle.std.proofs.Common.{◌/◌, get_or, not}
-use Rattle.std.proofs.lemmas.Bool.{and_from, lt-ltb, not-true, or_right}
+-- At most one live segment covers a cell, at each step; and each layout with a root at 0000H has a board.
+use Rattle.m51_build_proof.proofs.Common.{Linked, LayoutParts, Script, BuildJob, IsBuildOutcome, Outcome}
+use Rattle.std.proofs.Common.{◌≡◌, ℕ, zero, suc, List, Option, Some, None, Result, Ok, Err, refl, sym, ap, subst, ◌<◌}
+use Rattle.std.proofs.Common.{◌%◌, ◌&&◌, ◌||◌, ◌∙◌, inl, inr, Bool, true, false, arith, map, ◌/◌, get_or, not}
+use Rattle.m51_isa.specs.declared.instr.Instr.{Instr}
+use Rattle.m51_module.specs.Plan.{IsRootAt, IsUnitAt, owners_of}
+use Rattle.m51_build_proof.specs.Builds.{AreOfBytes, IsBuilt, separate_run}
+use Rattle.std.proofs.lemmas.Bool.{and_parts, false≢true, cond_both, and_from, lt-ltb, not-true, or_right}
+use Rattle.std.specs.List.{list_any, range_with_len}
+use Rattle.std.specs.Prelude.{slice_get, if◌then◌else◌, nat_lt}
+use Rattle.m51_cells.specs.declared.event.Event.{Event}
+use Rattle.m51_isa.specs.Table.{length_of}
+use Rattle.m51_flat.specs.declared.state.Cpu.{Cpu}
+use Rattle.m51_flat.specs.declared.state.Effect.{Effect}
+use Rattle.m51_flat.specs.declared.state.Outcome.{Outcome as StepOutcome}
+use Rattle.m51_flat.specs.declared.state.Pins.{Pins}
+use Rattle.m51_flat.specs.declared.state.Source.{Source}
+use Rattle.m51_flat.specs.declared.state.Transfer.{Transfer}
+use Rattle.m51_flat.specs.declared.state.Transfer.TheVariants.{Vector}
+use Rattle.m51_flat.specs.Flags.{idl}
+use Rattle.m51_flat.specs.Sfr.{flag, latch, pcon, sp}
+use Rattle.m51_flat.specs.Vectors.{vector_of}
+use Rattle.m51_irq.specs.Choice.{chosen}
+use Rattle.m51_irq.specs.Vectoring.{vectored}
+use Rattle.m51_module.specs.Sound.{IsSound}
+use Rattle.m51_module.proofs.Units.{one_root, one_unit}
+use Rattle.m51_monitor.specs.declared.step.Move.{Move}
+use Rattle.m51_monitor.specs.declared.step.Move.TheVariants.{Stay}
+use Rattle.m51_monitor.specs.Found.{root_found, unit_found}
+use Rattle.m51_monitor.specs.Monitored.{live_in, Monitored}
+use Rattle.m51_monitor.specs.Records.{AreWalks, Records, current, units_named}
+use Rattle.m51_monitor.specs.Related.{OneLive}
+use Rattle.m51_monitor.specs.Resolved.{outside_of}
+use Rattle.m51_monitor.specs.Transfers.{IsFoundAt, IsRootWanted, judged, moved}
+use Rattle.m51_monitor.proofs.CurrentUnit.{root_covers}
+use Rattle.m51_monitor.proofs.Finding.{same_root_found, unit_found_is}
+use Rattle.m51_monitor.proofs.Liveness.{one_live}
+use Rattle.m51_monitor.proofs.Moving.{allowed, allowed_stands}
+use Rattle.m51_monitor.proofs.Standing.{all_related}
+use Rattle.m51_sim.specs.Cycles.{Inputs, inputs_of}
+use Rattle.m51_sim.specs.Effects.{attempt_by, attempt_of, executing, idle_effect, instr_at}
+use Rattle.m51_sim.specs.FlatMachine.{reset_with}
+use Rattle.m51_sim.specs.Runs.{Performed, State, record_from, record_of}
+use Rattle.m51_sim.specs.SeparateMachine.{Separate, cells_of, concludes, instr_outcome, lie_inside, or_zero}
+use Rattle.m51_sim.specs.SeparateMachine.{separate_effect, separate_machine, separate_performs, separate_start}
+use Rattle.m51_sim.proofs.Keeping.{inside_ok}
+use Rattle.m51_stack_proof.proofs.Bounded.{Held, judged_of}
+use Rattle.m51_stack_proof.proofs.Meeting.{root_at}
+use Rattle.m51_build_proof.proofs.Known.{layout_root, IsStartable}
+use Rattle.m51_build_proof.proofs.Verdicts.{reported}
 use Rattle.std.proofs.lemmas.List.FromFn.{get_or-map-range_with_len}
 use Rattle.std.specs.Int.{bit_at}
-use Rattle.std.specs.Prelude.{if◌then◌else◌, nat_lt}
+use Rattle.m51_cells.proofs.Members.{At, at_in, contains_in, got_in, in_contains}
+use Rattle.std.proofs.lemmas.List.Folds.{Any-from_list_any, list_any-from_Any}
 use Rattle.m51_cells.specs.Cells.{IsDataCell}
 use Rattle.m51_cells.specs.declared.cell.Cell.{Cell}
 use Rattle.m51_cells.specs.declared.cell.Space.{Space}
 use Rattle.m51_cells.specs.declared.cell.Space.TheVariants.{Code, Ram, Xram}
 use Rattle.m51_flat.specs.States.{Absent, Holds}
 use Rattle.m51_module.specs.declared.placed.Placed.{Placed}
-use Rattle.m51_module.specs.Plan.{owners_of}
-use Rattle.m51_monitor.proofs.Liveness.{one_live}
 use Rattle.m51_monitor.proofs.Resolving.{common_or_over, data_cell_is, has_cell_data, has_cell_is, over_is}
-use Rattle.m51_monitor.proofs.Standing.{all_related}
 use Rattle.m51_monitor.specs.Masks.{IsCellAt}
-use Rattle.m51_monitor.specs.Monitored.{Monitored, live_in}
-use Rattle.m51_monitor.specs.Records.{Records, units_named}
-use Rattle.m51_monitor.specs.Related.{OneLive}
 use Rattle.m51_monitor.specs.Shared.{Shared, cell_state, masked}
 use Rattle.m51_monitor.specs.Stores.{IsOver, Stores, fill_in, filled_stores, has_active, has_cell, is_common, is_data}
 use Rattle.m51_monitor.specs.Stores.{is_over, is_over_at, is_overlaid_at, is_overlaid_mark}
 use Rattle.m51_sim.proofs.Beginning.{chip_at_reset}
 use Rattle.m51_sim.specs.Boards.{BoardState, IsStarted, held_value, stores_read}
-use Rattle.m51_sim.specs.Cycles.{inputs_of}
-use Rattle.m51_sim.specs.FlatMachine.{reset_with}
-use Rattle.m51_sim.specs.SeparateMachine.{Separate, separate_start}
-use Rattle.m51_build_proof.proofs.OneLive.{start_walks}
-use Rattle.m51_build_proof.proofs.SoundPrograms.{IsStartable}
+
+module _ (l : LayoutParts) (sound : IsSound l) (image : List ℕ) where
+  -- the root that the machine finds is the required one
+  wanted_by : (source : Source) (o : Option ℕ) → root_found l (Vector source) ≡ o → IsRootWanted l (Vector source) o
+  wanted_by source (Some u) is = root_at l sound source u is
+  wanted_by source None is =
+      λ u h. absurd (cc (
+        is,
+        same_root_found l source (Some u) h (λ w k. ap Some (one_root l sound (vector_of source) u w h k)),
+      ))
+
+  wanted : (t : Transfer) → IsRootWanted l t (root_found l t)
+  wanted (Vector source) = wanted_by source (root_found l (Vector source)) refl
+  wanted other = tt
+
+  walks_after : (a : Records) (cpu : Cpu) (e : Effect) (step : Move)
+      → Ok step ≡ judged l a cpu e (unit_found l e.cpu.pc) (root_found l e.transfer) → AreWalks l a
+      → AreWalks l (moved a e step)
+  walks_after a cpu e step is h =
+      allowed_stands l a e (latch cpu sp) e.cpu.pc (unit_found l e.cpu.pc) (root_found l e.transfer) step h
+      (allowed l a (latch cpu sp) (latch e.cpu sp) e.cpu.pc e.transfer (unit_found l e.cpu.pc) (root_found l e.transfer)
+      step (wanted e.transfer) is)
+
+  -- after each effect that is allowed
+  module _ (m : Separate) (cpu : Cpu) (pins : Pins) (x : Held l m) (h : AreWalks l m.records) where
+    abbrev Then : Type 0
+    Then = AreWalks l (moved m.records x.effect x.step)
+
+    by_outcome : (o : StepOutcome) → concludes l m cpu o ≡ Ok x → Then
+    by_outcome o done = walks_after m.records cpu x.effect x.step (judged_of l m cpu o x done).judged_is h
+
+    by_instr : (i : Option Instr) → separate_effect l image cpu m pins (executing i) ≡ Ok x → Then
+    unfolding separate_effect
+    by_instr (Some instr) done =
+        let o = instr_outcome l m cpu instr image pins in
+        by_outcome o (inside_ok (lie_inside l (current m.records) cpu.pc (length_of instr)) (concludes l m cpu o) _ x
+        done).1
+    by_instr None done =
+        let inside = inside_ok (lie_inside l (current m.records) cpu.pc 1) _ _ x done in
+        absurd (cc inside.1)
+
+    by_idle : separate_effect l image cpu m pins (attempt_by image cpu None) ≡ Ok x → Then
+    unfolding separate_effect
+    by_idle = cond_both (flag cpu pcon idl) _ _ (λ t. separate_effect l image cpu m pins t ≡ Ok x → Then)
+        (λ yes done.
+        let same : x ≡ record { effect = idle_effect cpu; step = Stay } = cc done in rw same h)
+        (λ no. by_instr (instr_at image cpu.pc))
+
+    by_chosen : (o : Option Source) → separate_effect l image cpu m pins (attempt_by image cpu o) ≡ Ok x → Then
+    unfolding separate_effect
+    by_chosen (Some source) done = by_outcome (vectored cpu (outside_of (cells_of l m)) source) done
+    by_chosen None done = by_idle done
+
+    effect_walks : separate_effect l image cpu m pins (attempt_of image cpu) ≡ Ok x → Then
+    unfolding attempt_of
+    effect_walks done = by_chosen (chosen cpu) done
+
+  module _ (inputs : Inputs) where
+    -- after a step that is performed
+    abbrev IfDone : Result (Performed Separate) Event → Type 0
+    IfDone (Ok done) = AreWalks l done.state.memory.records
+    IfDone (Err event) = Unit {0}
+
+    step_walks : (s : State Separate) (r : Result (Held l s.memory) Event)
+        → separate_effect l image s.cpu s.memory (inputs.pins s.cycle) (attempt_of image s.cpu) ≡ r
+        → AreWalks l s.memory.records → IfDone (separate_performs l inputs s r)
+    step_walks s (Ok x) is h = effect_walks s.memory s.cpu (inputs.pins s.cycle) x h is
+    step_walks s (Err event) is h = tt
+
+    abbrev Ends : ℕ → State Separate → Type 0
+    Ends n s = AreWalks l (record_of (separate_machine l image inputs) n s).last.memory.records
+
+    run_by : (n : ℕ) (s : State Separate) (r : Result (Performed Separate) Event) → IfDone r
+        → AreWalks l s.memory.records → ((t : State Separate) → AreWalks l t.memory.records → Ends n t)
+        → AreWalks l (record_from s (record_of (separate_machine l image inputs) n) r).last.memory.records
+    run_by n s (Ok done) is h rest = rest done.state is
+    run_by n s (Err event) is h rest = h
+
+    run_walks : (n : ℕ) (s : State Separate) → AreWalks l s.memory.records → Ends n s
+    unfolding record_of
+    run_walks zero s h = h
+    run_walks (suc n) s h =
+        run_by n s (separate_machine l image inputs s)
+        (step_walks s (separate_effect l image s.cpu s.memory (inputs.pins s.cycle) (attempt_of image s.cpu)) refl h) h
+        (λ t k. run_walks n t k)
+
+  reset_is : (unit : ℕ) (o : Option ℕ) → IsUnitAt l 0 unit → IsFoundAt l 0 o → unit ≡ or_zero o
+  reset_is unit (Some v) at found = one_unit l sound 0 unit v at found
+  reset_is unit None at found = absurd (found unit at)
+
+  pub start_walks : (fill unit : ℕ) → IsRootAt l 0 unit → AreWalks l (separate_start l fill).records
+  start_walks fill unit root =
+      record {
+        over = subst (λ u. IsRootAt l 0 u)
+            (reset_is unit (unit_found l 0) (root_covers l 0 unit sound root) (unit_found_is l 0)) root;
+      }
+
+  pub one_live_at : (inputs : Inputs) (fill n unit : ℕ) → IsRootAt l 0 unit
+      → OneLive l (live_in l
+      (record_of (separate_machine l image inputs) n
+      (reset_with inputs (separate_start l fill))).last.memory.records)
+  one_live_at inputs fill n unit root =
+      let a : Records = (record_of (separate_machine l image inputs) n
+      (reset_with inputs (separate_start l fill))).last.memory.records in
+      let stand : AreWalks l a =
+      run_walks inputs n (reset_with inputs (separate_start l fill)) (start_walks fill unit root) in
+      one_live l (units_named a) sound (all_related l a stand)
+
+pub one_live_segment : (job : BuildJob) (contents : List (List ℕ)) (outcome : Outcome)
+    → IsBuildOutcome job contents outcome → (script : Script) (linked : Linked) → IsBuilt job contents script linked
+    → AreOfBytes contents → (n : ℕ)
+    → OneLive linked.layout (live_in linked.layout (separate_run linked script n).last.memory.records)
+one_live_segment job contents outcome h script linked b bytes n =
+    let report = reported job contents outcome h script linked b in
+    let root = layout_root job contents script linked b bytes in
+    one_live_at linked.layout report.sound linked.image (inputs_of script) script.fill n root.0 root.1
 
 -- a list of flags or bytes, by their numbers
 read_at : {X : Type 0} (f : ℕ → X) (count n : ℕ) (d : X) → n < count → get_or (map f (range_with_len 0 count)) n d ≡ f n
@@ -43,28 +192,16 @@ plain_over c p = not (is_overlaid_mark p.mark) && is_over p c
 
 plain_some : (c : Cell) (ps : List Placed) (t : ℕ) (p : Placed) → slice_get ps t ≡ Some p → plain_over c p ≡ true
     → list_any (plain_over c) ps ≡ true
-plain_some c [] t p e h = absurd (cc e)
-plain_some c (q ∷ ps) zero p e h =
-    let same : q ≡ p = cc e in
-    rw (subst (λ (r : Placed). plain_over c r ≡ true) (sym same) h) refl
-plain_some c (q ∷ ps) (suc t) p e h =
-    or_right (plain_over c q) (list_any (plain_over c) ps) (plain_some c ps t p e h)
+plain_some c ps t p e h =
+    let k = contains_in ps p (got_in ps t p e) in list_any-from_Any (plain_over c) ps (k.0, p, k.1, k.2, h)
 
-record IsPlainOver (c : Cell) (ps : List Placed) : Type 0 where
-  at : ℕ
-  is : Placed
-  there : slice_get ps at ≡ Some is
-  over : plain_over c is ≡ true
+abbrev IsPlainOver : Cell → List Placed → Type 0
+IsPlainOver c ps = (p : Placed) × At ps p × (plain_over c p ≡ true)
 
 some_plain : (c : Cell) (ps : List Placed) → list_any (plain_over c) ps ≡ true → IsPlainOver c ps
-some_plain c [] h = absurd (cc h)
-some_plain c (p ∷ ps) h = by (plain_over c p) refl h (λ k. some_plain c ps k)
-  where
-    by : (b : Bool) → plain_over c p ≡ b → (b || list_any (plain_over c) ps) ≡ true
-        → (list_any (plain_over c) ps ≡ true → IsPlainOver c ps) → IsPlainOver c (p ∷ ps)
-    by true e k more = record { at = 0; is = p; there = refl; over = e }
-    by false e k more =
-        let m = more k in record { at = suc m.at; is = m.is; there = m.there; over = m.over }
+some_plain c ps h =
+    let any = Any-from_list_any (plain_over c) ps h in
+    (any.1, at_in ps any.1 (in_contains ps any.1 (any.0, any.2, any.3)), any.4)
 
 held_masked : (b : Bool) (v : ℕ) → held_value (masked true b (Holds v)) ≡ (if b then Some v else None)
 held_masked true v = refl
@@ -161,13 +298,14 @@ module _ (l : LayoutParts) (ok : IsStartable l) (image : List ℕ) (script : Scr
   not_plain : (t : ℕ) (c : Cell) → is_overlaid_at (slice_get l.placed t) ≡ true → IsOver l t c
       → live_in l records t ≡ true → IsPlainOver c l.placed → ⊥
   not_plain t c overlaid over live m =
-      let parts = and_parts (not (is_overlaid_mark m.is.mark)) (is_over m.is c) m.over in
-      let k = over_is m.is c parts.1 in
-      let plain : is_overlaid_at (slice_get l.placed m.at) ≡ false = ap is_overlaid_at m.there
-      ∙ not-true (is_overlaid_mark m.is.mark) parts.0 in
-      let same : t ≡ m.at =
-      one c t m.at over (record { is = m.is; placed = m.there; segment = k.0; covers = k.1 }) live
-      (plain_live m.at plain) in
+      let at = m.1 in
+      let parts = and_parts (not (is_overlaid_mark m.0.mark)) (is_over m.0 c) m.2 in
+      let k = over_is m.0 c parts.1 in
+      let plain : is_overlaid_at (slice_get l.placed at.index) ≡ false = ap is_overlaid_at at.got
+      ∙ not-true (is_overlaid_mark m.0.mark) parts.0 in
+      let same : t ≡ at.index =
+      one c t at.index over (record { is = m.0; placed = at.got; segment = k.0; covers = k.1 }) live
+      (plain_live at.index plain) in
       false≢true (sym plain ∙ ap (λ k. is_overlaid_at (slice_get l.placed k)) (sym same) ∙ overlaid)
 
   not_written : (t : ℕ) (c : Cell) → is_overlaid_at (slice_get l.placed t) ≡ true → has_cell l t c ≡ true
@@ -196,11 +334,8 @@ module _ (l : LayoutParts) (ok : IsStartable l) (image : List ℕ) (script : Scr
       holds c (has_cell_data l t c f)
       ∙ ap (λ b. if b then Some (fill_in fill c.space c.at) else None) (not_written t c e f g)
   in_segment t c false true false e f g = absurd (false≢true (sym g ∙ plain_live t e))
-  in_segment t c true true false e f g = refl
-  in_segment t c false false true e f g = refl
-  in_segment t c true false true e f g = refl
-  in_segment t c false false false e f g = refl
-  in_segment t c true false false e f g = refl
+  in_segment t c overlaid has false e f g = refl
+  in_segment t c overlaid has true e f g = refl
 
   in_common : (c : Cell) (common : Bool) → is_common l c ≡ common
       → (if common then held_value (cell_state store c) else None)

@@ -1,10 +1,9 @@
 -- Each graph has a weight: without cycles there is a heaviest walk from each unit.
-use Rattle.m51_build_proof.proofs.Common.{◌≡◌, ◌⊎◌, inl, inr, ℕ, zero, suc, ◌+◌, ◌<◌, ◌≤◌, true, Bool, List, [], ◌∷◌}
-use Rattle.m51_build_proof.proofs.Common.{length, map, refl, arith, list_any, false≢true, sym, ap, ◌∙◌, Chain, vectors}
-use Rattle.m51_build_proof.proofs.Common.{GraphParts, IsGraph, leads, false}
-use Rattle.std.proofs.Common.{not}
-use Rattle.std.specs.List.{Contains, sum_by}
-use Rattle.std.proofs.lemmas.Bool.{cases_Bool, cases_lt, not-true}
+use Rattle.m51_build_proof.proofs.Common.{Chain, vectors, GraphParts, IsGraph, leads}
+use Rattle.std.proofs.Common.{◌≡◌, ◌⊎◌, inl, inr, ℕ, zero, suc, ◌+◌, ◌<◌, ◌≤◌, true, Bool, List, [], ◌∷◌, length, map}
+use Rattle.std.proofs.Common.{refl, arith, sym, ap, ◌∙◌, false, not}
+use Rattle.std.specs.List.{list_any, Contains, sum_by}
+use Rattle.std.proofs.lemmas.Bool.{false≢true, cases_Bool, cases_lt, not-true}
 use Rattle.std.proofs.lemmas.List.Folds.{Any-from_list_any, list_any-from_Any}
 use Rattle.std.proofs.lemmas.List.Sums.{sum_by-cons}
 use Rattle.m51_cells.proofs.Small.{contains_after, contains_first, first_or_after, none_in_empty}
@@ -84,34 +83,37 @@ module _ (weight : ℕ → ℕ) where
       inr (omega (arith, h.0, total_on unit next more, total_on unit next other), inr (refl, h.1))
 
   module _ (edges : Edges) where
-    -- a walk from the unit that beats all others
-    record HasBest (unit : ℕ) : Type 0 where
-      more : List ℕ
-      walk : IsWalk edges unit more
-      most : (other : List ℕ) → IsWalk edges unit other → Beats unit more other
-
     -- the walk takes no edge, or begins with one of these
     abbrev BeginsIn : Edges → ℕ → List ℕ → Type 0
     BeginsIn es unit [] = Unit {0}
     BeginsIn es unit (next ∷ more) = Contains es (unit, next)
 
+    -- a walk from the unit that beats all others which begin in these
     record HasBestIn (es : Edges) (unit : ℕ) : Type 0 where
       more : List ℕ
       walk : IsWalk edges unit more
       most : (other : List ℕ) → IsWalk edges unit other → BeginsIn es unit other → Beats unit more other
+
+    abbrev HasBest : ℕ → Type 0
+    HasBest unit = HasBestIn edges unit
+
+    begins : (unit : ℕ) (other : List ℕ) → IsWalk edges unit other → BeginsIn edges unit other
+    begins unit [] walk = tt
+    begins unit (next ∷ other) walk = walk.0
 
     none_yet : (unit : ℕ) (other : List ℕ) → IsWalk edges unit other → BeginsIn [] unit other → Beats unit [] other
     none_yet unit [] walk h = beats_self unit []
     none_yet unit (next ∷ other) walk h = absurd (none_in_empty (unit, next) h)
 
     -- what beats the walks that take the edge first, and those that begin in the others, beats both
-    by_edge : (unit : ℕ) (e : ℕ × ℕ) (es : Edges) (rest : HasBestIn es unit) (more : List ℕ)
+    with_edge : (unit : ℕ) (e : ℕ × ℕ) (es : Edges) (rest : HasBestIn es unit) (more : List ℕ) → IsWalk edges unit more
         → (e.0 ≡ unit → (other : List ℕ) → IsWalk edges e.1 other → Beats unit more (e.1 ∷ other))
-        → Beats unit more rest.more
-        → (other : List ℕ) → IsWalk edges unit other → BeginsIn (e ∷ es) unit other → Beats unit more other
-    by_edge unit e es rest more first two [] walk h = beats_over unit more rest.more [] two (rest.most [] tt tt)
-    by_edge unit e es rest more first two (next ∷ other) walk h =
-        elim (first_or_after e es (unit, next) h) [
+        → Beats unit more rest.more → HasBestIn (e ∷ es) unit
+    with_edge unit e es rest more walk first two = record { more = more; walk = walk; most = most }
+      where
+        most : (other : List ℕ) → IsWalk edges unit other → BeginsIn (e ∷ es) unit other → Beats unit more other
+        most [] walk h = beats_over unit more rest.more [] two (rest.most [] tt tt)
+        most (next ∷ other) walk h = elim (first_or_after e es (unit, next) h) [
           | inl here ↦
               let same = ap (λ (p : ℕ × ℕ). p.1) here in
               rw (← same) (first (ap (λ (p : ℕ × ℕ). p.0) here) other (rw same walk.1))
@@ -122,7 +124,7 @@ module _ (weight : ℕ → ℕ) where
         → (other : List ℕ) → IsWalk edges e.1 other → Beats unit more (e.1 ∷ other)
     by_step unit e step more one other walk =
         beats_over unit more (e.1 ∷ step.more) (e.1 ∷ other) one
-        (beats_on unit e.1 step.more other (step.most other walk))
+        (beats_on unit e.1 step.more other (step.most other walk (begins e.1 other walk)))
 
     best_in : (es : Edges) (unit : ℕ) → ((e : ℕ × ℕ) → Contains es e → Contains edges e)
         → ((next : ℕ) → HasEdge edges unit next → HasBest next) → HasBestIn es unit
@@ -134,29 +136,14 @@ module _ (weight : ℕ → ℕ) where
               let there : HasEdge edges unit e.1 = rw (← same) (among e (contains_first e es)) in
               let step = steps e.1 there in
               elim (beats_or unit (e.1 ∷ step.more) rest.more) [
-                | inl wins ↦ record {
-                  more = e.1 ∷ step.more;
-                  walk = (there, step.walk);
-                  most = by_edge unit e es rest (e.1 ∷ step.more)
-                      (λ _. by_step unit e step (e.1 ∷ step.more) (beats_self unit (e.1 ∷ step.more))) wins;
-                }
-                | inr loses ↦ record {
-                  more = rest.more;
-                  walk = rest.walk;
-                  most = by_edge unit e es rest rest.more
-                      (λ _. by_step unit e step rest.more loses) (beats_self unit rest.more);
-                }
+                | inl wins ↦ with_edge unit e es rest (e.1 ∷ step.more) (there, step.walk)
+                    (λ _. by_step unit e step (e.1 ∷ step.more) (beats_self unit (e.1 ∷ step.more))) wins
+                | inr loses ↦ with_edge unit e es rest rest.more rest.walk
+                    (λ _. by_step unit e step rest.more loses) (beats_self unit rest.more)
               ]
-          | inr differs ↦ record {
-            more = rest.more;
-            walk = rest.walk;
-            most = by_edge unit e es rest rest.more (λ same. absurd (differs same)) (beats_self unit rest.more);
-          }
+          | inr differs ↦ with_edge unit e es rest rest.more rest.walk (λ same. absurd (differs same))
+              (beats_self unit rest.more)
         ]
-
-    begins : (unit : ℕ) (other : List ℕ) → IsWalk edges unit other → BeginsIn edges unit other
-    begins unit [] walk = tt
-    begins unit (next ∷ other) walk = walk.0
 
     module _ (n : ℕ) (within : LeadWithin n edges) (no_cycle : (u : ℕ) → Reaches edges u u → ⊥) where
       height : ℕ → ℕ
@@ -176,15 +163,13 @@ module _ (weight : ℕ → ℕ) where
 
       -- a unit has more above it the fewer there are below
       has_best : (left unit : ℕ) → n ≤ height unit + left → HasBest unit
-      has_best zero unit high = record { more = []; walk = tt; most = no_other unit (omega (arith, high)) }
+      has_best zero unit high = record {
+        more = [];
+        walk = tt;
+        most = λ other walk _. no_other unit (omega (arith, high)) other walk;
+      }
       has_best (suc left) unit high =
-          let best = best_in edges unit (λ e h. h)
-          (λ next e. has_best left next (omega (arith, rises unit next e, high))) in
-          record {
-            more = best.more;
-            walk = best.walk;
-            most = λ other walk. best.most other walk (begins unit other walk);
-          }
+          best_in edges unit (λ e h. h) (λ next e. has_best left next (omega (arith, rises unit next e, high)))
 
       best_of : (unit : ℕ) → HasBest unit
       best_of unit = has_best n unit (omega arith)
@@ -223,13 +208,15 @@ module _ (g : GraphParts) (is : IsGraph g) (weight : ℕ → ℕ) where
       elim (root_at g.roots vector) [
         | inl found ↦
             let best = best_of weight g.edges (length g.units) is.units.edges is.no_cycle found.0 in
+            let most = λ (other : List ℕ) (walk : IsWalk g.edges found.0 other).
+            best.most other walk (begins weight g.edges found.0 other walk) in
             let chain : Chain = record {
               root = found.0;
               bytes = sum_along weight (found.0 ∷ best.more);
               units = found.0 ∷ best.more;
             } in
             let walk : IsHeaviestWalk g.edges weight chain =
-            record { more = best.more; units = refl; walk = best.walk; bytes = refl; most = best.most } in
+            record { more = best.more; units = refl; walk = best.walk; bytes = refl; most = most } in
             record { chains = chain ∷ rest.chains; are = inr (found.1, walk, rest.are) }
         | inr lacks ↦ record { chains = rest.chains; are = without vector more rest.chains lacks rest.are }
       ]

@@ -1,7 +1,7 @@
 -- What three or more files of these proofs import.
 pub use Rattle.std.proofs.Common.{◌++◌, ◌+◌, ◌-◌, ◌<◌, ◌^◌, ◌∙◌, ◌∷◌, ◌≡◌, ◌≤◌, ◌⊎◌, Bool, Err, List, None, Ok, Option}
 pub use Rattle.std.proofs.Common.{Result, Some, [], ap, append-nil, append_assoc, arith, drop, false, inl, inr, length}
-pub use Rattle.std.proofs.Common.{refl, subst, suc, sym, true, zero, zero-add, ℕ, ⊎_elim}
+pub use Rattle.std.proofs.Common.{refl, subst, suc, sym, true, zero, zero-add, ℕ}
 pub use Rattle.std.proofs.lemmas.Bool.{ne_eqb}
 pub use Rattle.std.proofs.lemmas.Grind.{flat_map-append}
 pub use Rattle.std.proofs.lemmas.Option.{none-some, same_Some}
@@ -9,6 +9,7 @@ pub use Rattle.std.specs.Io.KnownBytes.{Appends}
 pub use Rattle.std.specs.Prelude.{◌==◌, All, OnErr, OnOk, flat_map, if◌then◌else◌, min, nat_lt, option_to_list}
 pub use Rattle.std.specs.Prelude.{slice_get, slice_set}
 pub use Rattle.m51_cells.proofs.Fronts.{front_at_end}
+pub use Rattle.m51_cells.proofs.Members.{Every, every_append, every_weaker}
 pub use Rattle.m51_cells.specs.Outside.{AppendsFront}
 pub use Rattle.m51_cells.specs.declared.event.Entry.{Entry}
 pub use Rattle.m51_cells.specs.declared.event.Entry.TheVariants.{Port}
@@ -31,5 +32,3 @@ pub use Rattle.m51_sim.specs.SeparateMachine.{Separate, memory_after, separate_e
 pub use Rattle.m51_sim.specs.SeparateMachine.{separate_performs}
 pub use Rattle.m51_sim.specs.declared.cycles.Timed.{Timed}
 pub use Rattle.m51_sim.specs.declared.runs.Told.{Told}
-pub use Rattle.m51_timers_uart.specs.Tick.{ticked}
-pub use Rattle.m51_timers_uart.specs.declared.receiving.Frame.{Frame}

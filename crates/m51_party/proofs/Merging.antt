@@ -1,16 +1,8 @@
 -- Lists of steps, one for each board: the lines by the cycle in which their step starts, when one step is taken first.
-use Rattle.std.proofs.lemmas.Grind.{common_steps}
-use Rattle.m51_party.proofs.Common.{◌≡◌, ℕ, zero, suc, ◌+◌, ◌≤◌, ◌<◌, ⊎_elim, Bool, true, false, List, [], ◌∷◌, ◌++◌}
-use Rattle.m51_party.proofs.Common.{refl, sym, subst, ◌∙◌, arith, append_assoc, zero-add, ◌==◌, if◌then◌else◌}
-use Rattle.m51_party.proofs.Common.{flat_map, ne_eqb}
+use Rattle.m51_party.proofs.Common.{◌≡◌, ℕ, zero, suc, ◌≤◌, ◌<◌, inl, inr, List, [], ◌∷◌, ◌++◌, refl, arith}
+use Rattle.m51_party.proofs.Common.{append_assoc, ◌==◌, if◌then◌else◌, flat_map, ne_eqb, Every, every_weaker}
 use Rattle.std.proofs.Common.{◌≢◌}
 use Rattle.std.proofs.lemmas.Bool.{cases_lt, eq-eqb}
-
-chosen : (b : Bool) (xs : List ℕ) → b ≡ true → (if b then xs else []) ≡ xs
-chosen b xs e = cc
-
-left_out : (b : Bool) (xs : List ℕ) → b ≡ false → (if b then xs else []) ≡ []
-left_out b xs e = cc
 
 module _ {S : Type 0} (start : S → ℕ) (text : ℕ → S → List ℕ) where
   abbrev pub line : ℕ → ℕ → S → List ℕ
@@ -28,35 +20,16 @@ module _ {S : Type 0} (start : S → ℕ) (text : ℕ → S → List ℕ) where
 
   -- none starts earlier
   abbrev pub From : ℕ → List S → Type 0
-  From least [] = Unit {0}
-  From least (s ∷ ss) = (least ≤ start s) × From least ss
+  From least steps = Every (λ s. least ≤ start s) steps
 
   abbrev pub AllFrom : ℕ → List (List S) → Type 0
-  AllFrom least [] = Unit {0}
-  AllFrom least (steps ∷ rest) = From least steps × AllFrom least rest
-
-  -- there is no step
-  abbrev pub AllEmpty : List (List S) → Type 0
-  AllEmpty [] = Unit {0}
-  AllEmpty (steps ∷ rest) = (steps ≡ []) × AllEmpty rest
-
-  -- The list at this index begins with a step that starts in this cycle, which is taken off; the others stay. Those
-  -- before it start later, and those that come after it no earlier.
-  abbrev pub Takes : ℕ → ℕ → S → List (List S) → List (List S) → Type 0
-  Takes index cycle s [] news = ⊥
-  Takes index cycle s (old ∷ olds) [] = ⊥
-  Takes zero cycle s (old ∷ olds) (new ∷ news) = (old ≡ s ∷ new) × (news ≡ olds) × From cycle new × AllFrom cycle olds
-  Takes (suc index) cycle s (old ∷ olds) (new ∷ news) = (new ≡ old) × From (suc cycle) old
-      × Takes index cycle s olds news
+  AllFrom least all = Every (From least) all
 
   no_line : (cycle index least : ℕ) (steps : List S) → cycle < least → From least steps
       → flat_map (line cycle index) steps ≡ []
   no_line cycle index least [] below h = refl
   no_line cycle index least (s ∷ ss) below h =
-      cc (
-        left_out (start s == cycle) (text index s) (ne_eqb (start s) cycle (λ e. omega (arith, e, h.0, below))),
-        no_line cycle index least ss below h.1,
-      )
+      cc (ne_eqb (start s) cycle (λ e. omega (arith, e, h.0, below)), no_line cycle index least ss below h.1)
 
   no_lines : (cycle index least : ℕ) (all : List (List S)) → cycle < least → AllFrom least all
       → at_cycle cycle index all ≡ []
@@ -69,83 +42,62 @@ module _ {S : Type 0} (start : S → ℕ) (text : ℕ → S → List ℕ) where
   none_before (suc cycle) least all below h =
       cc (none_before cycle least all (omega (arith, below)) h, no_lines cycle 0 least all (omega (arith, below)) h)
 
-  from_more : (least : ℕ) (steps : List S) → From (suc least) steps → From least steps
-  from_more least [] h = tt
-  from_more least (s ∷ ss) h = (omega (arith, h.0), from_more least ss h.1)
+  -- One list, that of the board of this number, begins with a step that starts in this cycle, which is taken off. In
+  -- its cycle its lines come first, and in other cycles the lines stay; no list has a step that starts earlier.
+  pub record Takes (at number cycle : ℕ) (s : S) (olds news : List (List S)) : Type 0 where
+    pub first : AllFrom cycle olds
+    pub after : AllFrom cycle news
+    pub here : at_cycle cycle at olds ≡ text number s ++ at_cycle cycle at news
+    pub others : (later : ℕ) → cycle ≢ later → at_cycle later at olds ≡ at_cycle later at news
 
-  olds_from : (index cycle : ℕ) (s : S) (olds news : List (List S)) → start s ≡ cycle → Takes index cycle s olds news
-      → AllFrom cycle olds
-  olds_from zero cycle s (old ∷ olds) (new ∷ news) e h =
-      (subst (From cycle) (sym h.0) (omega (arith, e), h.2), h.3)
-  olds_from (suc index) cycle s (old ∷ olds) (new ∷ news) e h =
-      (from_more cycle old h.1, olds_from index cycle s olds news e h.2)
-  olds_from index cycle s olds news e h = absurd h
+  pub takes_here : (at cycle : ℕ) (s : S) (steps : List S) (rest : List (List S)) → start s ≡ cycle → From cycle steps
+      → AllFrom cycle rest → Takes at at cycle s ((s ∷ steps) ∷ rest) (steps ∷ rest)
+  takes_here at cycle s steps rest e h k = record {
+    first = ((omega arith, h), k);
+    after = (h, k);
+    here = cc (
+      eq-eqb (start s) cycle e,
+      append_assoc (text at s) (flat_map (line cycle at) steps) (at_cycle cycle (suc at) rest),
+    );
+    others = λ later ne. cc (ne_eqb (start s) later (λ i. ne (cc (e, i))));
+  }
 
-  news_from : (index cycle : ℕ) (s : S) (olds news : List (List S)) → Takes index cycle s olds news → AllFrom cycle news
-  news_from zero cycle s (old ∷ olds) (new ∷ news) h = (h.2, subst (AllFrom cycle) (sym h.1) h.3)
-  news_from (suc index) cycle s (old ∷ olds) (new ∷ news) h =
-      (subst (From cycle) (sym h.0) (from_more cycle old h.1), news_from index cycle s olds news h.2)
-  news_from index cycle s olds news h = absurd h
-
-  -- in its cycle the lines of the step come first
-  taken : (index cycle at number : ℕ) (s : S) (olds news : List (List S)) → start s ≡ cycle → number ≡ at + index
-      → Takes index cycle s olds news → at_cycle cycle at olds ≡ text number s ++ at_cycle cycle at news
-  taken index cycle at number s [] news e is h = absurd h
-  taken index cycle at number s (old ∷ olds) [] e is h = absurd h
-  taken zero cycle at number s (old ∷ olds) (new ∷ news) e is h =
-      grind (
-        arith,
-        common_steps,
-        chosen (start s == cycle) (text at s) (eq-eqb (start s) cycle e),
-        append_assoc (text at s) (flat_map (line cycle at) new) (at_cycle cycle (suc at) olds),
-      )
-  taken (suc index) cycle at number s (old ∷ olds) (new ∷ news) e is h =
-      cc (
-        no_line cycle at (suc cycle) old (omega arith) h.1,
-        taken index cycle (suc at) number s olds news e (omega (arith, is)) h.2,
-      )
-
-  -- in other cycles the lines stay
-  others : (index cycle at later : ℕ) (s : S) (olds news : List (List S)) → start s ≡ cycle → cycle ≢ later
-      → Takes index cycle s olds news → at_cycle later at olds ≡ at_cycle later at news
-  others index cycle at later s [] news e ne h = absurd h
-  others index cycle at later s (old ∷ olds) [] e ne h = absurd h
-  others zero cycle at later s (old ∷ olds) (new ∷ news) e ne h =
-      cc (left_out (start s == later) (text at s) (ne_eqb (start s) later (λ i. ne (sym e ∙ i))))
-  others (suc index) cycle at later s (old ∷ olds) (new ∷ news) e ne h =
-      cc (others index cycle (suc at) later s olds news e ne h.2)
-
-  last_taken : (index cycle limit : ℕ) (s : S) (olds news : List (List S)) → start s ≡ cycle
-      → Takes index cycle s olds news
-      → limit ≡ cycle → before (suc limit) olds ≡ text index s ++ before (suc limit) news
-  last_taken index cycle limit s olds news e h is =
-      cc (
-        none_before limit cycle olds (omega (arith, is)) (olds_from index cycle s olds news e h),
-        none_before limit cycle news (omega (arith, is)) (news_from index cycle s olds news h),
-        taken index cycle 0 index s olds news e (sym (zero-add index)) h,
-      )
+  pub takes_later : (at number cycle : ℕ) (s : S) (steps : List S) (olds news : List (List S)) → From (suc cycle) steps
+      → Takes (suc at) number cycle s olds news → Takes at number cycle s (steps ∷ olds) (steps ∷ news)
+  takes_later at number cycle s steps olds news h t =
+      let from = every_weaker (λ s. suc cycle ≤ start s) (λ s. cycle ≤ start s) steps (λ s b. omega (arith, b)) h in
+      record {
+        first = (from, t.first);
+        after = (from, t.after);
+        here = cc (no_line cycle at (suc cycle) steps (omega arith) h, t.here);
+        others = λ later ne. cc (t.others later ne);
+      }
 
   -- the lines of the step come before all others
-  pub first_taken : (index cycle limit : ℕ) (s : S) (olds news : List (List S)) → start s ≡ cycle
-      → Takes index cycle s olds news
-      → cycle < limit → before limit olds ≡ text index s ++ before limit news
-  first_taken index cycle zero s olds news e h below = absurd (omega (arith, below))
-  first_taken index cycle (suc limit) s olds news e h below =
-      ⊎_elim
-      (grind (
-        arith,
-        common_steps,
-        first_taken index cycle limit s olds news e h,
-        append_assoc (text index s) (before limit news) (at_cycle limit 0 olds),
-        others index cycle 0 limit s olds news e,
-      ))
-      (grind (arith, common_steps, last_taken index cycle limit s olds news e h))
-      (cases_lt cycle limit)
+  pub first_taken : (number cycle limit : ℕ) (s : S) (olds news : List (List S)) → Takes 0 number cycle s olds news
+      → cycle < limit → before limit olds ≡ text number s ++ before limit news
+  first_taken number cycle zero s olds news t below = absurd (omega (arith, below))
+  first_taken number cycle (suc limit) s olds news t below = elim (cases_lt cycle limit) [
+    | inl b ↦ cc (
+      first_taken number cycle limit s olds news t b,
+      append_assoc (text number s) (before limit news) (at_cycle limit 0 news),
+      t.others limit (λ e. omega (arith, e, b)),
+    )
+    | inr h ↦ let e : limit ≡ cycle = omega (arith, below, h) in
+        rw e (cc (
+          none_before cycle cycle olds (omega arith) t.first,
+          none_before cycle cycle news (omega arith) t.after,
+          t.here,
+        ))
+  ]
 
-  pub no_more : (all : List (List S)) → AllEmpty all → (cycle at : ℕ) → at_cycle cycle at all ≡ []
+  -- there is no step
+  abbrev pub AllEmpty : List (List S) → Type 0
+  AllEmpty all = Every (λ steps. steps ≡ []) all
+
+  no_more : (all : List (List S)) → AllEmpty all → (cycle at : ℕ) → at_cycle cycle at all ≡ []
   no_more [] h cycle at = refl
-  no_more (steps ∷ rest) h cycle at =
-      cc (no_more rest h.1 cycle (suc at))
+  no_more (steps ∷ rest) h cycle at = cc (no_more rest h.1 cycle (suc at))
 
   pub all_over : (all : List (List S)) → AllEmpty all → (cycle : ℕ) → before cycle all ≡ []
   all_over all h zero = refl

@@ -1,18 +1,13 @@
 -- Boards of which contracts see the same make the same records and the same text.
 use Rattle.std.proofs.lemmas.Grind.{common_steps}
-use Rattle.std.proofs.Common.{arith}
-use Rattle.m51_party.proofs.Common.{◌≡◌, ◌+◌, ℕ, suc, zero, List, [], ◌∷◌, length, refl, sym, ap, ◌∙◌, All}
-use Rattle.m51_party.proofs.Common.{LayoutParts, Timed, BoardState, separate_of, inputs_of, with_extra}
-use Rattle.m51_party.proofs.Common.{State, Separate, separate_machine, Seat, new_seat, Family, IsFamily}
-use Rattle.m51_party.proofs.Common.{IsFresh, frames_for, machine_with, record_with, records_from}
+use Rattle.m51_party.proofs.Common.{◌≡◌, ◌+◌, ℕ, suc, zero, List, [], ◌∷◌, length, refl, sym, ap, ◌∙◌, All, Timed}
+use Rattle.m51_party.proofs.Common.{BoardState, separate_of, inputs_of, with_extra, separate_machine, Seat, new_seat}
+use Rattle.m51_party.proofs.Common.{Family, IsFamily, IsFresh, frames_for, machine_with, record_with, records_from}
 use Rattle.m51_party.proofs.Common.{greatest_cycle, last_lines}
-use Rattle.std.proofs.Common.{map}
-use Rattle.m51_script.specs.declared.script.Script.{Script}
+use Rattle.std.proofs.Common.{arith, map}
 use Rattle.m51_sim.specs.Runs.{record_of}
 use Rattle.m51_party.specs.Report.{IsPartyOf, boards_of}
-use Rattle.m51_party.specs.Text.{lines_at, lines_before}
-use Rattle.m51_party.specs.Text.{party_text}
-use Rattle.m51_party.specs.Text.{steps_of}
+use Rattle.m51_party.specs.Text.{lines_at, lines_before, party_text, steps_of}
 use Rattle.m51_party.proofs.One.{only_family}
 
 -- two boards with the same layout, image, script and state
@@ -28,38 +23,29 @@ AllAlike [] [] = Unit {0}
 AllAlike (b ∷ bs) (c ∷ cs) = AreAlike b c × AllAlike bs cs
 AllAlike bs cs = ⊥
 
--- what is made of these parts of a board
-alike : {X : Type 0} (of : LayoutParts → List ℕ → Script → State Separate → X) (b c : BoardState) → AreAlike b c
-    → of b.monitor.layout b.chip.image b.chip.script (separate_of b)
-    ≡ of c.monitor.layout c.chip.image c.chip.script (separate_of c)
-alike of b c h =
-    cc
-
 record_alike : (n : ℕ) (extra : List Timed) (b c : BoardState) → AreAlike b c
     → record_with n extra b ≡ record_with n extra c
-record_alike n extra b c h =
-    alike (λ l image script s. record_of (separate_machine l image (with_extra extra (inputs_of script))) n s) b c h
+record_alike n extra b c h = λ i. record_of (separate_machine (h.layout i) (h.image i)
+    (with_extra extra (inputs_of (h.script i)))) n (h.state i)
 
 steps_alike : (n : ℕ) (extra : List Timed) (b c : BoardState) → AreAlike b c
     → steps_of (machine_with extra b) n (separate_of b) ≡ steps_of (machine_with extra c) n (separate_of c)
-steps_alike n extra b c h =
-    alike (λ l image script s. steps_of (separate_machine l image (with_extra extra (inputs_of script))) n s) b c h
+steps_alike n extra b c h = λ i. steps_of (separate_machine (h.layout i) (h.image i)
+    (with_extra extra (inputs_of (h.script i)))) n (h.state i)
 
 records_alike : (index : ℕ) (bs cs : List BoardState) (n : ℕ) (family : Family) → AllAlike bs cs
     → records_from index bs n family ≡ records_from index cs n family
 records_alike index [] [] n family h = refl
 records_alike index (b ∷ bs) (c ∷ cs) n family h =
     cc (record_alike n (frames_for index family) b c h.0, records_alike (suc index) bs cs n family h.1)
-records_alike index [] (c ∷ cs) n family h = absurd h
-records_alike index (b ∷ bs) [] n family h = absurd h
+records_alike index bs cs n family h = absurd h
 
 at_alike : (cycle index : ℕ) (bs cs : List BoardState) (n : ℕ) (family : Family) → AllAlike bs cs
     → lines_at cycle index bs n family ≡ lines_at cycle index cs n family
 at_alike cycle index [] [] n family h = refl
 at_alike cycle index (b ∷ bs) (c ∷ cs) n family h =
     cc (steps_alike n (frames_for index family) b c h.0, at_alike cycle (suc index) bs cs n family h.1)
-at_alike cycle index [] (c ∷ cs) n family h = absurd h
-at_alike cycle index (b ∷ bs) [] n family h = absurd h
+at_alike cycle index bs cs n family h = absurd h
 
 before_alike : (cycle : ℕ) (bs cs : List BoardState) (n : ℕ) (family : Family) → AllAlike bs cs
     → lines_before cycle bs n family ≡ lines_before cycle cs n family
@@ -95,7 +81,7 @@ family_alike bs cs n one other h fresh is also =
 
 -- ---- the boards that a party was made of
 
-seats_boards : (bs : List BoardState) → boards_of (map new_seat bs) ≡ bs
+pub seats_boards : (bs : List BoardState) → boards_of (map new_seat bs) ≡ bs
 seats_boards [] = refl
 seats_boards (b ∷ bs) = cc (seats_boards bs)
 

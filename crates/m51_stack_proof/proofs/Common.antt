@@ -1,6 +1,6 @@
 -- What three or more files of these proofs import.
 pub use Rattle.std.proofs.Common.{◌%◌, ◌*◌, ◌+◌, ◌-◌, ◌/◌, ◌∙◌, ◌∷◌, ◌≡◌, ◌≤◌, ◌⊎◌, Bool, List, None, Option, Some, []}
-pub use Rattle.std.proofs.Common.{ap, arith, false, inl, inr, length, not, refl, subst, suc, sym, true, ℕ}
+pub use Rattle.std.proofs.Common.{ap, arith, false, inl, inr, length, not, refl, suc, sym, true, ℕ}
 pub use Rattle.std.proofs.lemmas.Bool.{eqb-true}
 pub use Rattle.std.specs.List.{Contains}
 pub use Rattle.std.specs.Option.{unwrap_or}

@@ -1,10 +1,5 @@
-pub mod Common
-pub mod Stacking
-pub mod Instructions
+mod Common
+mod Instructions
 pub mod Meeting
-pub mod Frames
-pub mod Judged
-pub mod Steps
-pub mod Running
+mod Steps
 pub mod Bounded
-pub mod Reaching

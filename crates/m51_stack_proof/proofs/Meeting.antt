@@ -1,10 +1,10 @@
 -- The same notions in the words of the machine and of the bound: units at addresses, instructions, bytes inside.
 use Rattle.std.proofs.lemmas.Grind.{common_steps}
-use Rattle.m51_stack_proof.proofs.Common.{◌≡◌, ◌≤◌, ◌+◌, ◌%◌, ◌-◌, ℕ, suc, Bool, true, false, List, refl, sym, ap}
-use Rattle.m51_stack_proof.proofs.Common.{◌∙◌, arith, ◌⊎◌, Option, Some, None, ◌&&◌, ◌||◌}
-use Rattle.m51_stack_proof.proofs.Common.{if◌then◌else◌, is_some, unwrap_or, Contains, eqb-true, Instr, Source}
-use Rattle.m51_stack_proof.proofs.Common.{LayoutParts, IsUnitAt, IsSound, HasEdge, root_found, unit_found, is_at, Point}
-use Rattle.m51_stack_proof.proofs.Common.{is_call, is_jump, next_of, sets_sp, target_of, writes_sp, call_of, handlers}
+use Rattle.m51_stack_proof.proofs.Common.{◌≡◌, ◌≤◌, ◌+◌, ◌%◌, ◌-◌, ℕ, suc, Bool, true, false, List, refl, sym, ap, ◌∙◌}
+use Rattle.m51_stack_proof.proofs.Common.{arith, ◌⊎◌, Option, Some, None, ◌&&◌, ◌||◌, if◌then◌else◌, is_some, unwrap_or}
+use Rattle.m51_stack_proof.proofs.Common.{Contains, eqb-true, Instr, Source, LayoutParts, IsUnitAt, IsSound, HasEdge}
+use Rattle.m51_stack_proof.proofs.Common.{root_found, unit_found, is_at, Point, is_call, is_jump, next_of, sets_sp}
+use Rattle.m51_stack_proof.proofs.Common.{target_of, writes_sp, call_of, handlers}
 use Rattle.std.proofs.Common.{zero, ◌++◌}
 use Rattle.std.specs.Prelude.{IfSome, nat_eq}
 use Rattle.std.proofs.lemmas.Bool.{and_parts, eq-eqb}
@@ -24,11 +24,9 @@ use Rattle.m51_monitor.proofs.Finding.{same_root_found, unit_found_is}
 use Rattle.m51_sim.specs.Effects as machine
 use Rattle.m51_sim.specs.SeparateMachine as separate
 use Rattle.m51_stackbound.specs.Instructions.{instr_at}
-use Rattle.m51_stackbound.specs.Points.{after_instr, at_next, at_target, call_by, ends_at}
-use Rattle.m51_stackbound.specs.Points.{follow_by, height_after, instruction, point_at}
-use Rattle.m51_stackbound.specs.Points.{successors}
-use Rattle.m51_stackbound.specs.Units.{counts, in_one_unit, interrupts, same_or_edge, lie_inside, root_of}
-use Rattle.m51_stackbound.specs.Units.{same}
+use Rattle.m51_stackbound.specs.Points.{after_instr, at_next, at_target, call_by, ends_at, follow_by, height_after}
+use Rattle.m51_stackbound.specs.Points.{instruction, point_at, successors}
+use Rattle.m51_stackbound.specs.Units.{counts, in_one_unit, interrupts, same_or_edge, lie_inside, root_of, same}
 use Rattle.m51_stackbound.specs.Units.{unit_of}
 use Rattle.m51_stackbound.proofs.Finding.{root_found as root_there, root_is, unit_is}
 use Rattle.m51_stackbound.proofs.Inside.{interrupt_is_vector}

@@ -1,6 +1,6 @@
 -- A run with notes that are empty is the record of the run.
-use Rattle.std.proofs.Common.{◌≡◌, ℕ, zero, suc, ◌+◌, List, [], ◌++◌, Some, None, Result, Ok, Err, sym, ap, ◌∙◌}
-use Rattle.std.proofs.Common.{append_assoc, zero-add, add-zero, arith}
+use Rattle.std.proofs.Common.{◌≡◌, ℕ, zero, suc, ◌+◌, List, [], ◌++◌, Result, Ok, Err, refl, append_assoc, zero-add}
+use Rattle.std.proofs.Common.{add-zero, arith}
 use Rattle.std.specs.Prelude.{flat_map}
 use Rattle.std.proofs.lemmas.Grind.{flat_map-append}
 use Rattle.m51_cells.specs.declared.event.Event.{Event}
@@ -25,23 +25,20 @@ module _ {M : Type 0} (titles : List (List ℕ)) (machine : Machine M) where
   by_step left done s (Ok step) rest =
       let r = record_of machine left step.state in
       let count : suc done + r.steps ≡ done + suc r.steps = omega arith in
-      ap (λ t. flat_map entry_line (entries_of step.told) ++ t) (rest step.state)
-      ∙ sym (append_assoc (flat_map entry_line (entries_of step.told)) (entry_lines r) _)
-      ∙ ap (λ t. t ++ last_line titles r.event (suc done + r.steps) r.last.cycle)
-      (sym (flat_map-append entry_line (entries_of step.told) r.entries))
-      ∙ ap (λ c. flat_map entry_line (entries_of step.told ++ r.entries) ++ last_line titles r.event c r.last.cycle)
-      count
-  by_step left done s (Err event) rest = ap (λ (c : ℕ). last_line titles (Some event) c s.cycle) (sym (add-zero done))
+      cc (
+        rest step.state,
+        append_assoc (flat_map entry_line (entries_of step.told)) (entry_lines r)
+            (last_line titles r.event (suc done + r.steps) r.last.cycle),
+        flat_map-append entry_line (entries_of step.told) r.entries,
+      )
+  by_step left done s (Err event) rest = rw add-zero refl
 
   follows_alone : (left done : ℕ) (s : State M)
       → follows titles machine none left done s ≡ text_after titles done (record_of machine left s)
   unfolding follows record_of
-  follows_alone zero done s = ap (λ (c : ℕ). last_line titles None c s.cycle) (sym (add-zero done))
-  follows_alone (suc left) done s = by_step left done s (machine s) (λ t. follows_alone left (suc done) t)
+  follows_alone zero done s = rw add-zero refl
+  follows_alone (suc left) done s = by_step left done s (machine s) (follows_alone left (suc done))
 
   pub alone : (n : ℕ) (first : State M)
       → noted titles machine none n first ≡ record_text titles (record_of machine n first)
-  alone n first = follows_alone n 0 first
-      ∙ ap (λ c. entry_lines (record_of machine n first)
-      ++ last_line titles (record_of machine n first).event c (record_of machine n first).last.cycle)
-      (zero-add (record_of machine n first).steps)
+  alone n first = rw zero-add at (follows_alone n 0 first)

@@ -1,7 +1,5 @@
 pub mod Pieces
 pub mod Places
-pub mod Codes
-pub mod Cells
 pub mod Listed
 pub mod Shown
 pub mod Tabled
@@ -9,6 +7,5 @@ pub mod Totals
 pub mod Counted
 pub mod UnderWay
 pub mod Alone
-pub mod Moved
 pub mod Running
 pub mod Ended

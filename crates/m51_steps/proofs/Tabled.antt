@@ -1,63 +1,29 @@
 -- Tables that agree give the same text.
-use Rattle.std.proofs.Common.{◌≡◌, ℕ, ◌+◌, ◌<◌, List, [], ◌∷◌, ◌++◌, append_assoc, refl, sym, ap, ◌∙◌}
-use Rattle.std.proofs.Common.{arith}
-use Rattle.std.specs.Prelude.{◌*◌, ◌==◌, if◌then◌else◌, codes}
-use Rattle.std.specs.Fmt.{decimal}
-use Rattle.m51_cells.specs.Hex.{hex4}
-use Rattle.m51_sim.specs.Effects.{instr_at}
-use Rattle.m51_steps.specs.Lines.{tab}
+use Rattle.std.proofs.Common.{◌≡◌, ℕ, ◌+◌, ◌<◌, List, [], ◌∷◌, ◌++◌, append_assoc, refl, arith}
+use Rattle.std.specs.Prelude.{codes}
 use Rattle.m51_steps.specs.Listing.{mark_after}
-use Rattle.m51_steps.specs.Counts.{AgreesWith, Kept, Table, address_line, address_lines, idle_line}
-use Rattle.m51_steps.specs.Counts.{next_text}
-use Rattle.m51_steps.specs.Counts.{table_in, table_text, vector_line, vector_lines}
+use Rattle.m51_steps.specs.Counts.{AgreesWith, Kept, Table, address_line, address_lines, idle_line, table_in}
+use Rattle.m51_steps.specs.Counts.{table_text, vector_line, vector_lines}
 use Rattle.m51_steps.specs.declared.shape.Shape.{Shape}
 use Rattle.m51_steps.specs.declared.shape.Shape.TheVariants.{Lines, Ram, Counts}
 use Rattle.m51_steps.specs.Traced.{ending_by}
 use Rattle.m51_steps.proofs.Listed.{listed_same}
-
--- a table of two numbers at each place
-abbrev constant : ℕ → ℕ → Table
-constant times cycles = record { times = λ place. times; cycles = λ place. cycles }
-
--- the line by two numbers
-abbrev address_by : List ℕ → ℕ → ℕ → ℕ → List ℕ
-address_by image address times cycles =
-    if times == 0 then []
-    else hex4 address ++ tab ++ (decimal times ++ tab ++ decimal cycles ++ tab) ++ next_text (instr_at image address)
-    ++ codes "\n"
-
-abbrev vector_by : ℕ → ℕ → ℕ → List ℕ
-vector_by source times cycles =
-    if times == 0 then []
-    else codes "VECTOR\t" ++ (decimal times ++ tab ++ decimal cycles ++ tab) ++ codes "VECTOR " ++ hex4 (3 + 8 * source)
-    ++ codes "\n"
-
-abbrev idle_by : ℕ → ℕ → List ℕ
-idle_by times cycles =
-    if times == 0 then [] else codes "IDLE\t" ++ (decimal times ++ tab ++ decimal cycles ++ tab) ++ codes "IDLE\n"
 
 module _ (image : List ℕ) (kept : Kept) (t : Table) (same : AgreesWith kept t) where
   same_address : (address : ℕ) → address < 65536
       → address_line image (table_in kept) address ≡ address_line image t address
   unfolding address_line
   same_address address below =
-      ap (λ (n : ℕ). address_by image address n ((table_in kept).cycles address))
-      (same.times address (omega (arith, below)))
-      ∙ ap (λ (n : ℕ). address_by image address (t.times address) n) (same.cycles address (omega (arith, below)))
+      rw (same.times address (omega (arith, below)), same.cycles address (omega (arith, below))) refl
 
   same_vector : (source : ℕ) → source < 6 → vector_line (table_in kept) source ≡ vector_line t source
   unfolding vector_line
   same_vector source below =
-      ap (λ (n : ℕ). vector_by source n ((table_in kept).cycles (65536 + source)))
-      (same.times (65536 + source) (omega (arith, below)))
-      ∙ ap (λ (n : ℕ). vector_by source (t.times (65536 + source)) n)
-      (same.cycles (65536 + source) (omega (arith, below)))
+      rw (same.times (65536 + source) (omega (arith, below)), same.cycles (65536 + source) (omega (arith, below))) refl
 
   same_idle : idle_line (table_in kept) ≡ idle_line t
   unfolding idle_line
-  same_idle =
-      ap (λ (n : ℕ). idle_by n ((table_in kept).cycles 65542)) (same.times 65542 (omega arith))
-      ∙ ap (λ (n : ℕ). idle_by (t.times 65542) n) (same.cycles 65542 (omega arith))
+  same_idle = rw (same.times 65542 (omega arith), same.cycles 65542 (omega arith)) refl
 
   same_addresses : (count : ℕ) → count < 65537 → address_lines image (table_in kept) count ≡ address_lines image t count
   unfolding address_lines
@@ -71,24 +37,19 @@ module _ (image : List ℕ) (kept : Kept) (t : Table) (same : AgreesWith kept t)
       listed_same (vector_line (table_in kept)) (vector_line t) [] [] count 0
       (λ a below. same_vector a (omega (arith, below, few)))
 
-  pub same_table : table_text image (table_in kept) ≡ table_text image t
+  same_table : table_text image (table_in kept) ≡ table_text image t
   unfolding table_text
-  same_table =
-      ap (λ (x : List ℕ). codes "PC\tTIMES\tCYCLES\tNEXT\n" ++ x ++ vector_lines (table_in kept) 6
-      ++ idle_line (table_in kept)) (same_addresses 65536 (omega arith))
-      ∙ ap (λ (x : List ℕ). codes "PC\tTIMES\tCYCLES\tNEXT\n" ++ address_lines image t 65536 ++ x
-      ++ idle_line (table_in kept)) (same_vectors 6 (omega arith))
-      ∙ ap (λ (x : List ℕ). codes "PC\tTIMES\tCYCLES\tNEXT\n" ++ address_lines image t 65536 ++ vector_lines t 6 ++ x)
-      same_idle
+  same_table = rw (same_addresses 65536 (omega arith), same_vectors 6 (omega arith), same_idle) refl
 
 -- the text of a table by the titles of its columns
 pub table_is : (titles image : List ℕ) (t : Table) → titles ≡ codes "PC\tTIMES\tCYCLES\tNEXT\n"
     → titles ++ (address_lines image t 65536 ++ (vector_lines t 6 ++ idle_line t)) ≡ table_text image t
 unfolding table_text
-table_is titles image t same =
-    sym (append_assoc (titles ++ address_lines image t 65536) (vector_lines t 6) (idle_line t)
-    ∙ append_assoc titles (address_lines image t 65536) (vector_lines t 6 ++ idle_line t))
-    ∙ ap (λ (x : List ℕ). x ++ address_lines image t 65536 ++ vector_lines t 6 ++ idle_line t) same
+table_is titles image t same = cc (
+  same,
+  append_assoc (titles ++ address_lines image t 65536) (vector_lines t 6) (idle_line t),
+  append_assoc titles (address_lines image t 65536) (vector_lines t 6 ++ idle_line t),
+)
 
 -- what is listed without marks
 pub no_mark : (it : List ℕ) → [] ≡ mark_after [] [] it
@@ -100,4 +61,4 @@ pub ending_same : (shape : Shape) (i j : List ℕ) (kept : Kept) (t : Table) →
     → ending_by shape i (table_in kept) ≡ ending_by shape j t
 ending_same (Lines w) i j kept t e same = refl
 ending_same (Ram w) i j kept t e same = refl
-ending_same Counts i j kept t e same = ap (λ (k : List ℕ). table_text k (table_in kept)) e ∙ same_table j kept t same
+ending_same Counts i j kept t e same = rw e (same_table j kept t same)

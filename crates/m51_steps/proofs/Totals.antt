@@ -1,8 +1,8 @@
 -- The columns of the table of counts add up to the steps of the run and to their cycles.
-use Rattle.std.proofs.Common.{◌≡◌, ℕ, zero, suc, ◌+◌, ◌-◌, ◌<◌, ◌≤◌, inl, inr, Bool, true, false, List, [], ◌∷◌}
-use Rattle.std.proofs.Common.{length, Result, Ok, Err, refl, ap, ap₂, ◌∙◌, arith}
+use Rattle.std.proofs.Common.{◌≡◌, ℕ, zero, suc, ◌+◌, ◌-◌, ◌<◌, ◌≤◌, List, [], ◌∷◌, length, Result, Ok, Err, refl, ap}
+use Rattle.std.proofs.Common.{ap₂, ◌∙◌, arith}
 use Rattle.std.specs.Prelude.{◌==◌, ◌^◌, if◌then◌else◌, sum_by}
-use Rattle.std.proofs.lemmas.Bool.{cases_lt, eqb-false, eqb-true, ne_eqb}
+use Rattle.std.proofs.lemmas.Bool.Decides.{nat_tests}
 use Rattle.std.proofs.lemmas.List.Sums.{sum_by-cons}
 use Rattle.m51_cells.proofs.Members.{Every, every_weaker, total}
 use Rattle.m51_cells.specs.declared.event.Event.{Event}
@@ -44,26 +44,12 @@ at_one at v k = if at == k then v else 0
 before_one : (n at v : ℕ) → n ≤ at → sum_below n (at_one at v) ≡ 0
 unfolding sum_below
 before_one zero at v h = refl
-before_one (suc n) at v h =
-    ap₂ ◌+◌ (before_one n at v (omega (arith, h)))
-    (ap (λ (b : Bool). if b then v else 0) (ne_eqb at n (λ e. omega (arith, h, e))))
-
-below_or : (n at : ℕ) → at < suc n → (at ≡ n → ⊥) → at < n
-below_or n at h other =
-    elim (cases_lt at n) [ inl below ↦ below | inr above ↦ absurd (other (omega (arith, h, above))) ]
-
-one_at : (n at v : ℕ) (b : Bool) → (at == n) ≡ b → at < suc n → (at < n → sum_below n (at_one at v) ≡ v)
-    → sum_below n (at_one at v) + at_one at v n ≡ v
-one_at n at v true e h on =
-    let same : at ≡ n = eqb-true at n e in
-    ap₂ ◌+◌ (before_one n at v (omega (arith, same))) (ap (λ (b : Bool). if b then v else 0) e) ∙ omega arith
-one_at n at v false e h on =
-    ap₂ ◌+◌ (on (below_or n at h (eqb-false at n e))) (ap (λ (b : Bool). if b then v else 0) e) ∙ omega arith
+before_one (suc n) at v h = grind (arith, nat_tests, before_one n at v (omega (arith, h)))
 
 below_one : (n at v : ℕ) → at < n → sum_below n (at_one at v) ≡ v
 unfolding sum_below
 below_one zero at v h = absurd (omega (arith, h))
-below_one (suc n) at v h = one_at n at v (at == n) refl h (below_one n at v)
+below_one (suc n) at v h = grind (arith, nat_tests, below_one n at v, before_one n at v)
 
 -- ---- each step is counted at one place
 

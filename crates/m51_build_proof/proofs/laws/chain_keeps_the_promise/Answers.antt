@@ -1,4 +1,4 @@
-use Rattle.m51_build_proof.proofs.Chained.{chain_keeps_promise}
+use Rattle.m51_build_proof.proofs.Promised.{chain_keeps_promise}
 use Rattle.m51_build_proof.proofs.laws.chain_keeps_the_promise.Goals as goal
 
 pub returns : goal.returns

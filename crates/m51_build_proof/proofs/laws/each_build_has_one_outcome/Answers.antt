@@ -1,4 +1,4 @@
-use Rattle.m51_build_proof.proofs.Existence.{one_of_each}
+use Rattle.m51_build_proof.proofs.Existing.{one_of_each}
 use Rattle.m51_build_proof.proofs.laws.each_build_has_one_outcome.Goals as goal
 
 pub returns : goal.returns

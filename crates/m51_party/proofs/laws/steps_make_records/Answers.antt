@@ -1,4 +1,4 @@
-use Rattle.m51_party.proofs.Steps.{steps_make_records}
+use Rattle.m51_party.proofs.One.{steps_make_records}
 use Rattle.m51_party.proofs.laws.steps_make_records.Goals as goal
 
 pub returns : goal.returns

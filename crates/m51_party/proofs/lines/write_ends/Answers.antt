@@ -1,6 +1,5 @@
 use Rattle.m51_party.proofs.Common.{arith}
-use Rattle.m51_party.proofs.Ending.{ending_cut, ending_on}
-use Rattle.m51_party.proofs.Fronts.{at_error}
+use Rattle.m51_party.proofs.Fronts.{at_error, ending_cut, ending_on}
 use Rattle.m51_party.proofs.lines.write_ends.Goals as goal
 
 pub returns-in_err-write_end-clause-front : goal.returns-in_err-write_end-clause-front

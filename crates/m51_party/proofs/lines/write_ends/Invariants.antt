@@ -1,5 +1,5 @@
 use Rattle.m51_party.proofs.Common.{◌≤◌}
-use Rattle.m51_party.proofs.Ending.{IsEnding}
+use Rattle.m51_party.proofs.Fronts.{IsEnding}
 use Rattle.m51_party.proofs.lines.write_ends.Given as goal
 
 abbrev pub invariant-loop-index : goal.invariant-loop-index

@@ -1,4 +1,4 @@
-use Rattle.m51_stack_proof.proofs.Reaching.{sp_is_bounded}
+use Rattle.m51_stack_proof.proofs.Bounded.{sp_is_bounded}
 use Rattle.m51_stack_proof.proofs.laws.sp_is_bounded.Goals as goal
 
 pub returns : goal.returns

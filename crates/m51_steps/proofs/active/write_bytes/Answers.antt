@@ -4,7 +4,7 @@ use Rattle.std.specs.Io.KnownBytes.{Appends}
 use Rattle.m51_cells.specs.Outside.{AppendsFront}
 use Rattle.m51_flat.specs.States.{States}
 use Rattle.m51_steps.specs.Ram.{byte_code, bytes_text, changes_text}
-use Rattle.m51_steps.proofs.Cells.{cells_now}
+use Rattle.m51_steps.proofs.Shown.{cells_now}
 use Rattle.m51_steps.proofs.active.write_bytes.Goals as goal
 
 pub returns-clause-whole : goal.returns-clause-whole

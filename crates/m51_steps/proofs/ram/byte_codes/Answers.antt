@@ -2,7 +2,7 @@ use Rattle.std.proofs.Common.{◌<◌, ◌∙◌, arith, length}
 use Rattle.std.proofs.lemmas.List.{length-set}
 use Rattle.m51_monitor.specs.Shared.{shared_cells}
 use Rattle.m51_steps.specs.Ram.{byte_code}
-use Rattle.m51_steps.proofs.Codes.{codes_more}
+use Rattle.m51_steps.proofs.Shown.{codes_more}
 use Rattle.m51_steps.proofs.ram.byte_codes.Goals as goal
 
 pub loop-address-preserved : goal.loop-address-preserved

@@ -1,6 +1,6 @@
 use Rattle.std.specs.Prelude.{option_copied}
 use Rattle.m51_print.specs.Lines.{last_line, titles_of}
-use Rattle.m51_steps.proofs.Moved.{front_same}
+use Rattle.m51_steps.proofs.Ended.{front_same}
 use Rattle.m51_steps.proofs.stepping.end.Goals as goal
 
 pub returns-clause-front : goal.returns-clause-front

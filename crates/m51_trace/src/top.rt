@@ -113,10 +113,7 @@ fn write_run<S: Sink>(
         Finish::Run { mut board, steps } => {
             write_both(out, text, &mut board, steps.number(), shape, counts)
         }
-        Finish::Ran => unreachable!(),
-        Finish::Event => unreachable!(),
-        Finish::FlatRun { .. } => unreachable!(),
-        Finish::Party { .. } => unreachable!(),
+        _ => unreachable!(),
     }
 }
 

@@ -62,7 +62,7 @@ each t (Bit b j ∷ ps) (Bit a k) h i = grind (arith, nat_tests, each t ps (Bit 
 each t (Bit b j ∷ ps) (Byte a) h k = grind (arith, each t ps (Byte a))
 each t (Byte b ∷ ps) (Bit a j) h k = grind (arith, each t ps (Bit a j))
 
--- writes at these places alone
+-- writes at these places and at no other
 pub data Writes (ws : List Place) : Cpu → Cpu → Type 0 where
   Nothing : (cpu : Cpu) → Writes ws cpu cpu
   Stored : (a v : ℕ) (cpu : Cpu) → has ws (Byte a) ≡ true → Writes ws cpu (with_latch cpu a v)

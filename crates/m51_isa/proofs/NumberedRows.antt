@@ -10,8 +10,7 @@ use Rattle.m51_isa.specs.Filling.{with_numbers}
 use Rattle.m51_isa.specs.Operands.{FitsAddr11, FitsAddress, FitsRegister, kept, list_of}
 use Rattle.m51_isa.specs.Rows.{FitsOperand, IsAtRow, bytes_by, columns_at, filled_at, made_at, refilled, room}
 use Rattle.m51_isa.specs.Rows.{row_count, row_text, slot_of}
-use Rattle.m51_isa.specs.Table.{OperandsFit, Text, cycles_of, encoded, flow_of, length_of, text_length}
-use Rattle.m51_isa.specs.Table.{text_of}
+use Rattle.m51_isa.specs.Table.{OperandsFit, Text, encoded, flow_of, text_length, text_of}
 use Rattle.m51_isa.proofs.Distinct.{agree}
 
 abbrev Fit : Text → Type 0
@@ -39,12 +38,6 @@ room_fits o n = tt
 module _ (n a b c : ℕ) (h : n < row_count) where
   pub text_at : text_of (made_at n a b c) ≡ row_text n a b c
   text_at = agree (λ n. text_of (made_at n a b c)) (λ n. row_text n a b c) row_count refl n h
-
-  pub length_at : length_of (made_at n a b c) ≡ (columns_at n).bytes
-  length_at = agree (λ n. length_of (made_at n a b c)) (λ n. (columns_at n).bytes) row_count refl n h
-
-  pub cycles_at : cycles_of (made_at n a b c) ≡ (columns_at n).cycles
-  cycles_at = agree (λ n. cycles_of (made_at n a b c)) (λ n. (columns_at n).cycles) row_count refl n h
 
   pub flow_at : flow_of (made_at n a b c) ≡ (columns_at n).flow
   flow_at = agree (λ n. flow_of (made_at n a b c)) (λ n. (columns_at n).flow) row_count refl n h

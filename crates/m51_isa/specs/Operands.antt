@@ -126,6 +126,7 @@ abbrev pub FitsAddr11 : Field → ℕ → Type 0
 FitsAddr11 field.Addr11 n = n < 2048
 FitsAddr11 f n = Unit {0}
 
+-- an operand that is an addr11 fits
 abbrev pub FitsAddress : Slot → Type 0
 FitsAddress (Plain f) = FitsAddr11 f.field f.number
 FitsAddress slot = Unit {0}

@@ -81,19 +81,8 @@ row_count = ROW_COUNT
 
 abbrev pub row_among : List TextRow → ℕ → TextRow
 row_among among n =
-    slice_index_or among n (
-      [],
-      record {
-        first = Nothing;
-        second = Nothing;
-        third = Nothing;
-        opcode = 0;
-        layout = AB;
-        bytes = 1;
-        cycles = 1;
-        flow = Next;
-      },
-    )
+    slice_index_or among n
+    ([], record { first = Nothing; second = Nothing; third = Nothing; opcode = 0; layout = AB; flow = Next })
 
 -- the row of an opcode, if it has one
 abbrev pub row_if : ℕ → Option ℕ

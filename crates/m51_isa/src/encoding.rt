@@ -3,10 +3,9 @@ ghost use Rattle.std.specs.Prelude.{◌≡◌, ◌<◌};
 ghost use Rattle.m51_isa.specs.Rows.{laid};
 ghost use Rattle.m51_isa.specs.Table.{encoded, length_of, padded, IsRowAt};
 
-use crate::columns::length;
 use crate::instr::Instr;
 use crate::numbers::numbers_of;
-use crate::table::{Layout, row_at};
+use crate::table::{Layout, length, row_at};
 
 /// The bytes of an instruction: the first `len` of them, and zeros.
 ///

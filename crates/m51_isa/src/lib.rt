@@ -2,7 +2,6 @@
 #![tactic(auto)]
 
 mod changes;
-mod columns;
 mod decoding;
 mod encoding;
 mod filling;
@@ -20,7 +19,6 @@ mod table;
 mod targets;
 
 pub use changes::{is_jump, stack_of, written_of};
-pub use columns::{cycles, kind_of, length};
 pub use decoding::decode;
 pub use encoding::{Code, encode};
 pub use filling::with_numbers;
@@ -36,6 +34,7 @@ pub use operand::{Address11, Pointer, Register};
 pub use searching::{has_row, row_for, search};
 pub use slot::{Field, FieldSlot, Slot};
 pub use spelling::{Spelling, spelling_of};
+pub use table::{cycles, kind_of, length};
 pub use targets::{
     bit_address, block_target, distance, fits_byte, in_one_block, is_near, next_of,
     relative_target, target_of,

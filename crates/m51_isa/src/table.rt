@@ -1,10 +1,12 @@
-//! The instruction table: a row for each instruction.
+//! The instruction table: a row for each instruction, and length and cycles of each. A step of a board asks for length
+//! and cycles, so no row is read for them.
 ghost use Rattle.std.specs.Prelude.{◌≡◌, ◌<◌, IfSome, is_none, length, map, slice_index};
 ghost use Rattle.m51_isa.specs.Rows.{column_of, columns_at, mnemonic_at, row_among, row_count, row_of_opcode};
-ghost use Rattle.m51_isa.specs.Table.{is_reserved};
+ghost use Rattle.m51_isa.specs.Table.{cycles_of, flow_of, is_reserved, length_of};
 
-use crate::instr::Flow;
 use crate::instr::Flow::{Branch, Call, Next, Ret, Reti};
+use crate::instr::{Flow, Instr};
+use crate::numbers::numbers_of;
 use crate::slot::Field;
 use crate::table::Layout::{AB, BA, BC, BlockA, LowABC, LowBA, WordA, WordB};
 use crate::table::Operand::{A, ADptr, APc, Ab, AtDptr, AtR, C, Dptr, Nothing, R};
@@ -43,8 +45,8 @@ pub(crate) enum Layout {
     BlockA,
 }
 
-// The columns of a row: its operands in the order of the text, the first of its opcodes, how its bytes are laid out,
-// how many bytes it has and how many machine cycles it takes, and where control goes.
+// The columns of a row: its operands in the order of the text, the first of its opcodes, how its bytes are
+// laid out, and where control goes.
 #[derive(Clone, Copy)]
 pub(crate) struct Columns {
     pub first: Operand,
@@ -52,8 +54,6 @@ pub(crate) struct Columns {
     pub third: Operand,
     pub opcode: u8,
     pub layout: Layout,
-    pub bytes: u8,
-    pub cycles: u8,
     pub flow: Flow,
 }
 
@@ -83,8 +83,7 @@ const REL_2: Operand = Operand::Plain(Field::Rel, 2);
 pub(crate) type Row = (&'static [u8], Columns);
 
 macro_rules! row {
-    ($mnemonic:expr, $first:expr, $second:expr, $third:expr, $opcode:expr, $layout:expr, $bytes:expr, $cycles:expr,
-     $flow:expr) => {
+    ($mnemonic:expr, $first:expr, $second:expr, $third:expr, $opcode:expr, $layout:expr, $flow:expr) => {
         (
             $mnemonic,
             Columns {
@@ -93,8 +92,6 @@ macro_rules! row {
                 third: $third,
                 opcode: $opcode,
                 layout: $layout,
-                bytes: $bytes,
-                cycles: $cycles,
                 flow: $flow,
             },
         )
@@ -106,119 +103,117 @@ pub(crate) const ROW_COUNT: u8 = 111;
 
 // The rows, in the order of the variants of [`Instr`].
 pub(crate) static ROWS: [Row; 111] = [
-    row!(b"NOP", Nothing, Nothing, Nothing, 0x00, LowABC, 1, 1, Next),
-    row!(b"JBC", BIT, REL_2, Nothing, 0x10, AB, 3, 2, Branch),
-    row!(b"JB", BIT, REL_2, Nothing, 0x20, AB, 3, 2, Branch),
-    row!(b"JNB", BIT, REL_2, Nothing, 0x30, AB, 3, 2, Branch),
-    row!(b"JC", REL_1, Nothing, Nothing, 0x40, AB, 2, 2, Branch),
-    row!(b"JNC", REL_1, Nothing, Nothing, 0x50, AB, 2, 2, Branch),
-    row!(b"JZ", REL_1, Nothing, Nothing, 0x60, AB, 2, 2, Branch),
-    row!(b"JNZ", REL_1, Nothing, Nothing, 0x70, AB, 2, 2, Branch),
-    row!(b"SJMP", REL_1, Nothing, Nothing, 0x80, AB, 2, 2, Branch),
-    row!(b"MOV", Dptr, DATA16, Nothing, 0x90, WordB, 3, 2, Next),
-    row!(b"ORL", C, NOT_BIT, Nothing, 0xA0, BC, 2, 2, Next),
-    row!(b"ANL", C, NOT_BIT, Nothing, 0xB0, BC, 2, 2, Next),
-    row!(b"PUSH", DIRECT_1, Nothing, Nothing, 0xC0, AB, 2, 2, Next),
-    row!(b"POP", DIRECT_1, Nothing, Nothing, 0xD0, AB, 2, 2, Next),
-    row!(b"MOVX", A, AtDptr, Nothing, 0xE0, LowABC, 1, 2, Next),
-    row!(b"MOVX", AtDptr, A, Nothing, 0xF0, LowABC, 1, 2, Next),
-    row!(
-        b"AJMP", ADDR11, Nothing, Nothing, 0x01, BlockA, 2, 2, Branch
-    ),
-    row!(b"ACALL", ADDR11, Nothing, Nothing, 0x11, BlockA, 2, 2, Call),
-    row!(b"LJMP", ADDR16, Nothing, Nothing, 0x02, WordA, 3, 2, Branch),
-    row!(b"LCALL", ADDR16, Nothing, Nothing, 0x12, WordA, 3, 2, Call),
-    row!(b"RET", Nothing, Nothing, Nothing, 0x22, LowABC, 1, 2, Ret),
-    row!(b"RETI", Nothing, Nothing, Nothing, 0x32, LowABC, 1, 2, Reti),
-    row!(b"ORL", DIRECT_1, A, Nothing, 0x42, AB, 2, 1, Next),
-    row!(b"ANL", DIRECT_1, A, Nothing, 0x52, AB, 2, 1, Next),
-    row!(b"XRL", DIRECT_1, A, Nothing, 0x62, AB, 2, 1, Next),
-    row!(b"ORL", C, BIT, Nothing, 0x72, BC, 2, 2, Next),
-    row!(b"ANL", C, BIT, Nothing, 0x82, BC, 2, 2, Next),
-    row!(b"MOV", BIT, C, Nothing, 0x92, AB, 2, 2, Next),
-    row!(b"MOV", C, BIT, Nothing, 0xA2, BC, 2, 1, Next),
-    row!(b"CPL", BIT, Nothing, Nothing, 0xB2, AB, 2, 1, Next),
-    row!(b"CLR", BIT, Nothing, Nothing, 0xC2, AB, 2, 1, Next),
-    row!(b"SETB", BIT, Nothing, Nothing, 0xD2, AB, 2, 1, Next),
-    row!(b"MOVX", A, AtR, Nothing, 0xE2, LowBA, 1, 2, Next),
-    row!(b"MOVX", AtR, A, Nothing, 0xF2, LowABC, 1, 2, Next),
-    row!(b"RR", A, Nothing, Nothing, 0x03, LowABC, 1, 1, Next),
-    row!(b"RRC", A, Nothing, Nothing, 0x13, LowABC, 1, 1, Next),
-    row!(b"RL", A, Nothing, Nothing, 0x23, LowABC, 1, 1, Next),
-    row!(b"RLC", A, Nothing, Nothing, 0x33, LowABC, 1, 1, Next),
-    row!(b"ORL", DIRECT_1, DATA_2, Nothing, 0x43, AB, 3, 2, Next),
-    row!(b"ANL", DIRECT_1, DATA_2, Nothing, 0x53, AB, 3, 2, Next),
-    row!(b"XRL", DIRECT_1, DATA_2, Nothing, 0x63, AB, 3, 2, Next),
-    row!(b"JMP", ADptr, Nothing, Nothing, 0x73, LowABC, 1, 2, Branch),
-    row!(b"MOVC", A, APc, Nothing, 0x83, LowABC, 1, 2, Next),
-    row!(b"MOVC", A, ADptr, Nothing, 0x93, LowABC, 1, 2, Next),
-    row!(b"INC", Dptr, Nothing, Nothing, 0xA3, LowABC, 1, 2, Next),
-    row!(b"CPL", C, Nothing, Nothing, 0xB3, LowABC, 1, 1, Next),
-    row!(b"CLR", C, Nothing, Nothing, 0xC3, LowABC, 1, 1, Next),
-    row!(b"SETB", C, Nothing, Nothing, 0xD3, LowABC, 1, 1, Next),
-    row!(b"INC", A, Nothing, Nothing, 0x04, LowABC, 1, 1, Next),
-    row!(b"DEC", A, Nothing, Nothing, 0x14, LowABC, 1, 1, Next),
-    row!(b"ADD", A, DATA_1, Nothing, 0x24, BC, 2, 1, Next),
-    row!(b"ADDC", A, DATA_1, Nothing, 0x34, BC, 2, 1, Next),
-    row!(b"ORL", A, DATA_1, Nothing, 0x44, BC, 2, 1, Next),
-    row!(b"ANL", A, DATA_1, Nothing, 0x54, BC, 2, 1, Next),
-    row!(b"XRL", A, DATA_1, Nothing, 0x64, BC, 2, 1, Next),
-    row!(b"MOV", A, DATA_1, Nothing, 0x74, BC, 2, 1, Next),
-    row!(b"DIV", Ab, Nothing, Nothing, 0x84, LowABC, 1, 4, Next),
-    row!(b"SUBB", A, DATA_1, Nothing, 0x94, BC, 2, 1, Next),
-    row!(b"MUL", Ab, Nothing, Nothing, 0xA4, LowABC, 1, 4, Next),
-    row!(b"CJNE", A, DATA_1, REL_2, 0xB4, BC, 3, 2, Branch),
-    row!(b"SWAP", A, Nothing, Nothing, 0xC4, LowABC, 1, 1, Next),
-    row!(b"DA", A, Nothing, Nothing, 0xD4, LowABC, 1, 1, Next),
-    row!(b"CLR", A, Nothing, Nothing, 0xE4, LowABC, 1, 1, Next),
-    row!(b"CPL", A, Nothing, Nothing, 0xF4, LowABC, 1, 1, Next),
-    row!(b"INC", DIRECT_1, Nothing, Nothing, 0x05, AB, 2, 1, Next),
-    row!(b"DEC", DIRECT_1, Nothing, Nothing, 0x15, AB, 2, 1, Next),
-    row!(b"ADD", A, DIRECT_1, Nothing, 0x25, BC, 2, 1, Next),
-    row!(b"ADDC", A, DIRECT_1, Nothing, 0x35, BC, 2, 1, Next),
-    row!(b"ORL", A, DIRECT_1, Nothing, 0x45, BC, 2, 1, Next),
-    row!(b"ANL", A, DIRECT_1, Nothing, 0x55, BC, 2, 1, Next),
-    row!(b"XRL", A, DIRECT_1, Nothing, 0x65, BC, 2, 1, Next),
-    row!(b"MOV", DIRECT_1, DATA_2, Nothing, 0x75, AB, 3, 2, Next),
-    row!(b"MOV", DIRECT_2, DIRECT_1, Nothing, 0x85, BA, 3, 2, Next),
-    row!(b"SUBB", A, DIRECT_1, Nothing, 0x95, BC, 2, 1, Next),
-    row!(b"CJNE", A, DIRECT_1, REL_2, 0xB5, BC, 3, 2, Branch),
-    row!(b"XCH", A, DIRECT_1, Nothing, 0xC5, BC, 2, 1, Next),
-    row!(b"DJNZ", DIRECT_1, REL_2, Nothing, 0xD5, AB, 3, 2, Branch),
-    row!(b"MOV", A, DIRECT_1, Nothing, 0xE5, BC, 2, 1, Next),
-    row!(b"MOV", DIRECT_1, A, Nothing, 0xF5, AB, 2, 1, Next),
-    row!(b"INC", AtR, Nothing, Nothing, 0x06, LowABC, 1, 1, Next),
-    row!(b"DEC", AtR, Nothing, Nothing, 0x16, LowABC, 1, 1, Next),
-    row!(b"ADD", A, AtR, Nothing, 0x26, LowBA, 1, 1, Next),
-    row!(b"ADDC", A, AtR, Nothing, 0x36, LowBA, 1, 1, Next),
-    row!(b"ORL", A, AtR, Nothing, 0x46, LowBA, 1, 1, Next),
-    row!(b"ANL", A, AtR, Nothing, 0x56, LowBA, 1, 1, Next),
-    row!(b"XRL", A, AtR, Nothing, 0x66, LowBA, 1, 1, Next),
-    row!(b"MOV", AtR, DATA_1, Nothing, 0x76, LowABC, 2, 1, Next),
-    row!(b"MOV", DIRECT_1, AtR, Nothing, 0x86, LowBA, 2, 2, Next),
-    row!(b"SUBB", A, AtR, Nothing, 0x96, LowBA, 1, 1, Next),
-    row!(b"MOV", AtR, DIRECT_1, Nothing, 0xA6, LowABC, 2, 2, Next),
-    row!(b"CJNE", AtR, DATA_1, REL_2, 0xB6, LowABC, 3, 2, Branch),
-    row!(b"XCH", A, AtR, Nothing, 0xC6, LowBA, 1, 1, Next),
-    row!(b"XCHD", A, AtR, Nothing, 0xD6, LowBA, 1, 1, Next),
-    row!(b"MOV", A, AtR, Nothing, 0xE6, LowBA, 1, 1, Next),
-    row!(b"MOV", AtR, A, Nothing, 0xF6, LowABC, 1, 1, Next),
-    row!(b"INC", R, Nothing, Nothing, 0x08, LowABC, 1, 1, Next),
-    row!(b"DEC", R, Nothing, Nothing, 0x18, LowABC, 1, 1, Next),
-    row!(b"ADD", A, R, Nothing, 0x28, LowBA, 1, 1, Next),
-    row!(b"ADDC", A, R, Nothing, 0x38, LowBA, 1, 1, Next),
-    row!(b"ORL", A, R, Nothing, 0x48, LowBA, 1, 1, Next),
-    row!(b"ANL", A, R, Nothing, 0x58, LowBA, 1, 1, Next),
-    row!(b"XRL", A, R, Nothing, 0x68, LowBA, 1, 1, Next),
-    row!(b"MOV", R, DATA_1, Nothing, 0x78, LowABC, 2, 1, Next),
-    row!(b"MOV", DIRECT_1, R, Nothing, 0x88, LowBA, 2, 2, Next),
-    row!(b"SUBB", A, R, Nothing, 0x98, LowBA, 1, 1, Next),
-    row!(b"MOV", R, DIRECT_1, Nothing, 0xA8, LowABC, 2, 2, Next),
-    row!(b"CJNE", R, DATA_1, REL_2, 0xB8, LowABC, 3, 2, Branch),
-    row!(b"XCH", A, R, Nothing, 0xC8, LowBA, 1, 1, Next),
-    row!(b"DJNZ", R, REL_1, Nothing, 0xD8, LowABC, 2, 2, Branch),
-    row!(b"MOV", A, R, Nothing, 0xE8, LowBA, 1, 1, Next),
-    row!(b"MOV", R, A, Nothing, 0xF8, LowABC, 1, 1, Next),
+    row!(b"NOP", Nothing, Nothing, Nothing, 0x00, LowABC, Next),
+    row!(b"JBC", BIT, REL_2, Nothing, 0x10, AB, Branch),
+    row!(b"JB", BIT, REL_2, Nothing, 0x20, AB, Branch),
+    row!(b"JNB", BIT, REL_2, Nothing, 0x30, AB, Branch),
+    row!(b"JC", REL_1, Nothing, Nothing, 0x40, AB, Branch),
+    row!(b"JNC", REL_1, Nothing, Nothing, 0x50, AB, Branch),
+    row!(b"JZ", REL_1, Nothing, Nothing, 0x60, AB, Branch),
+    row!(b"JNZ", REL_1, Nothing, Nothing, 0x70, AB, Branch),
+    row!(b"SJMP", REL_1, Nothing, Nothing, 0x80, AB, Branch),
+    row!(b"MOV", Dptr, DATA16, Nothing, 0x90, WordB, Next),
+    row!(b"ORL", C, NOT_BIT, Nothing, 0xA0, BC, Next),
+    row!(b"ANL", C, NOT_BIT, Nothing, 0xB0, BC, Next),
+    row!(b"PUSH", DIRECT_1, Nothing, Nothing, 0xC0, AB, Next),
+    row!(b"POP", DIRECT_1, Nothing, Nothing, 0xD0, AB, Next),
+    row!(b"MOVX", A, AtDptr, Nothing, 0xE0, LowABC, Next),
+    row!(b"MOVX", AtDptr, A, Nothing, 0xF0, LowABC, Next),
+    row!(b"AJMP", ADDR11, Nothing, Nothing, 0x01, BlockA, Branch),
+    row!(b"ACALL", ADDR11, Nothing, Nothing, 0x11, BlockA, Call),
+    row!(b"LJMP", ADDR16, Nothing, Nothing, 0x02, WordA, Branch),
+    row!(b"LCALL", ADDR16, Nothing, Nothing, 0x12, WordA, Call),
+    row!(b"RET", Nothing, Nothing, Nothing, 0x22, LowABC, Ret),
+    row!(b"RETI", Nothing, Nothing, Nothing, 0x32, LowABC, Reti),
+    row!(b"ORL", DIRECT_1, A, Nothing, 0x42, AB, Next),
+    row!(b"ANL", DIRECT_1, A, Nothing, 0x52, AB, Next),
+    row!(b"XRL", DIRECT_1, A, Nothing, 0x62, AB, Next),
+    row!(b"ORL", C, BIT, Nothing, 0x72, BC, Next),
+    row!(b"ANL", C, BIT, Nothing, 0x82, BC, Next),
+    row!(b"MOV", BIT, C, Nothing, 0x92, AB, Next),
+    row!(b"MOV", C, BIT, Nothing, 0xA2, BC, Next),
+    row!(b"CPL", BIT, Nothing, Nothing, 0xB2, AB, Next),
+    row!(b"CLR", BIT, Nothing, Nothing, 0xC2, AB, Next),
+    row!(b"SETB", BIT, Nothing, Nothing, 0xD2, AB, Next),
+    row!(b"MOVX", A, AtR, Nothing, 0xE2, LowBA, Next),
+    row!(b"MOVX", AtR, A, Nothing, 0xF2, LowABC, Next),
+    row!(b"RR", A, Nothing, Nothing, 0x03, LowABC, Next),
+    row!(b"RRC", A, Nothing, Nothing, 0x13, LowABC, Next),
+    row!(b"RL", A, Nothing, Nothing, 0x23, LowABC, Next),
+    row!(b"RLC", A, Nothing, Nothing, 0x33, LowABC, Next),
+    row!(b"ORL", DIRECT_1, DATA_2, Nothing, 0x43, AB, Next),
+    row!(b"ANL", DIRECT_1, DATA_2, Nothing, 0x53, AB, Next),
+    row!(b"XRL", DIRECT_1, DATA_2, Nothing, 0x63, AB, Next),
+    row!(b"JMP", ADptr, Nothing, Nothing, 0x73, LowABC, Branch),
+    row!(b"MOVC", A, APc, Nothing, 0x83, LowABC, Next),
+    row!(b"MOVC", A, ADptr, Nothing, 0x93, LowABC, Next),
+    row!(b"INC", Dptr, Nothing, Nothing, 0xA3, LowABC, Next),
+    row!(b"CPL", C, Nothing, Nothing, 0xB3, LowABC, Next),
+    row!(b"CLR", C, Nothing, Nothing, 0xC3, LowABC, Next),
+    row!(b"SETB", C, Nothing, Nothing, 0xD3, LowABC, Next),
+    row!(b"INC", A, Nothing, Nothing, 0x04, LowABC, Next),
+    row!(b"DEC", A, Nothing, Nothing, 0x14, LowABC, Next),
+    row!(b"ADD", A, DATA_1, Nothing, 0x24, BC, Next),
+    row!(b"ADDC", A, DATA_1, Nothing, 0x34, BC, Next),
+    row!(b"ORL", A, DATA_1, Nothing, 0x44, BC, Next),
+    row!(b"ANL", A, DATA_1, Nothing, 0x54, BC, Next),
+    row!(b"XRL", A, DATA_1, Nothing, 0x64, BC, Next),
+    row!(b"MOV", A, DATA_1, Nothing, 0x74, BC, Next),
+    row!(b"DIV", Ab, Nothing, Nothing, 0x84, LowABC, Next),
+    row!(b"SUBB", A, DATA_1, Nothing, 0x94, BC, Next),
+    row!(b"MUL", Ab, Nothing, Nothing, 0xA4, LowABC, Next),
+    row!(b"CJNE", A, DATA_1, REL_2, 0xB4, BC, Branch),
+    row!(b"SWAP", A, Nothing, Nothing, 0xC4, LowABC, Next),
+    row!(b"DA", A, Nothing, Nothing, 0xD4, LowABC, Next),
+    row!(b"CLR", A, Nothing, Nothing, 0xE4, LowABC, Next),
+    row!(b"CPL", A, Nothing, Nothing, 0xF4, LowABC, Next),
+    row!(b"INC", DIRECT_1, Nothing, Nothing, 0x05, AB, Next),
+    row!(b"DEC", DIRECT_1, Nothing, Nothing, 0x15, AB, Next),
+    row!(b"ADD", A, DIRECT_1, Nothing, 0x25, BC, Next),
+    row!(b"ADDC", A, DIRECT_1, Nothing, 0x35, BC, Next),
+    row!(b"ORL", A, DIRECT_1, Nothing, 0x45, BC, Next),
+    row!(b"ANL", A, DIRECT_1, Nothing, 0x55, BC, Next),
+    row!(b"XRL", A, DIRECT_1, Nothing, 0x65, BC, Next),
+    row!(b"MOV", DIRECT_1, DATA_2, Nothing, 0x75, AB, Next),
+    row!(b"MOV", DIRECT_2, DIRECT_1, Nothing, 0x85, BA, Next),
+    row!(b"SUBB", A, DIRECT_1, Nothing, 0x95, BC, Next),
+    row!(b"CJNE", A, DIRECT_1, REL_2, 0xB5, BC, Branch),
+    row!(b"XCH", A, DIRECT_1, Nothing, 0xC5, BC, Next),
+    row!(b"DJNZ", DIRECT_1, REL_2, Nothing, 0xD5, AB, Branch),
+    row!(b"MOV", A, DIRECT_1, Nothing, 0xE5, BC, Next),
+    row!(b"MOV", DIRECT_1, A, Nothing, 0xF5, AB, Next),
+    row!(b"INC", AtR, Nothing, Nothing, 0x06, LowABC, Next),
+    row!(b"DEC", AtR, Nothing, Nothing, 0x16, LowABC, Next),
+    row!(b"ADD", A, AtR, Nothing, 0x26, LowBA, Next),
+    row!(b"ADDC", A, AtR, Nothing, 0x36, LowBA, Next),
+    row!(b"ORL", A, AtR, Nothing, 0x46, LowBA, Next),
+    row!(b"ANL", A, AtR, Nothing, 0x56, LowBA, Next),
+    row!(b"XRL", A, AtR, Nothing, 0x66, LowBA, Next),
+    row!(b"MOV", AtR, DATA_1, Nothing, 0x76, LowABC, Next),
+    row!(b"MOV", DIRECT_1, AtR, Nothing, 0x86, LowBA, Next),
+    row!(b"SUBB", A, AtR, Nothing, 0x96, LowBA, Next),
+    row!(b"MOV", AtR, DIRECT_1, Nothing, 0xA6, LowABC, Next),
+    row!(b"CJNE", AtR, DATA_1, REL_2, 0xB6, LowABC, Branch),
+    row!(b"XCH", A, AtR, Nothing, 0xC6, LowBA, Next),
+    row!(b"XCHD", A, AtR, Nothing, 0xD6, LowBA, Next),
+    row!(b"MOV", A, AtR, Nothing, 0xE6, LowBA, Next),
+    row!(b"MOV", AtR, A, Nothing, 0xF6, LowABC, Next),
+    row!(b"INC", R, Nothing, Nothing, 0x08, LowABC, Next),
+    row!(b"DEC", R, Nothing, Nothing, 0x18, LowABC, Next),
+    row!(b"ADD", A, R, Nothing, 0x28, LowBA, Next),
+    row!(b"ADDC", A, R, Nothing, 0x38, LowBA, Next),
+    row!(b"ORL", A, R, Nothing, 0x48, LowBA, Next),
+    row!(b"ANL", A, R, Nothing, 0x58, LowBA, Next),
+    row!(b"XRL", A, R, Nothing, 0x68, LowBA, Next),
+    row!(b"MOV", R, DATA_1, Nothing, 0x78, LowABC, Next),
+    row!(b"MOV", DIRECT_1, R, Nothing, 0x88, LowBA, Next),
+    row!(b"SUBB", A, R, Nothing, 0x98, LowBA, Next),
+    row!(b"MOV", R, DIRECT_1, Nothing, 0xA8, LowABC, Next),
+    row!(b"CJNE", R, DATA_1, REL_2, 0xB8, LowABC, Branch),
+    row!(b"XCH", A, R, Nothing, 0xC8, LowBA, Next),
+    row!(b"DJNZ", R, REL_1, Nothing, 0xD8, LowABC, Branch),
+    row!(b"MOV", A, R, Nothing, 0xE8, LowBA, Next),
+    row!(b"MOV", R, A, Nothing, 0xF8, LowABC, Next),
 ];
 
 // The entry of an opcode without a row.
@@ -327,3 +322,145 @@ pub(crate) static PLACES: [u8; 512] = [
     96, 0, 0, 0, 31, 0, 0, 0, 0, 0, 0, 0, 0, 0, 0, 0, 0, 0, 0, 107, 91, 0, 75, 0, 0, 0, 0, 0, 0, 0,
     0, 0, 0, 0, 0, 0, 0, 0, 0, 0, 0,
 ];
+
+/// How many bytes an instruction has, 1 to 3.
+///
+/// Source: family manual.
+#[inline(always)]
+pub fn length(instr: &Instr) -> u8
+    ensures { result ≡ length_of instr.now }
+{
+    match instr {
+        Instr::JbcBitRel(..)
+        | Instr::JbBitRel(..)
+        | Instr::JnbBitRel(..)
+        | Instr::MovDptrData16(..)
+        | Instr::LjmpAddr16(..)
+        | Instr::LcallAddr16(..)
+        | Instr::OrlDirectData(..)
+        | Instr::AnlDirectData(..)
+        | Instr::XrlDirectData(..)
+        | Instr::CjneADataRel(..)
+        | Instr::MovDirectData(..)
+        | Instr::MovDirectDirect(..)
+        | Instr::CjneADirectRel(..)
+        | Instr::DjnzDirectRel(..)
+        | Instr::CjneAtRiDataRel(..)
+        | Instr::CjneRnDataRel(..) => 3,
+        Instr::SjmpRel(..)
+        | Instr::JcRel(..)
+        | Instr::JncRel(..)
+        | Instr::JzRel(..)
+        | Instr::JnzRel(..)
+        | Instr::OrlCNotBit(..)
+        | Instr::AnlCNotBit(..)
+        | Instr::PushDirect(..)
+        | Instr::PopDirect(..)
+        | Instr::AjmpAddr11(..)
+        | Instr::AcallAddr11(..)
+        | Instr::OrlDirectA(..)
+        | Instr::AnlDirectA(..)
+        | Instr::XrlDirectA(..)
+        | Instr::OrlCBit(..)
+        | Instr::AnlCBit(..)
+        | Instr::MovBitC(..)
+        | Instr::MovCBit(..)
+        | Instr::CplBit(..)
+        | Instr::ClrBit(..)
+        | Instr::SetbBit(..)
+        | Instr::AddAData(..)
+        | Instr::AddcAData(..)
+        | Instr::OrlAData(..)
+        | Instr::AnlAData(..)
+        | Instr::XrlAData(..)
+        | Instr::MovAData(..)
+        | Instr::SubbAData(..)
+        | Instr::IncDirect(..)
+        | Instr::DecDirect(..)
+        | Instr::AddADirect(..)
+        | Instr::AddcADirect(..)
+        | Instr::OrlADirect(..)
+        | Instr::AnlADirect(..)
+        | Instr::XrlADirect(..)
+        | Instr::SubbADirect(..)
+        | Instr::XchADirect(..)
+        | Instr::MovADirect(..)
+        | Instr::MovDirectA(..)
+        | Instr::MovAtRiData(..)
+        | Instr::MovDirectAtRi(..)
+        | Instr::MovAtRiDirect(..)
+        | Instr::MovRnData(..)
+        | Instr::MovDirectRn(..)
+        | Instr::MovRnDirect(..)
+        | Instr::DjnzRnRel(..) => 2,
+        _ => 1,
+    }
+}
+
+/// How many machine cycles an instruction takes: 1, 2 or 4.
+///
+/// Source: family manual.
+#[inline(always)]
+pub fn cycles(instr: &Instr) -> u8
+    ensures { result ≡ cycles_of instr.now }
+{
+    match instr {
+        Instr::DivAb | Instr::MulAb => 4,
+        Instr::JbcBitRel(..)
+        | Instr::JbBitRel(..)
+        | Instr::JnbBitRel(..)
+        | Instr::JcRel(..)
+        | Instr::JncRel(..)
+        | Instr::JzRel(..)
+        | Instr::JnzRel(..)
+        | Instr::SjmpRel(..)
+        | Instr::MovDptrData16(..)
+        | Instr::OrlCNotBit(..)
+        | Instr::AnlCNotBit(..)
+        | Instr::PushDirect(..)
+        | Instr::PopDirect(..)
+        | Instr::MovxAAtDptr
+        | Instr::MovxAtDptrA
+        | Instr::AjmpAddr11(..)
+        | Instr::AcallAddr11(..)
+        | Instr::LjmpAddr16(..)
+        | Instr::LcallAddr16(..)
+        | Instr::Ret
+        | Instr::Reti
+        | Instr::OrlCBit(..)
+        | Instr::AnlCBit(..)
+        | Instr::MovBitC(..)
+        | Instr::MovxAAtRi(..)
+        | Instr::MovxAtRiA(..)
+        | Instr::OrlDirectData(..)
+        | Instr::AnlDirectData(..)
+        | Instr::XrlDirectData(..)
+        | Instr::JmpAtADptr
+        | Instr::MovcAAtAPc
+        | Instr::MovcAAtADptr
+        | Instr::IncDptr
+        | Instr::CjneADataRel(..)
+        | Instr::MovDirectData(..)
+        | Instr::MovDirectDirect(..)
+        | Instr::CjneADirectRel(..)
+        | Instr::DjnzDirectRel(..)
+        | Instr::MovDirectAtRi(..)
+        | Instr::MovAtRiDirect(..)
+        | Instr::CjneAtRiDataRel(..)
+        | Instr::MovDirectRn(..)
+        | Instr::MovRnDirect(..)
+        | Instr::CjneRnDataRel(..)
+        | Instr::DjnzRnRel(..) => 2,
+        _ => 1,
+    }
+}
+
+/// Where control goes after an instruction.
+///
+/// Source: family manual.
+pub fn kind_of(instr: &Instr) -> Flow
+    ensures { result ≡ flow_of instr.now }
+{
+    let (_, columns) = row_at(numbers_of(instr).row);
+    columns.flow
+}

@@ -3,9 +3,9 @@ ghost use Rattle.std.specs.Prelude.{◌≡◌};
 ghost use Rattle.m51_isa.specs.Targets.{bit_address, distance, in_one_block, fits_byte, is_near, near, relative};
 ghost use Rattle.m51_isa.specs.Targets.{next_of, target_of};
 
-use crate::columns::length;
 use crate::instr::Instr;
 use crate::operand::Address11;
+use crate::table::length;
 
 /// The address after an instruction, modulo 65,536.
 ///

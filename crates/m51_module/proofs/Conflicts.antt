@@ -1,5 +1,5 @@
 -- Conflicts of any programs: they are mutual, and are carried over where only segments get other numbers.
-use Rattle.std.proofs.Common.{arith, ◌≡◌, ◌⊎◌, inl, inr, ℕ, List, [], ◌∷◌, sym}
+use Rattle.std.proofs.Common.{arith, ◌≡◌, ◌⊎◌, ℕ, List, [], ◌∷◌, sym}
 use Rattle.std.specs.Prelude.{◌↔◌}
 use Rattle.m51_module.specs.Conflict.{AreRelated, Same, Before, After, FirstUnderNone, SecondUnderNone, UnderTwo}
 use Rattle.m51_module.specs.Conflict.{InConflict, FirstPlain, SecondPlain, Owners}
@@ -42,7 +42,7 @@ module _ (g h : ProgramGraph) (same : HaveSameUnits g h) where
   reach_there u v r = grind (arith, walk_there u (r.next ∷ r.more) r.walk)
 
   leads_there : (u v : ℕ) → (u ≡ v) ⊎ Reaches g.edges u v → (u ≡ v) ⊎ Reaches h.edges u v
-  leads_there u v h2 = grind (arith, reach_there)
+  leads_there u v led = grind (arith, reach_there)
 
   pub under_there : (x u : ℕ) → LiesUnder g x u → LiesUnder h x u
   under_there x u l = grind (arith, leads_there)

@@ -1,6 +1,5 @@
 -- Bytes that are all FFH.
 use Rattle.std.proofs.Common.{◌≡◌, ℕ, List, replicate, arith}
-use Rattle.std.proofs.lemmas.List.{length-replicate}
 use Rattle.std.proofs.lemmas.Grind.{common_steps}
 use Rattle.m51_module.specs.Image.{IsErased}
 

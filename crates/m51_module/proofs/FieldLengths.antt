@@ -1,7 +1,6 @@
 -- How many bytes the field of a reference has.
 use Rattle.std.proofs.Common.{◌<◌, arith}
 use Rattle.m51_module.specs.declared.content.Form.{Form}
-use Rattle.m51_module.specs.declared.content.Form.TheVariants.{Word, Inblock}
 use Rattle.m51_module.specs.Validity.{field_len}
 
 -- a field has a byte

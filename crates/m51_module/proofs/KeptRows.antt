@@ -1,41 +1,44 @@
--- The rows of owners and of locals, extended by one pair and by one segment at a time.
+-- The rows of owners and of locals, extended by one pair and by one segment at a time, and those of a sound layout.
 use Rattle.std.proofs.lemmas.Grind.{common_steps}
-use Rattle.std.proofs.Common.{◌≡◌, ◌≢◌, ◌⊎◌, inl, inr, ℕ, ◌+◌, ◌<◌, List, [], ◌∷◌, ◌++◌, length, sym, subst, ◌∙◌, arith}
+use Rattle.std.proofs.Common.{◌≡◌, ◌⊎◌, inl, inr, ℕ, zero, suc, ◌+◌, ◌<◌, List, [], ◌∷◌, ◌++◌, length, sym, subst}
+use Rattle.std.proofs.Common.{◌∙◌, arith}
 use Rattle.std.specs.Prelude.{slice_index_or, slice_set, take}
-use Rattle.std.specs.List.{Contains}
+use Rattle.std.specs.List.{All, Contains}
 use Rattle.std.proofs.lemmas.Bool.Decides.{eqb_tells}
 use Rattle.std.proofs.lemmas.List.{get_or_default, get_or-take, length-set, length-take-le, get_or-set_same}
-use Rattle.std.proofs.lemmas.List.{get_or-set_other}
+use Rattle.std.proofs.lemmas.List.{get_or-set_other, take_more}
 use Rattle.std.proofs.lemmas.List.Elements.{Contains-push, Contains-push_cases, Contains-get_or}
 use Rattle.std.proofs.lemmas.List.Quantifiers.{all_pairs_push}
 use Rattle.std.proofs.lemmas.Option.{slice_get_within}
+use Rattle.m51_cells.proofs.Small.{contains_first}
 use Rattle.m51_module.specs.declared.parts.LayoutParts.{LayoutParts}
-use Rattle.m51_module.specs.Kept.{AreDifferent, AreEmptyRows, AreOwnerRows, AreSegmentsOf, AreLocalRows, IsAddedAt}
-use Rattle.m51_module.specs.Plan.{owners_of, AreLocals}
-use Rattle.m51_module.specs.Sound.{IsSound}
-use Rattle.m51_module.proofs.Owning.{contains_behind, none_in_empty}
+use Rattle.m51_module.specs.Kept.{AreDifferent, AreOwnerRows, AreSegmentsOf, AreLocalRows, HaveRows, IsAddedAt}
+use Rattle.m51_module.specs.Kept.{IsRowAlong}
+use Rattle.m51_module.specs.Plan.{owners_of, AreLocals, IsOverlaid}
+use Rattle.m51_module.specs.Sound.{HasOwners, IsSound}
+use Rattle.m51_module.proofs.Owning.{contains_behind, none_in_empty, owner_of_pair}
 use Rattle.m51_module.proofs.Units.{same_or_not}
 
--- one more pair is one more owner of its segment
-more_owner : (pairs : List (ℕ × ℕ)) (pair : ℕ × ℕ) (s : ℕ) → pair.0 ≡ s → owners_of (pairs ++ pair ∷ []) s
-    ≡ owners_of pairs s ++ pair.1 ∷ []
-more_owner pairs pair s e = grind (arith, common_steps, eqb_tells)
-
--- and no owner of another segment
-same_owners : (pairs : List (ℕ × ℕ)) (pair : ℕ × ℕ) (s : ℕ) → pair.0 ≢ s → owners_of (pairs ++ pair ∷ []) s
-    ≡ owners_of pairs s
-same_owners pairs pair s ne = grind (arith, common_steps, eqb_tells)
-
--- no pair yet
-pub owner_rows_start : (count : ℕ) (rows : List (List ℕ)) → AreEmptyRows count rows → AreOwnerRows [] count rows
-owner_rows_start count rows h = grind arith
+-- a pair of the list has a row
+pub pair_within : (count : ℕ) (owners : List (ℕ × ℕ)) (i : ℕ) → HaveRows count owners → i < length owners
+    → (slice_index_or owners i (0, 0)).0 < count
+pair_within count owners i h below = h _ _ (Contains-get_or owners i (0, 0) below)
 
 -- one more pair
-pub owner_rows_more : (owners : List (ℕ × ℕ)) (count : ℕ) (rows : List (List ℕ)) (pair : ℕ × ℕ)
+owner_more : (owners : List (ℕ × ℕ)) (count : ℕ) (rows : List (List ℕ)) (pair : ℕ × ℕ)
     → AreOwnerRows owners count rows → pair.0 < count
     → AreOwnerRows (owners ++ pair ∷ []) count (slice_set rows pair.0 (slice_index_or rows pair.0 [] ++ pair.1 ∷ []))
-owner_rows_more owners count rows pair h below =
-    grind (arith, length-set, get_or-set_same, more_owner, get_or-set_other, same_owners)
+owner_more owners count rows pair h below =
+    grind (arith, common_steps, length-set, get_or-set_same, get_or-set_other, eqb_tells)
+
+pub owner_rows_more : (owners : List (ℕ × ℕ)) (count i : ℕ) (rows : List (List ℕ)) → HaveRows count owners
+    → i < length owners → AreOwnerRows (take i owners) count rows
+    → AreOwnerRows (take (i + 1) owners) count
+    (slice_set rows (slice_index_or owners i (0, 0)).0
+    (slice_index_or rows (slice_index_or owners i (0, 0)).0 [] ++ (slice_index_or owners i (0, 0)).1 ∷ []))
+owner_rows_more owners count i rows have below h =
+    rw (take_more owners i (0, 0) below)
+    (owner_more (take i owners) count rows _ h (pair_within count owners i have below))
 
 -- a row of the list does not depend on the default for one that is missing
 pub row_is : (rows : List (List ℕ)) (index : ℕ) (row : List ℕ) → index < length rows → row
@@ -45,14 +48,7 @@ row_is rows index row below is = grind (arith, get_or_default)
 -- a number is in a list or not
 pub among_or_not : (xs : List ℕ) (x : ℕ) → Contains xs x ⊎ (Contains xs x → ⊥)
 among_or_not [] x = inr (none_in_empty x)
-among_or_not (y ∷ ys) x = elim (same_or_not y x) [
-  | inl same ↦ inl (0, omega arith, same)
-  | inr other ↦ grind (arith, among_or_not ys x, contains_behind)
-]
-
--- the segment is in the row of no unit yet
-pub added_start : (segment : ℕ) (rows : List (List ℕ)) → IsAddedAt [] segment rows rows
-added_start segment rows = grind arith
+among_or_not (y ∷ ys) x = grind (arith, same_or_not y x, among_or_not ys x, contains_first y ys, contains_behind)
 
 -- one more unit, which is not among those before it
 pub added_more : (units : List ℕ) (segment : ℕ) (old new : List (List ℕ)) (u : ℕ) → IsAddedAt units segment old new
@@ -107,11 +103,6 @@ segment_found rows unit count segments h within = record {
   all = λ s below c. grind (arith, common_steps, h.all s, Contains-push segments count);
 }
 
--- no row yet
-pub local_rows_start : (owner_rows : List (List ℕ)) (units : ℕ) (rows : List (List ℕ)) → AreEmptyRows units rows
-    → AreLocalRows owner_rows units 0 rows
-local_rows_start owner_rows units rows h = grind arith
-
 -- one more row
 pub local_rows_more : (owner_rows : List (List ℕ)) (units count : ℕ) (old new : List (List ℕ)) (row : List ℕ)
     → AreLocalRows owner_rows units count old
@@ -139,16 +130,45 @@ pub locals_of_row : (l : LayoutParts) (owner_rows local_rows : List (List ℕ)) 
     → AreLocalRows owner_rows (length l.units) (length owner_rows) local_rows → unit < length l.units
     → row ≡ slice_index_or local_rows unit row → AreLocals l unit row
 locals_of_row l owner_rows local_rows unit row sound kept locals below is =
-    let there : unit < length local_rows = omega arith in
-    let are : AreSegmentsOf owner_rows unit (length owner_rows) row =
-    rw (row_is local_rows unit row there is) at (locals.each unit below) in
+    let are = rw (row_is local_rows unit row (omega arith) is) at (locals.each unit below) in
     record {
       rising = are.rising;
       owned = λ s. (
-        (λ c. let k = are.listed s c in
-            grind arith),
+        grind (arith, are.listed s),
         (λ owns.
             let o = (sound.owned unit s owns).1 in
             grind (arith, slice_get_within)),
       );
     }
+
+-- each pair of a sound layout has a row
+pub owners_have_rows : (l : LayoutParts) → IsSound l → HaveRows (length l.placed) l.owners
+owners_have_rows l sound s u pair =
+    let o = (sound.owned u s (owner_of_pair l.owners s u pair)).1 in
+    slice_get_within l.placed s o.0 o.1
+
+-- an own unit and others that ascend are different
+owners_differ : (owners : List ℕ) → HasOwners owners → AreDifferent owners
+owners_differ owners h = rw h.are all where
+  all : AreDifferent (h.own ∷ h.others)
+  all i zero d less below = absurd (omega (arith, less))
+  all zero (suc j) d less below =
+      λ e. h.different (j, omega (arith, below), get_or_default h.others j h.own d (omega (arith, below)) ∙ sym e)
+  all (suc i) (suc j) d less below = λ e. omega (arith, e, h.rising i j d (omega (arith, less)) (omega (arith, below)))
+
+-- the owners of any extent are different units
+row_of : (l : LayoutParts) → IsSound l → (s : ℕ) → IsRowAlong (length l.units) (owners_of l.owners s)
+row_of l sound s = record {
+  units = λ k d below. (owned k d below).0;
+  different = λ i j d less below.
+      owners_differ (owners_of l.owners s) (sound.owners s (owned j d below).1) i j d less below;
+} where
+  owned : (k d : ℕ) → k < length (owners_of l.owners s) → (slice_index_or (owners_of l.owners s) k d < length l.units)
+      × IsOverlaid l s
+  owned k d below = sound.owned _ s (Contains-get_or (owners_of l.owners s) k d below)
+
+pub rows_along : (l : LayoutParts) (rows : List (List ℕ)) → IsSound l → AreOwnerRows l.owners (length l.placed) rows
+    → All (IsRowAlong (length l.units)) rows
+rows_along l rows sound h k d below =
+    subst (IsRowAlong (length l.units))
+    (grind (arith, get_or_default)) (row_of l sound k)

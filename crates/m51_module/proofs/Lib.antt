@@ -1,11 +1,7 @@
-pub mod Alone
-pub mod Answered
-pub mod Building
 pub mod CellLemmas
 pub mod Conflicts
 pub mod Erased
 pub mod Held
-pub mod KeptLayout
 pub mod KeptRows
 pub mod KeptTables
 pub mod NotedNames
@@ -15,4 +11,3 @@ pub mod Reach
 pub mod Units
 pub mod EdgeTests
 pub mod FieldLengths
-pub mod Beside

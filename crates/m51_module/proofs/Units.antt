@@ -4,11 +4,9 @@ use Rattle.std.specs.Prelude.{slice_index, slice_index_or}
 use Rattle.std.specs.List.{Contains}
 use Rattle.std.proofs.lemmas.Option.{slice_get_within, slice_get-get_or}
 use Rattle.m51_cells.specs.declared.kind.Kind.TheVariants.{Code}
-use Rattle.m51_cells.specs.Extent.{Covers}
 use Rattle.m51_module.specs.declared.parts.LayoutParts.{LayoutParts}
 use Rattle.m51_module.specs.declared.placed.Mark.TheVariants.{Absolute}
 use Rattle.m51_module.specs.declared.placed.Placed.{Placed}
-use Rattle.m51_module.specs.Cells.{extent_at, code_cell}
 use Rattle.m51_module.specs.Roots.{vectors}
 use Rattle.m51_module.specs.Plan.{IsUnit, IsOverlaid, IsUnitAt, IsRootAt, owners_of}
 use Rattle.m51_module.specs.Sound.{IsSound}
@@ -52,15 +50,6 @@ pub unit_at_place : (l : LayoutParts) (unit : ℕ) (p : Placed) → unit < lengt
     → slice_index l.units unit < length l.placed
     → slice_index_or l.placed (slice_index l.units unit) p ≡ p → IsUnit l unit p
 unit_at_place l unit p h k e = grind (arith, slice_get-get_or)
-
--- a unit covers an address where its extent does
-pub at_from_covers : (l : LayoutParts) (address unit : ℕ) (p : Placed) → IsUnit l unit p
-    → Covers (extent_at p) (code_cell address) → IsUnitAt l address unit
-at_from_covers l address unit p h c = grind arith
-
-pub covers_from_at : (l : LayoutParts) (address unit : ℕ) (p : Placed) → IsUnit l unit p → IsUnitAt l address unit
-    → Covers (extent_at p) (code_cell address)
-covers_from_at l address unit p h at = grind arith
 
 -- a unit is a root where its extent is absolute and begins at the vector
 pub root_from_parts : (l : LayoutParts) (vector unit : ℕ) (p : Placed) → IsUnit l unit p → p.kind ≡ Code

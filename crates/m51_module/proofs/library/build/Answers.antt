@@ -1,7 +1,7 @@
-use Rattle.std.proofs.Common.{◌≡◌, ◌<◌, ◌≤◌, None, length, get_or, take, ◌∙◌, rules, subst, arith}
+use Rattle.std.proofs.Common.{◌≡◌, ◌<◌, None, length, get_or, take, ◌∙◌, rules, arith}
 use Rattle.std.proofs.lemmas.List.{take_all}
-use Rattle.m51_module.specs.Library.{IsLibrary, add_refusal}
-use Rattle.m51_module.proofs.Building.{library_more, each_more}
+use Rattle.m51_module.specs.Library.{add_refusal}
+use Rattle.m51_module.proofs.Held.{library_more, each_more}
 use Rattle.m51_module.proofs.NotedNames.{names_next}
 use Rattle.m51_module.proofs.library.build.Goals as goal
 
@@ -11,7 +11,7 @@ loop-index-preserved c =
     let free : add_refusal (take c.loop-index.index c.args.modules.items)
     (get_or c.args.modules.items c.loop-index.index c.index.result.now) ≡ None = search rules in
     record {
-      library = library_more _ _ c.index.result.now lt c.loop-index.invariant.library free;
+      library = library_more _ _ c.index.result.now lt free c.loop-index.invariant.library;
       names = names_next c.args.modules.items c.loop-index.index c.index-in-None.result.now c.with-names.result lt
           (search rules) (c.with-names.ensures _ c.loop-index.invariant.names);
       rest = each_more _ _ c.index.result.now lt free ∙ c.loop-index.invariant.rest;
@@ -19,10 +19,7 @@ loop-index-preserved c =
 
 pub invariant_of-result : goal.invariant_of-result
 invariant_of-result c =
-    let past : length c.args.modules.items ≤ c.loop-index.index = omega arith in
     record {
-      library =
-          subst IsLibrary (take_all c.loop-index.index c.args.modules.items past) c.loop-index.invariant.library;
-      named =
-          c.unknown.ensures _;
+      library = rw (take_all c.loop-index.index c.args.modules.items (omega arith)) at c.loop-index.invariant.library;
+      named = c.unknown.ensures _;
     }

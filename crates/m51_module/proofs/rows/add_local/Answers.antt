@@ -1,12 +1,7 @@
-use Rattle.std.proofs.Common.{subst, arith}
-use Rattle.std.specs.Prelude.{slice_index_or, take}
+use Rattle.std.proofs.Common.{arith}
 use Rattle.std.proofs.lemmas.List.{take_all, take_more}
-use Rattle.m51_module.specs.Kept.{IsAddedAt}
-use Rattle.m51_module.proofs.KeptRows.{added_start, added_more, different_before}
+use Rattle.m51_module.proofs.KeptRows.{added_more, different_before}
 use Rattle.m51_module.proofs.rows.add_local.Goals as goal
-
-pub loop-unit-init : goal.loop-unit-init
-loop-unit-init c = added_start c.args.segment c.args.rows.now.items
 
 pub add_to-requires : goal.add_to-requires
 add_to-requires c =
@@ -24,13 +19,10 @@ loop-unit-preserved c =
       c.from.ensures,
       take_more c.args.owners.now c.loop-unit.unit-index 0 c.loop-unit-test.true,
     )
-    (added_more
-    (take c.loop-unit.unit-index c.args.owners.now) c.args.segment c.args.rows.now.items c.loop-unit.rows.items
-    (slice_index_or c.args.owners.now c.loop-unit.unit-index 0) c.loop-unit.invariant
+    (added_more _ c.args.segment c.args.rows.now.items c.loop-unit.rows.items _ c.loop-unit.invariant
     (c.requires.units c.loop-unit.unit-index 0 c.loop-unit-test.true)
     (different_before c.args.owners.now c.loop-unit.unit-index 0 c.requires.different c.loop-unit-test.true))
 
 pub returns : goal.returns
 returns c =
-    subst (λ units. IsAddedAt units c.args.segment c.args.rows.now.items c.loop-unit.rows.items)
-    (take_all c.loop-unit.unit-index c.args.owners.now c.loop-unit-test.false) c.loop-unit.invariant
+    rw (take_all c.loop-unit.unit-index c.args.owners.now c.loop-unit-test.false) at c.loop-unit.invariant

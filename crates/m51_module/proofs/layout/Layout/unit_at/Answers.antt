@@ -1,5 +1,4 @@
-use Rattle.std.proofs.Common.{ℕ, ◌<◌, length, None, sym, ap, ◌∙◌, arith, rules}
-use Rattle.std.specs.Prelude.{slice_index_or}
+use Rattle.std.proofs.Common.{◌<◌, length, None, arith, rules}
 use Rattle.std.proofs.lemmas.List.{get_or_default}
 use Rattle.m51_module.specs.Plan.{IsUnitAt}
 use Rattle.m51_module.proofs.Units.{unit_below}
@@ -11,8 +10,10 @@ returns-clause-only c = λ unit h.
     let inside : c.args.address < 65536 = search rules in
     let below : c.args.address < length c.self.inside.units_at.items =
     omega (arith, inside, c.self.invariant.units_at.len) in
-    c.index.ensures
-    ∙ ap (λ (index : ℕ). slice_index_or c.self.inside.units_at.items index c.index.result.now) c.from.ensures
-    ∙ sym (get_or_default c.self.inside.units_at.items c.args.address None c.index.result.now below)
-    ∙ c.self.invariant.units_at.only c.args.address unit inside
-    (unit_below c.self.inside.parts c.args.address unit at) at
+    cc (
+      c.index.ensures,
+      c.from.ensures,
+      get_or_default c.self.inside.units_at.items c.args.address None c.index.result.now below,
+      c.self.invariant.units_at.only c.args.address unit inside (unit_below c.self.inside.parts c.args.address unit at)
+          at,
+    )

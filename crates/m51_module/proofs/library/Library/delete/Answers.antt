@@ -1,7 +1,6 @@
-use Rattle.std.proofs.Common.{rules}
+use Rattle.std.proofs.Common.{refl, rules}
 use Rattle.m51_module.specs.Library.{is_named}
-use Rattle.m51_module.proofs.Answered.{delete_there, delete_nowhere}
-use Rattle.m51_module.proofs.Held.{delete_keeps, index_within}
+use Rattle.m51_module.proofs.Held.{delete_keeps, delete_there, found_nowhere, index_within}
 use Rattle.m51_module.proofs.library.Library.delete.Goals as goal
 
 pub invariant_of-self : goal.invariant_of-self
@@ -22,4 +21,4 @@ returns-in-Some-clause-answer c =
 
 pub returns-in-None-clause-answer : goal.returns-in-None-clause-answer
 returns-in-None-clause-answer c =
-    rw (← c.self.view_is) (delete_nowhere c.self.inside.members.items c.args.name.now (search rules))
+    rw (← c.self.view_is, found_nowhere (is_named c.args.name.now) c.self.inside.members.items (search rules)) refl

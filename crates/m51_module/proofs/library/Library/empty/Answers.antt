@@ -1,4 +1,4 @@
-use Rattle.m51_module.proofs.Building.{none_is_library}
+use Rattle.m51_module.proofs.Held.{none_is_library}
 use Rattle.m51_module.proofs.library.Library.empty.Goals as goal
 
 pub invariant_of-result : goal.invariant_of-result

@@ -1,5 +1,6 @@
-use Rattle.std.proofs.Common.{rules}
-use Rattle.m51_module.proofs.Answered.{extract_there, extract_nowhere}
+use Rattle.std.proofs.Common.{refl, rules}
+use Rattle.m51_module.specs.Library.{is_named}
+use Rattle.m51_module.proofs.Held.{extract_there, found_nowhere}
 use Rattle.m51_module.proofs.library.Library.extract.Goals as goal
 
 pub returns-in_ok-copy-in-Some : goal.returns-in_ok-copy-in-Some
@@ -10,4 +11,4 @@ returns-in_ok-copy-in-Some c =
 
 pub returns-in-None : goal.returns-in-None
 returns-in-None c =
-    rw (← c.self.view_is) (extract_nowhere c.self.inside.members.items c.args.name.now (search rules))
+    rw (← c.self.view_is, found_nowhere (is_named c.args.name.now) c.self.inside.members.items (search rules)) refl

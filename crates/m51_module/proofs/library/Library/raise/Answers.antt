@@ -1,8 +1,7 @@
-use Rattle.std.proofs.Common.{[], rules}
+use Rattle.std.proofs.Common.{[], refl, rules}
 use Rattle.m51_module.specs.Library.{is_named}
 use Rattle.m51_module.specs.declared.parts.ModuleParts.{ModuleParts}
-use Rattle.m51_module.proofs.Answered.{raise_there, raise_nowhere}
-use Rattle.m51_module.proofs.Held.{index_within, raise_keeps}
+use Rattle.m51_module.proofs.Held.{found_nowhere, index_within, raise_keeps, raise_there}
 use Rattle.m51_module.proofs.library.Library.raise.Goals as goal
 
 -- a module to name where the index is inside the list, so that it does not matter which
@@ -28,4 +27,4 @@ returns-clause-answer c =
 
 pub returns-in-None-clause-answer : goal.returns-in-None-clause-answer
 returns-in-None-clause-answer c =
-    rw (← c.self.view_is) (raise_nowhere c.self.inside.members.items c.args.name.now (search rules))
+    rw (← c.self.view_is, found_nowhere (is_named c.args.name.now) c.self.inside.members.items (search rules)) refl

@@ -1,5 +1,6 @@
-use Rattle.std.proofs.Common.{rules}
-use Rattle.m51_module.proofs.Answered.{replace_there, replace_nowhere}
+use Rattle.std.proofs.Common.{refl, rules}
+use Rattle.m51_module.specs.Library.{is_named}
+use Rattle.m51_module.proofs.Held.{found_nowhere, replace_there}
 use Rattle.m51_module.proofs.library.Library.replace.Goals as goal
 
 pub returns-in-Some-clause-answer : goal.returns-in-Some-clause-answer
@@ -12,5 +13,8 @@ returns-in-Some-clause-answer c =
 
 pub returns-in-None-clause-answer : goal.returns-in-None-clause-answer
 returns-in-None-clause-answer c =
-    rw (← c.self.view_is, c.name-name.ensures)
-    (replace_nowhere c.self.inside.members.items c.args.incoming (search rules))
+    rw (
+      ← c.self.view_is,
+      c.name-name.ensures,
+      found_nowhere (is_named c.args.incoming.name) c.self.inside.members.items (search rules),
+    ) refl

@@ -1,22 +1,17 @@
-use Rattle.std.proofs.Common.{◌≡◌, List, None, Some, ◌∙◌, rules, ap, subst, sym}
+use Rattle.std.proofs.Common.{◌≡◌, None, Some, ◌∙◌, refl, rules, ap}
 use Rattle.std.specs.Prelude.{remove, slice_set}
-use Rattle.m51_module.specs.declared.parts.ModuleParts.{ModuleParts}
-use Rattle.m51_module.specs.Library.{is_named, clash, has_public, value_unless}
-use Rattle.m51_module.specs.WorkNames.{AreNames}
-use Rattle.m51_module.proofs.Beside.{any_removed, any_set, names_others, names_back}
-use Rattle.m51_module.proofs.Answered.{put_there}
-use Rattle.m51_module.proofs.Held.{index_within, replace_keeps}
+use Rattle.m51_module.specs.Library.{is_named, clash, value_unless}
+use Rattle.m51_module.proofs.NotedNames.{names_others, names_put, set_again}
+use Rattle.m51_module.proofs.Held.{index_within, put_there, replace_keeps}
 use Rattle.m51_module.proofs.library.Library.replace_at.Goals as goal
 
 pub clash_with_others-requires-clause-names : goal.clash_with_others-requires-clause-names
 clash_with_others-requires-clause-names c =
     let ms = c.self.inside.members.items in
-    let within = index_within (is_named c.args.incoming.name) ms c.args.index (search rules) in
-    subst (λ (xs : List ModuleParts). AreNames (remove xs c.args.index) c.without-others.result)
-    (sym c.deref-2.ensures.value)
-    (names_others ms c.deref.result.now c.args.index c.index.result.now c.take-names.result c.without-others.result
-    c.self.invariant.library within c.index.ensures c.deref.ensures.value c.take-names.ensures.taken
-    c.without-others.ensures)
+    rw c.deref-2.ensures.value
+    (names_others ms _ c.args.index _ c.take-names.result c.without-others.result c.self.invariant.library
+    (index_within (is_named c.args.incoming.name) ms c.args.index (search rules)) c.index.ensures
+    c.deref.ensures.value c.take-names.ensures.taken c.without-others.ensures)
 
 pub invariant_of-self : goal.invariant_of-self
 invariant_of-self c =
@@ -24,13 +19,10 @@ invariant_of-self c =
     let within = index_within (is_named c.args.incoming.name) ms c.args.index (search rules) in
     record {
       library = c.self.invariant.library;
-      named = names_back ms (remove ms c.args.index) c.index-in-Some.result.now c.with.result
-          (λ name. any_removed
-          (has_public name) ms c.args.index c.index-in-Some.result.now within c.index-in-Some.ensures)
-          (c.with.ensures (remove ms c.args.index)
-          (names_others ms c.deref.result.now c.args.index c.index.result.now c.take-names.result
-          c.without-others.result c.self.invariant.library within c.index.ensures c.deref.ensures.value
-          c.take-names.ensures.taken c.without-others.ensures));
+      named = names_put ms ms c.args.index c.index-in-Some.result.now c.without-others.result c.with.result within
+          (set_again ms c.args.index _ c.index-in-Some.ensures)
+          (names_others ms _ c.args.index _ c.take-names.result c.without-others.result c.self.invariant.library within
+          c.index.ensures c.deref.ensures.value c.take-names.ensures.taken c.without-others.ensures) c.with.ensures;
     }
 
 pub invariant_of-self-in-None : goal.invariant_of-self-in-None
@@ -39,12 +31,10 @@ invariant_of-self-in-None c =
     let within = index_within (is_named c.args.incoming.name) ms c.args.index (search rules) in
     record {
       library = replace_keeps ms c.args.index c.args.incoming c.self.invariant.library (search rules) (search rules);
-      named = names_back (slice_set ms c.args.index c.args.incoming) (remove ms c.args.index) c.args.incoming _
-          (λ name. any_set (has_public name) ms c.args.index c.args.incoming within)
-          (c.with-in-None.ensures (remove ms c.args.index)
-          (names_others ms c.deref.result.now c.args.index c.index.result.now c.take-names.result
-          c.without-others.result c.self.invariant.library within c.index.ensures c.deref.ensures.value
-          c.take-names.ensures.taken c.without-others.ensures));
+      named = names_put ms _ c.args.index c.args.incoming c.without-others.result c.with-in-None.result within refl
+          (names_others ms _ c.args.index _ c.take-names.result c.without-others.result c.self.invariant.library within
+          c.index.ensures c.deref.ensures.value c.take-names.ensures.taken c.without-others.ensures)
+          c.with-in-None.ensures;
     }
 
 pub returns-in-Some-clause-answer : goal.returns-in-Some-clause-answer

@@ -1,6 +1,6 @@
 use Rattle.std.proofs.Common.{◌≡◌, Some, ap, sym, ◌∙◌}
 use Rattle.std.specs.Prelude.{option_map}
-use Rattle.m51_module.proofs.Beside.{names_less}
+use Rattle.m51_module.proofs.NotedNames.{names_less}
 use Rattle.m51_module.proofs.public_names.PublicNames.without.Goals as goal
 
 pub returns-in-Some : goal.returns-in-Some

@@ -2,18 +2,17 @@
 use Rattle.m51_place.proofs.Common.{◌||◌, ◌≡◌, inl, inr, ℕ, ◌<◌, false, tally, Edges, HasEdge, leads, cases_Bool, ◌+◌}
 use Rattle.m51_place.proofs.Common.{◌≤◌, true, Bool, List, [], ◌∷◌, ◌++◌, length, map, take, get_or, refl, sym, ap}
 use Rattle.m51_place.proofs.Common.{subst, ◌∙◌, arith, false≢true, sum_by-cons, LayoutParts, weight_along, weight_of}
-use Rattle.m51_place.proofs.Common.{IsSound, none_in_empty, IsRising, ◌≢◌, ◌⊎◌, drop, Option, Some, None, append_assoc}
-use Rattle.m51_place.proofs.Common.{nat_lt, append-nil, cases_lt, Chain, IsWalk, drop_rest, IsFront, same_Some}
+use Rattle.m51_place.proofs.Common.{Contains-append_left, IsSound, none_in_empty, IsRising, ◌≢◌, ◌⊎◌, drop, Option}
+use Rattle.m51_place.proofs.Common.{Some, None, append_assoc}
+use Rattle.m51_place.proofs.Common.{nat_lt, append-nil, cases_lt, Chain, IsWalk, drop_rest, IsFront}
 use Rattle.std.proofs.Common.{set, sum}
 use Rattle.std.proofs.lemmas.List.{take_more, get_or-set_same, get_or-set_other, length-set, drop_all}
-use Rattle.std.proofs.lemmas.List.Elements.{Contains-push_cases, Contains-get_or}
+use Rattle.std.proofs.lemmas.List.Elements.{Contains-push, Contains-push_cases, Contains-get_or}
 use Rattle.std.proofs.lemmas.List.Sums.{sum_by-set}
 use Rattle.m51_cells.proofs.ListsAndOptions.{sum_most}
 use Rattle.m51_module.proofs.Units.{same_or_not}
 use Rattle.m51_place.specs.Heaviest.{AreReached, AreWeights, HasWalk, Lifts, AreBest, FollowsHeaviest, IsHeaviestFrom}
-use Rattle.m51_place.specs.Heaviest.{HasRoom, IsNext, leads_on, least_of, lesser, Steps}
-use Rattle.m51_cells.proofs.Members.{contains_in, Every, every_in, In, in_contains}
-use Rattle.std.proofs.lemmas.Bool.Decides.{nat_tests}
+use Rattle.m51_place.specs.Heaviest.{HasRoom, IsNext, IsNextAmong, LeadsOn, lesser, Steps}
 use Rattle.m51_place.proofs.Weights.{walk_bound}
 use Rattle.std.proofs.lemmas.Bool.{cases_order, ltb-false, ltb-true}
 use Rattle.m51_module.specs.Chains.{ChainsAt, ComesFirst, HasNoRoot, IsHeaviest}
@@ -56,64 +55,52 @@ rising_none l best h =
       more = λ h. absurd (false≢true h);
     }
 
--- a number that rises
-rising_edge : (l : LayoutParts) (done : Edges) (u v : ℕ) (old now : List ℕ) (rose : Bool) → HasEdge l.edges u v
-    → u < length now → v < length now
-    → get_or now u 0 < weight_of l u + get_or now v 0 → IsRising l done old now rose
-    → IsRising l (done ++ (u, v) ∷ []) old (set now u (weight_of l u + get_or now v 0)) true
-rising_edge l done u v old now rose e in_u in_v less c =
-    let bytes : ℕ = weight_of l u + get_or now v 0 in
-    let longer : sum (set now u bytes) + get_or now u 0 ≡ sum now + bytes =
-    sum_by-set (λ (x : ℕ). x) now u bytes 0 in_u in
-    let same : length (set now u bytes) ≡ length now = length-set now u bytes in
-    record {
-      reached = record {
-        len = same ∙ c.reached.len;
-        each = λ w below. elim (same_or_not w u) [
-          | inl here ↦ rw (here, get_or-set_same now u bytes 0 in_u)
-              (walk_from l u v (get_or now v 0) e (c.reached.each v in_v))
-          | inr other ↦ rw (get_or-set_other now u w bytes 0 other) (c.reached.each w (omega (arith, below, same)))
-        ];
-      };
-      top = λ h. absurd (false≢true (sym h));
-      not_less = omega (arith, longer, c.not_less, less);
-      more = λ h. omega (arith, longer, c.not_less, less);
-    }
+-- the next edge: a number rises, or it is high enough
+module _ (l : LayoutParts) (i : ℕ) (d : ℕ × ℕ) (old now : List ℕ) (rose : Bool) (sound : IsSound l)
+    (below : i < length l.edges) (c : IsRising l (take i l.edges) old now rose) where
+  abbrev u : ℕ
+  u = (get_or l.edges i d).0
 
--- a number that is high enough
-rising_pass : (l : LayoutParts) (done : Edges) (u v : ℕ) (old now : List ℕ) (rose : Bool)
-    → weight_of l u + get_or now v 0 ≤ get_or now u 0
-    → IsRising l done old now rose → IsRising l (done ++ (u, v) ∷ []) old now rose
-rising_pass l done u v old now rose high c = record {
-  reached = c.reached;
-  top = λ h. record {
-    top = λ x y e. elim (Contains-push_cases done (u, v) (x, y) e) [
-      | inl before ↦ (c.top h).top x y before
-      | inr here ↦
-          let from : u ≡ x = ap (λ (p : ℕ × ℕ). p.0) here in
-          let to : v ≡ y = ap (λ (p : ℕ × ℕ). p.1) here in
-          rw (from, to) at high
-    ];
-  };
-  not_less = c.not_less;
-  more = c.more;
-}
+  abbrev v : ℕ
+  v = (get_or l.edges i d).1
 
--- the next edge
-pub rising_more : (l : LayoutParts) (i : ℕ) (d : ℕ × ℕ) (old now new : List ℕ) (rose lifted : Bool) → IsSound l
-    → i < length l.edges
-    → Lifts l (get_or l.edges i d).0 (get_or l.edges i d).1 now new lifted → IsRising l (take i l.edges) old now rose
-    → IsRising l (take (i + 1) l.edges) old new (lifted || rose)
-rising_more l i d old now new rose true sound below h c =
-    let edge : ℕ × ℕ = get_or l.edges i d in
-    let is : HasEdge l.edges edge.0 edge.1 = Contains-get_or l.edges i d below in
-    let inside = sound.edges edge.0 edge.1 is in
-    rw (h.1, take_more l.edges i d below)
-    (rising_edge l (take i l.edges) edge.0 edge.1 old now rose is (omega (arith, inside.0, c.reached.len))
-    (omega (arith, inside.1, c.reached.len)) h.0 c)
-rising_more l i d old now new rose false sound below h c =
-    rw (h.1, take_more l.edges i d below)
-    (rising_pass l (take i l.edges) (get_or l.edges i d).0 (get_or l.edges i d).1 old now rose h.0 c)
+  pub rising_more : (new : List ℕ) (lifted : Bool) → Lifts l u v now new lifted
+      → IsRising l (take (i + 1) l.edges) old new (lifted || rose)
+  rising_more new true h =
+      let bytes : ℕ = weight_of l u + get_or now v 0 in
+      let edge : HasEdge l.edges u v = Contains-get_or l.edges i d below in
+      let inside = sound.edges u v edge in
+      let in_u : u < length now = omega (arith, inside.0, c.reached.len) in
+      let longer : sum (set now u bytes) + get_or now u 0 ≡ sum now + bytes =
+      sum_by-set (λ (x : ℕ). x) now u bytes 0 in_u in
+      let same : length (set now u bytes) ≡ length now = length-set now u bytes in
+      rw h.1 (record {
+        reached = record {
+          len = same ∙ c.reached.len;
+          each = λ w in_w. elim (same_or_not w u) [
+            | inl here ↦ rw (here, get_or-set_same now u bytes 0 in_u)
+                (walk_from l u v _ edge (c.reached.each v (omega (arith, inside.1, c.reached.len))))
+            | inr other ↦ rw (get_or-set_other now u w bytes 0 other) (c.reached.each w (omega (arith, in_w, same)))
+          ];
+        };
+        top = λ e. absurd (false≢true (sym e));
+        not_less = omega (arith, longer, c.not_less, h.0);
+        more = λ _. omega (arith, longer, c.not_less, h.0);
+      })
+  rising_more new false h = rw (h.1, take_more l.edges i d below) (record {
+    reached = c.reached;
+    top = λ e. record {
+      top = λ x y edge. elim (Contains-push_cases (take i l.edges) (u, v) (x, y) edge) [
+        | inl before ↦ (c.top e).top x y before
+        | inr here ↦
+            let from : u ≡ x = ap (λ (p : ℕ × ℕ). p.0) here in
+            let to : v ≡ y = ap (λ (p : ℕ × ℕ). p.1) here in
+            rw (from, to) at h.0
+      ];
+    };
+    not_less = c.not_less;
+    more = c.more;
+  })
 
 pub best_most : (l : LayoutParts) (best : List ℕ) → IsSound l → AreReached l best → sum best ≤ 256000
 best_most l best sound h =
@@ -134,52 +121,73 @@ room {l} {weights} {best} from to sound w h e =
       most = walk_most l sound from _ (walk_from l from to _ e (h.each to to_in));
     }
 
--- The least unit to which an edge that passes leads, of one that was found and of those of more edges.
+-- The unit that follows in the heaviest walk, with one more edge.
 
-abbrev AtMost : ℕ → Option ℕ → Type 0
-AtMost v found = (o : ℕ) → found ≡ Some o → v ≤ o
-
-lesser_is : (found : Option ℕ) (x : ℕ) → (found ≡ Some (lesser found x) ⊎ (x ≡ lesser found x)) × (lesser found x ≤ x)
-    × AtMost (lesser found x) found
-lesser_is None x = (inr refl, omega arith, λ o h. absurd (cc h))
-lesser_is (Some o) x = elim (cases_Bool (nat_lt o x)) [
-  | inl less ↦ rw less (inl refl, omega (arith, ltb-true o x less), λ p h. omega (arith, same_Some o p h))
-  | inr more ↦ rw more (inr refl, omega arith, λ p h. omega (arith, ltb-false o x more, same_Some o p h))
-]
-
-module _ (passes : ℕ × ℕ → Bool) where
-  least_none : (edges : Edges) (found : Option ℕ) → least_of passes found edges ≡ None
-      → (found ≡ None) × Every (λ e. passes e ≡ false) edges
-  least_none [] found h = (h, tt)
-  least_none (e ∷ more) found h = elim (cases_Bool (passes e)) [
-    | inl is ↦ absurd (cc (least_none more _ (rw is at h)).0)
-    | inr fails ↦ let rest = least_none more found (rw fails at h) in (rest.0, (fails, rest.1))
+module _ (l : LayoutParts) (done : Edges) (e : ℕ × ℕ) (weights best : List ℕ) (u : ℕ)
+    (weight : get_or weights u 0 ≡ weight_of l u) where
+  pushed : (w : ℕ) → HasEdge (done ++ e ∷ []) u w → HasEdge done u w ⊎ ((e.0 ≡ u) × (e.1 ≡ w))
+  pushed w edge = elim (Contains-push_cases done e (u, w) edge) [
+    | inl before ↦ inl before
+    | inr here ↦ inr (ap (λ (p : ℕ × ℕ). p.0) here, ap (λ (p : ℕ × ℕ). p.1) here)
   ]
 
-  least_some : (edges : Edges) (found : Option ℕ) (v : ℕ) → least_of passes found edges ≡ Some v
-      → (found ≡ Some v ⊎ ((e : ℕ × ℕ) × In e edges × (passes e ≡ true) × (e.1 ≡ v))) × AtMost v found
-      × Every (λ e. passes e ≡ true → v ≤ e.1) edges
-  least_some [] found v h = (inl h, λ o is. omega (arith, same_Some v o (sym h ∙ is)), tt)
-  least_some (e ∷ more) found v h = elim (cases_Bool (passes e)) [
-    | inl is ↦
-        let rest = least_some more (Some (lesser found e.1)) v (rw is at h) in
-        let of = lesser_is found e.1 in
-        let most = rest.1 (lesser found e.1) refl in (
-          elim rest.0 [
-            | inl here ↦ let same = same_Some (lesser found e.1) v here in elim of.0
-                [ inl old ↦ inl (rw same at old) | inr new ↦ inr (e, inl refl, is, new ∙ same) ]
-            | inr later ↦ inr (later.0, inr later.1, later.2, later.3)
-          ],
-          λ o old. let less = of.2 o old in omega (arith, most, less),
-          (λ _. omega (arith, most, of.1), rest.2),
-        )
-    | inr fails ↦
-        let rest = least_some more found v (rw fails at h) in (
-          elim rest.0 [ inl old ↦ inl old | inr later ↦ inr (later.0, inr later.1, later.2, later.3) ],
-          rest.1,
-          (λ is. absurd (cc (is, fails)), rest.2),
-        )
+  leads_by : (w : ℕ) → (e.0 ≡ u) × (e.1 ≡ w) → weight_of l u + get_or best w 0 ≡ get_or best u 0
+      → LeadsOn weights best u e
+  leads_by w here same = record {
+    from = here.0;
+    rest = omega (arith, weight, same, ap (λ (v : ℕ). get_or best v 0) here.1);
+  }
+
+  abbrev NoneBelow : Edges → ℕ → Type 0
+  NoneBelow edges v = (w : ℕ) → w < v → HasEdge edges u w → weight_of l u + get_or best w 0 ≢ get_or best u 0
+
+  leads_less : LeadsOn weights best u e → NoneBelow done e.1 → IsNext l (done ++ e ∷ []) best u e.1
+  leads_less on none = record {
+    edge = rw (← on.from) (Contains-push done e);
+    rest = omega (arith, weight, on.rest);
+    least = λ w less edge same. elim (pushed w edge)
+        [ inl before ↦ none w less before same | inr here ↦ absurd (omega (arith, less, here.1)) ];
+  }
+
+  keeps : (o : ℕ) → (LeadsOn weights best u e → e.1 < o → ⊥) → IsNext l done best u o
+      → IsNext l (done ++ e ∷ []) best u o
+  keeps o none h = record {
+    edge = Contains-append_left done (e ∷ []) (u, o) h.edge;
+    rest = h.rest;
+    least = λ w less edge same. elim (pushed w edge) [
+      | inl before ↦ h.least w less before same
+      | inr here ↦ none (leads_by w here same) (omega (arith, less, here.1))
+    ];
+  }
+
+  pub next_leads : (found : Option ℕ) → LeadsOn weights best u e → IsNextAmong l done best u found
+      → IsNextAmong l (done ++ e ∷ []) best u (Some (lesser found e.1))
+  next_leads None on h = leads_less on (λ w less. h w)
+  next_leads (Some o) on h = elim (cases_Bool (nat_lt o e.1)) [
+    | inl less ↦ rw less (keeps o (λ _ below. omega (arith, below, ltb-true o e.1 less)) h)
+    | inr more ↦ rw more (leads_less on (λ w less. h.least w (omega (arith, less, ltb-false o e.1 more))))
   ]
+
+  pub next_stays : (found : Option ℕ) → (LeadsOn weights best u e → ⊥) → IsNextAmong l done best u found
+      → IsNextAmong l (done ++ e ∷ []) best u found
+  next_stays (Some o) fails h = keeps o (λ on _. fails on) h
+  next_stays None fails h = λ w edge same. elim (pushed w edge) [
+    | inl before ↦ h w before same
+    | inr here ↦ fails (leads_by w here same)
+  ]
+
+-- the first units of a walk, with one more
+pub front_more : (l : LayoutParts) (best : List ℕ) (root unit v : ℕ) (units : List ℕ) → IsSound l
+    → IsFront l best root unit units → (get_or best unit 0 ≢ weight_of l unit) × IsNext l l.edges best unit v
+    → IsFront l best root v (units ++ v ∷ [])
+front_more l best root unit v units sound h next =
+    let is : IsNext l l.edges best unit v = next.1 in
+    record {
+      front = h.front ++ v ∷ [];
+      are = ap (λ (us : List ℕ). us ++ v ∷ []) h.are;
+      goes = λ more on. rw append_assoc (h.goes (v ∷ more) (next.0, is, on));
+      below = (sound.edges unit v is.edge).1;
+    }
 
 -- The walk that is extended as long as that adds bytes is the heaviest, and the first of those.
 
@@ -232,37 +240,13 @@ module _ (l : LayoutParts) (sound : IsSound l) (weights best : List ℕ) (w : Ar
   same_weight : (u : ℕ) → u < length l.units → get_or weights u 0 ≡ weight_of l u
   same_weight u below = w.each u (omega (arith, below, w.len))
 
-  abbrev passes : ℕ → ℕ × ℕ → Bool
-  passes u edge = leads_on weights best u edge
-
   pub step_is : (u : ℕ) (found : Option ℕ) → u < length l.units → get_or best u 0 ≢ get_or weights u 0
-      → least_of (passes u) None l.edges ≡ found → Steps l best u found
+      → IsNextAmong l l.edges best u found → Steps l best u found
   step_is u None below ne h =
       let at = b.reached.each u (in_best u below) in
       let on = leads_somewhere u at.more below at.walk at.bytes_are (λ e. ne (e ∙ sym (same_weight u below))) in
-      let fails = every_in _ l.edges _ (least_none (passes u) l.edges None h).1 (in_contains l.edges _ on.1) in
-      absurd (grind (arith, nat_tests, same_weight u below, on.2, fails))
-  step_is u (Some v) below ne h =
-      let is = least_some (passes u) l.edges None v h in
-      let edge = from_edge is.0 in (
-        λ e. ne (e ∙ sym (same_weight u below)),
-        record {
-          edge = edge.0;
-          rest = omega (arith, same_weight u below, edge.1);
-          least = λ x less e same.
-              let no_less = every_in _ l.edges _ is.2 (in_contains l.edges (u, x) e)
-              (grind (arith, nat_tests, same_weight u below, same)) in
-              omega (arith, less, no_less);
-        },
-      )
-    where
-      from_edge : (◌≡◌ {A = Option ℕ} None (Some v)) ⊎ ((e : ℕ × ℕ) × In e l.edges × (passes u e ≡ true) × (e.1 ≡ v))
-          → HasEdge l.edges u v × (get_or weights u 0 + get_or best v 0 ≡ get_or best u 0)
-      from_edge (inl none) = absurd (cc none)
-      from_edge (inr (e, there, on, to)) =
-          let from : e.0 ≡ u = grind (arith, nat_tests) in
-          let is : e ≡ (u, v) = λ i. (from i, to i) in
-          (contains_in l.edges (u, v) (rw is at there), grind (arith, nat_tests))
+      absurd (h on.0 on.1 on.2)
+  step_is u (Some v) below ne h = (λ e. ne (e ∙ sym (same_weight u below)), h)
 
   -- the walk, its bytes and that no other comes before it
   pub record IsTop (u : ℕ) (more : List ℕ) : Type 0 where
@@ -272,7 +256,7 @@ module _ (l : LayoutParts) (sound : IsSound l) (weights best : List ℕ) (w : Ar
         → ComesFirst more other
 
   first_sort_key : (u v : ℕ) (more other : List ℕ) → u < length l.units → get_or best u 0 ≢ weight_of l u
-      → IsNext l best u v → IsTop v more → IsWalk l.edges u other → weight_along l (u ∷ other) ≡ get_or best u 0
+      → IsNext l l.edges best u v → IsTop v more → IsWalk l.edges u other → weight_along l (u ∷ other) ≡ get_or best u 0
       → ComesFirst (v ∷ more) other
   first_sort_key u v more [] below ne next top walk same = absurd (ne (sym same ∙ along_one l u))
   first_sort_key u v more (x ∷ other) below ne next top walk same =
@@ -292,27 +276,12 @@ module _ (l : LayoutParts) (sound : IsSound l) (weights best : List ℕ) (w : Ar
   pub top_is : (u : ℕ) (more : List ℕ) → u < length l.units → FollowsHeaviest l best u more → IsTop u more
   top_is u [] below h = record { walk = tt; bytes = h ∙ sym (along_one l u); first = λ other walk same. tt }
   top_is u (v ∷ more) below h =
-      let next : IsNext l best u v = h.1 in
+      let next : IsNext l l.edges best u v = h.1 in
       let rest = top_is v more (sound.edges u v next.edge).1 h.2 in
       record {
         walk = (next.edge, rest.walk);
         bytes = omega (arith, along_more l u (v ∷ more), next.rest, rest.bytes);
         first = λ other walk same. first_sort_key u v more other below h.0 next rest walk same;
-      }
-
-  -- the first units of a walk
-  pub front_start : (root : ℕ) → root < length l.units → IsFront l best root root (root ∷ [])
-  front_start root below = record { front = []; are = refl; goes = λ more h. h; below = below }
-
-  pub front_more : (root unit v : ℕ) (units : List ℕ) → IsFront l best root unit units
-      → (get_or best unit 0 ≢ weight_of l unit) × IsNext l best unit v → IsFront l best root v (units ++ v ∷ [])
-  front_more root unit v units h next =
-      let is : IsNext l best unit v = next.1 in
-      record {
-        front = h.front ++ v ∷ [];
-        are = ap (λ (us : List ℕ). us ++ v ∷ []) h.are;
-        goes = λ more on. rw append_assoc (h.goes (v ∷ more) (next.0, is, on));
-        below = (sound.edges unit v is.edge).1;
       }
 
   -- the chain of a root

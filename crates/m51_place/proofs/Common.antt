@@ -4,9 +4,9 @@ pub use Rattle.std.proofs.Common.{List, None, Ok, Option, Result, Some, [], ap, 
 pub use Rattle.std.proofs.Common.{filter, get_or, inl, inr, length, map, nat_eq, not, refl, subst, suc, sym, take, true}
 pub use Rattle.std.proofs.Common.{unwrap_or, zero, ℕ}
 pub use Rattle.std.proofs.lemmas.Bool.{and_parts, cases_Bool, cases_lt, false≢true, not-true}
-pub use Rattle.std.proofs.lemmas.Bool.Decides.{Decides-eqb, Decides-ltb, same_from_decides}
+pub use Rattle.std.proofs.lemmas.Bool.Decides.{Decides-eqb, same_from_decides}
 pub use Rattle.std.proofs.lemmas.List.{append-nil, length-map}
-pub use Rattle.std.proofs.lemmas.List.Elements.{All-append, All-cons, All-get_or, All-head, All-nil, All-tail}
+pub use Rattle.std.proofs.lemmas.List.Elements.{All-head, All-tail}
 pub use Rattle.std.proofs.lemmas.List.Elements.{Contains-append_left}
 pub use Rattle.std.proofs.lemmas.List.Folds.{list_any_at}
 pub use Rattle.std.proofs.lemmas.List.Sorted.{All-permutation}
@@ -21,16 +21,16 @@ pub use Rattle.std.specs.Prelude.{MatchOption, find, is_some, nat_lt, position, 
 pub use Rattle.m51_bases.specs.Raising.{same_space}
 pub use Rattle.m51_cells.proofs.Meeting.{parted}
 pub use Rattle.m51_cells.specs.Extent.{Covers, Meet, extent_of}
-pub use Rattle.m51_cells.specs.Fits.{Fits, FitsBlock, FitsMemory}
+pub use Rattle.m51_cells.specs.Fits.{Fits}
 pub use Rattle.m51_cells.specs.Kinds.{is_absolute}
 pub use Rattle.m51_cells.specs.declared.cell.Cell.{Cell}
 pub use Rattle.m51_cells.specs.declared.cell.Space.{Space}
 pub use Rattle.m51_cells.specs.declared.cell.Space.TheVariants.{Ram}
 pub use Rattle.m51_cells.specs.declared.extent.Extent.{Extent}
 pub use Rattle.m51_cells.specs.declared.kind.Kind.{Kind}
-pub use Rattle.m51_cells.specs.declared.kind.Kind.TheVariants.{Bits, Code, Direct, Idata, Number, Xdata}
+pub use Rattle.m51_cells.specs.declared.kind.Kind.TheVariants.{Code, Direct, Number, Xdata}
 pub use Rattle.m51_cells.specs.declared.kind.Reloc.{Reloc}
-pub use Rattle.m51_cells.specs.declared.kind.Reloc.TheVariants.{Abs, Bitaddressable, Inblock, Inpage, Page}
+pub use Rattle.m51_cells.specs.declared.kind.Reloc.TheVariants.{Abs}
 pub use Rattle.m51_cells.specs.declared.kind.Reloc.TheVariants.{Unit as UnitType}
 pub use Rattle.m51_control.specs.Controls.{AreKept, IsAllowed}
 pub use Rattle.m51_control.specs.declared.control.Control.{Control}

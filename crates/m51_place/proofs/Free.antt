@@ -1,24 +1,25 @@
 -- The bases that are free of what was placed before, and the segments that are placed there one after another.
-use Rattle.m51_place.proofs.Common.{◌≡◌, ℕ, zero, suc, ◌+◌, ◌<◌, ◌≤◌, false, Bool, refl, sym, ◌∙◌, arith, Decides}
+use Rattle.m51_place.proofs.Common.{◌≡◌, ℕ, zero, suc, ◌+◌, ◌<◌, ◌≤◌, false, Bool, refl, sym, ◌∙◌, arith, Decides, ◌&&◌}
 use Rattle.m51_place.proofs.Common.{false≢true, same_from_decides, Space, Extent, Kind, Direct, Number, Reloc, Covers}
 use Rattle.m51_place.proofs.Common.{Meet, Fits, parted, and_decides, same_space, ◌≢◌, inl, inr, true, not, List, []}
-use Rattle.m51_place.proofs.Common.{◌∷◌, Option, Some, None, ap, find, MatchOption, list_all, range_with_len}
+use Rattle.m51_place.proofs.Common.{◌∷◌, Option, Some, None, ap, find, MatchOption, list_all, range_with_len, and_parts}
 use Rattle.m51_place.proofs.Common.{IsPermutation, All-permutation, cases_Bool, cases_lt, UnitType, extent_of, Placed}
-use Rattle.m51_place.proofs.Common.{extent_at, extents_in, ◌++◌, filter, map, Result, Ok, Err, append_assoc}
+use Rattle.m51_place.proofs.Common.{extent_at, extents_in, ◌++◌, filter, map, Result, Ok, Err, append_assoc, nat_eq}
 use Rattle.m51_place.proofs.Common.{option_map_or, slice_get, append-nil, L12, GraphParts, Numbered, Ranked, Refusal}
 use Rattle.m51_place.proofs.Common.{base_for, located_at, place_after, conflicting, in_conflict_with, ◌-◌, ◌*◌, subst}
-use Rattle.m51_place.proofs.Common.{Ram, Cell, AreOneRun, IsOpen, ◌⊎◌, list_any}
+use Rattle.m51_place.proofs.Common.{Ram, Cell, AreOneRun, IsOpen, ◌⊎◌, list_any, nat_lt}
 use Rattle.std.proofs.lemmas.Bool.Decides.{nat_tests, Decides-by_and, Decides-like, Decides-not}
 use Rattle.std.specs.Prelude.{IfSome, ◌↔◌}
 use Rattle.m51_cells.proofs.Meeting.{shared}
 use Rattle.m51_place.specs.Bases.{overlap, share, fits_at, HasNoBase, is_free, IsApart, IsFree, IsLeastBase, least_base}
-use Rattle.std.proofs.lemmas.Bool.{cases_eq, false_from_ne_true, not-false}
+use Rattle.std.proofs.lemmas.Bool.{cases_eq, false_from_ne_true, eq-eqb, eqb-true, lt-ltb, ltb-true}
 use Rattle.std.proofs.lemmas.List.Sorted.{IsPermutation-sym}
 use Rattle.m51_place.specs.Laws.{LeastIsLeast}
 use Rattle.m51_bases.specs.Raising.{IsClear, IsFirstClear, IsOutside, NoneIsClear}
 use Rattle.m51_cells.proofs.Members.{all_every, Every, every_all, every_weaker, Pairs, pairs_push, every_in, every_of}
 use Rattle.m51_cells.proofs.Members.{In, in_cases, in_left, in_right, every_map, map_got, map_in, total, total-append}
-use Rattle.m51_cells.proofs.Members.{total_map}
+use Rattle.m51_cells.proofs.Members.{total_map, in_contains, in_filter, in_map}
+use Rattle.std.proofs.lemmas.List.Folds.{Any-from_list_any}
 
 -- where no element passes a test, each fails
 pub all_fail : {A : Type 0} (test : A → Bool) (xs : List A) → list_any test xs ≡ false → Every (λ x. test x ≡ false) xs
@@ -444,18 +445,19 @@ out_open es byte h = record {
   apart = every_all _ es (every_weaker _ _ es (λ e. out_apart Direct byte 1 e.placed refl) h);
 }
 
--- of the extents that are in conflict one is not apart, if not all are
-some_meets : (cells : Placed → Bool) (test : Numbered → Bool) (xs : List Numbered)
-    → list_all cells (map (λ (e : Numbered). e.placed) (filter test xs)) ≡ false
-    → (e : Numbered) × In e xs × (test e ≡ true) × (cells e.placed ≡ false)
-some_meets cells test [] h = absurd (cc h)
-some_meets cells test (x ∷ xs) h = elim (cases_Bool (test x)) [
-  | inl passes ↦ let all = rw passes at h in elim (cases_Bool (cells x.placed)) [
-    | inl clear ↦ let rest = some_meets cells test xs (rw clear at all) in (rest.0, inr rest.1, rest.2, rest.3)
-    | inr meets ↦ (x, inl refl, passes, meets)
-  ]
-  | inr leaves ↦ let rest = some_meets cells test xs (rw leaves at h) in (rest.0, inr rest.1, rest.2, rest.3)
-]
+-- a base of DATA is free where no extent in conflict covers a cell of the bytes
+pub free_at : (g : GraphParts) (t : Ranked) (es : List Numbered) (base : ℕ) → t.segment.kind ≡ Direct
+    → t.segment.reloc ≡ UnitType → base + t.segment.size ≤ 0x80
+    → ((e : Numbered) → In e es → in_conflict_with g t.number e ≡ true → IsOut base t.segment.size e.placed)
+    → IsFree (conflicting g t.number es) t.segment.kind t.segment.reloc t.segment.size base
+free_at g t es base kind reloc ends out = record {
+  fits = let fits : Fits Direct UnitType base t.segment.size = ends in rw (kind, reloc) fits;
+  apart = every_all _ _ (every_of (IsApart (extent_of t.segment.kind base t.segment.size)) _ (λ p there.
+      let image = in_map (λ (e : Numbered). e.placed) _ p there in
+      let passes = in_filter (in_conflict_with g t.number) es image.0 image.1 in
+      rw (← image.2) (out_apart t.segment.kind base t.segment.size image.0.placed kind
+      (out image.0 passes.0 passes.1))));
+}
 
 module _ (g : GraphParts) (front done : List Numbered) (t : Ranked) (low high base : ℕ)
     (run : AreOneRun front low high) (against : Every (λ e. in_conflict_with g t.number e ≡ true) front)
@@ -467,6 +469,13 @@ module _ (g : GraphParts) (front done : List Numbered) (t : Ranked) (low high ba
 
   free : IsFreeFor g (front ++ done) t base
   free = base_is_free g (front ++ done) t base is
+
+  least : (lower : ℕ) → lower < base
+      → IsFree (conflicting g t.number (front ++ done)) t.segment.kind t.segment.reloc size lower → ⊥
+  least =
+      let others : List Placed = conflicting g t.number (front ++ done) in
+      let of = rw is at (least_is_least others t.segment.kind t.segment.reloc size) in
+      of.least
 
   -- it covers no cell of an extent in conflict
   apart : (e : Numbered) → In e (front ++ done) → in_conflict_with g t.number e ≡ true → IsOut base size e.placed
@@ -494,74 +503,59 @@ module _ (g : GraphParts) (front done : List Numbered) (t : Ranked) (low high ba
   not_past = let last = in_run (base + size - 1) (omega (arith, some)) (omega (arith, some)) in
       omega (arith, last.1, some)
 
-  -- one byte lower it is not free
+  -- one byte lower it is not free, so an earlier one of DATA ends there
   abbrev lower : ℕ
   lower = base - 1
 
-  clear_of : Placed → Bool
-  clear_of p = not (share (extent_at p) (extent_of t.segment.kind lower size))
-
-  blocked : 0 < base → list_all clear_of (conflicting g t.number (front ++ done)) ≡ false
-  unfolding least_base is_free clear_of
-  blocked above =
-      let fails = (find_first (is_free (conflicting g t.number (front ++ done)) t.segment.kind t.segment.reloc size)
-      65536 (Some base)
-      is).2 lower (omega arith) (omega (arith, above)) in
-      let direct : Fits Direct UnitType lower size = let h : lower + size ≤ 0x80 = omega (arith, ends) in h in
-      let fits = (fits_tells t.segment.kind t.segment.reloc lower size).1 (rw (kind, reloc) direct) in
-      rw fits at fails
-
-  -- a cell of the bytes one byte lower
-  abbrev Shared : Numbered → Type 0
-  Shared e = (at : ℕ) × (8 * lower ≤ at) × (at < 8 * (lower + size)) × Covers (extent_at e.placed) (ram at)
-
-  lower_cell : (e : Numbered) → clear_of e.placed ≡ false → Shared e
-  unfolding clear_of
-  lower_cell e h =
-      let meet =
-      (share_tells (extent_at e.placed) (extent_of t.segment.kind lower size)).0
-      (not-false (share (extent_at e.placed) (extent_of t.segment.kind lower size)) h) in
-      let of = in_ram lower size meet.0 (subst (λ k. Covers (extent_of k lower size) meet.0) kind meet.2) in
-      (meet.0.at, of.1, of.2, rw of.0 at meet.1)
-
   -- an extent placed before the overlaid segments would cover the byte below, which is open
-  not_front : (e : Numbered) → low < base → In e front → Shared e → ⊥
-  not_front e above there s = elim (cases_lt s.0 (8 * base)) [
+  not_front : (e : Numbered) → low < base → In e front → IsOut lower size e.placed
+  not_front e above there at from below covers = elim (cases_lt at (8 * base)) [
     | inl less ↦
         let clear = (run.are lower (omega (arith, above, ends))).1
         (omega (arith, above), omega (arith, above, not_past, some)) in
-        every_in _ front e (open_out front lower clear) there s.0 s.1 (omega (arith, less, above)) s.3
-    | inr not_less ↦ front_apart e there s.0 not_less (omega (arith, s.2)) s.3
+        every_in _ front e (open_out front lower clear) there at from (omega (arith, less, above)) covers
+    | inr not_less ↦ front_apart e there at not_less (omega (arith, below)) covers
   ]
 
-  -- an earlier one of DATA ends there
-  ends_there : (e : Numbered) → low < base → In e done → in_conflict_with g t.number e ≡ true → Shared e
-      → (0 < e.placed.size) × (e.placed.base + e.placed.size ≡ base)
-  ends_there e above there conflict s =
+  abbrev ends_here : Numbered → Bool
+  ends_here e = in_conflict_with g t.number e && (nat_lt 0 e.placed.size && nat_eq (e.placed.base + e.placed.size) base)
+
+  not_done : (e : Numbered) → low < base → In e done → in_conflict_with g t.number e ≡ true → ends_here e ≡ false
+      → IsOut lower size e.placed
+  not_done e above there conflict fails at from below covered =
       let first : ℕ = e.placed.base in
       let len : ℕ = e.placed.size in
       let direct = every_in _ done e data_only there in
-      let covers = in_ram first len (ram s.0) (subst (λ k. Covers (extent_of k first len) (ram s.0)) direct s.3) in
+      let covers = in_ram first len (ram at) (subst (λ k. Covers (extent_of k first len) (ram at)) direct covered) in
       let outside : (at : ℕ) → 8 * base ≤ at → at < 8 * (base + size) → 8 * first ≤ at → at < 8 * (first + len) → ⊥ =
       λ at p q r u. apart e (in_right front done e there) conflict at p q
       (subst (λ k. Covers (extent_of k first len) (ram at)) (sym direct)
-      (record { space = refl; from = r; below = omega (arith, u) })) in (
-        omega (arith, covers.1, covers.2),
-        grind (arith, outside (8 * first), outside (8 * base), covers.1, covers.2, s.1, s.2),
-      )
+      (record { space = refl; from = r; below = omega (arith, u) })) in
+      let ends_at : first + len ≡ base =
+      grind (arith, outside (8 * first), outside (8 * base), covers.1, covers.2, from, below) in
+      let some_len : 0 < len = omega (arith, covers.1, covers.2) in
+      let is : ends_here e ≡ true = rw (conflict, lt-ltb 0 len some_len) (eq-eqb (first + len) base ends_at) in
+      absurd (cc (fails, is))
 
   on_seat : IsSeated g done t low base
   on_seat = elim (cases_lt low base) [
     | inr same ↦ AtLow (omega (arith, same, not_below))
-    | inl above ↦
-        let found = some_meets clear_of (in_conflict_with g t.number) (front ++ done) (blocked (omega (arith, above)))
-        in
-        let s = lower_cell found.0 found.3 in
-        elim (in_cases front done found.0 found.1) [
-          | inl in_front ↦ absurd (not_front found.0 above in_front s)
-          | inr in_done ↦ let there = ends_there found.0 above in_done found.2 s in
-              OnTop found.0 in_done found.2 there.0 there.1
-        ]
+    | inl above ↦ elim (cases_Bool (list_any ends_here done)) [
+      | inl is ↦
+          let any = Any-from_list_any ends_here done is in
+          let e : Numbered = any.1 in
+          let end : Bool = nat_eq (e.placed.base + e.placed.size) base in
+          let both = and_parts (in_conflict_with g t.number e) (nat_lt 0 e.placed.size && end) any.4 in
+          let last = and_parts (nat_lt 0 e.placed.size) end both.1 in
+          OnTop e (in_contains done e (any.0, any.2, any.3)) both.0 (ltb-true 0 e.placed.size last.0)
+          (eqb-true (e.placed.base + e.placed.size) base last.1)
+      | inr none ↦ absurd (least lower (omega (arith, above)) (free_at g t (front ++ done) lower kind reloc
+          (omega (arith, ends)) (λ e there conflict. elim (in_cases front done e there) [
+            | inl in_front ↦ not_front e above in_front
+            | inr in_done ↦ not_done e above in_done conflict
+                (every_in _ done e (all_fail ends_here done none) in_done)
+          ])))
+    ]
   ]
 
   -- it lies in the run, at its low end or on an earlier one

@@ -1,7 +1,8 @@
 -- The elements of a list with their numbers.
-use Rattle.m51_place.proofs.Common.{◌≡◌, inl, inr, ℕ, zero, suc, ◌+◌, ◌<◌, true, Bool, List, [], ◌∷◌, filter, Some}
+use Rattle.m51_place.proofs.Common.{◌≡◌, ◌⊎◌, inl, inr, ℕ, zero, suc, ◌+◌, ◌<◌, true, Bool, List, [], ◌∷◌, filter, Some}
 use Rattle.m51_place.proofs.Common.{refl, ap, ◌∙◌, arith, slice_get, cases_Bool}
-use Rattle.m51_cells.proofs.Members.{at_in, In, Pairs, pairs_got}
+use Rattle.m51_cells.proofs.Members.{at_in, In, Pairs, pairs_at, pairs_got}
+use Rattle.std.proofs.lemmas.Bool.{cases_order}
 
 abbrev pub with_numbers : {A : Type 0} → ℕ → List A → List (ℕ × A)
 with_numbers number [] = []
@@ -47,3 +48,14 @@ filter_in test [] x h is = absurd h
 filter_in test (y ∷ ys) x (inl e) is = let here : test y ≡ true = ap test e ∙ is in rw here (inl e)
 filter_in test (y ∷ ys) x (inr h) is = elim (cases_Bool (test y))
     [ inl e ↦ rw e (inr (filter_in test ys x h is)) | inr e ↦ rw e (filter_in test ys x h is) ]
+
+-- of two elements of a list one index is the other's, or they are a pair, one way round
+pub pairs_between : {A : Type 0} (R : A → A → Type 0) (xs : List A) (i j : ℕ) (x y : A) → Pairs R xs
+    → slice_get xs i ≡ Some x → slice_get xs j ≡ Some y → (i ≡ j) ⊎ (R x y ⊎ R y x)
+pairs_between R xs i j x y h at at' = elim (cases_order i j) [
+  | inl same ↦ inl same
+  | inr rest ↦ inr (elim rest [
+    | inl less ↦ inl (pairs_at R xs i j x y h less at at')
+    | inr less ↦ inr (pairs_at R xs j i y x h less at' at)
+  ])
+]

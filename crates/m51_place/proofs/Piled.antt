@@ -5,22 +5,22 @@ use Rattle.m51_place.proofs.Common.{is_absolute, Control, Overlaid, is_overlaid_
 use Rattle.m51_place.proofs.Common.{Numbered, Ranked, order_of, own_at, ranked_from, bytes_joined, overlaid_in}
 use Rattle.m51_place.proofs.Common.{located_at, mark_of, zero, suc, ◌<◌, ◌≤◌, nat_eq, ◌++◌, get_or, subst, cases_lt}
 use Rattle.m51_place.proofs.Common.{nat_lt, sum_along, vectors, Edges, IsWalk, Reaches, IsGraph, IsRootAt, root_number}
-use Rattle.m51_place.proofs.Common.{AreOneRun, ◌*◌, ◌/◌, Ok, Err, append_assoc, append-nil, Direct, UnitType, extent_of}
-use Rattle.m51_place.proofs.Common.{Covers, Fits, IsOwn, in_conflict, base_for, conflicting, in_conflict_with}
+use Rattle.m51_place.proofs.Common.{AreOneRun, ◌*◌, ◌/◌, Ok, Err, append_assoc, append-nil, Direct, extent_of}
+use Rattle.m51_place.proofs.Common.{Covers, IsOwn, in_conflict, base_for, conflicting, in_conflict_with}
 use Rattle.m51_place.proofs.Common.{place_after, length, Chain, ChainsFrom, ProgramGraph}
 use Rattle.m51_place.proofs.Free.{AreAfter, later_total, Answer, least_is_least, AtLow, IsOut, IsSeated, base_cases}
-use Rattle.m51_place.proofs.Free.{OnTop, open_out, out_apart, ram, seated}
-use Rattle.m51_cells.proofs.Members.{Every, total, total_moved, total-append, every_all, every_append, every_in}
-use Rattle.m51_cells.proofs.Members.{every_weaker, In, in_cases, in_filter, in_map, every_of, Pairs}
+use Rattle.m51_place.proofs.Free.{OnTop, open_out, ram, seated, free_at}
+use Rattle.m51_cells.proofs.Members.{Every, total, total_moved, total-append, every_append, every_in}
+use Rattle.m51_cells.proofs.Members.{every_weaker, In, in_cases, every_of, Pairs}
 use Rattle.m51_place.proofs.Ranks.{IsRankedOf, order_moves, Earlier}
 use Rattle.m51_place.proofs.Weights.{bytes, is_data, Local, along_total}
 use Rattle.m51_place.proofs.Numbering.{at_number, with_numbers}
-use Rattle.std.proofs.lemmas.Bool.{cases_eq, eq-eqb, le-ltb, lt-ltb, ltb-true}
+use Rattle.std.proofs.lemmas.Bool.{cases_eq, eq-eqb, ltb-true}
 use Rattle.m51_module.specs.Walks.{last_of}
 use Rattle.std.proofs.lemmas.Bool.Decides.{nat_tests}
 use Rattle.m51_place.proofs.Ordered.{EarlierRoot, few_roots, Leads, Precedes, root_above, SameUnit, UnderNone}
 use Rattle.m51_place.proofs.Ordered.{IsLocalOne, precedes}
-use Rattle.m51_place.specs.Bases.{IsApart, IsFree}
+use Rattle.m51_place.specs.Bases.{IsFree}
 use Rattle.m51_place.proofs.Conflicting.{own_read}
 use Rattle.m51_module.specs.Chains.{IsHeaviestWalk}
 
@@ -140,27 +140,15 @@ module _ (s : Scene) where
     ends : last_of root more ≡ unit
     weighs : before + s.w unit ≤ total s.w (root ∷ more)
 
-  -- the units whose bytes lie below a segment of a unit: it itself, or all under no root
-  abbrev mine : ℕ → ℕ → Bool
-  mine unit = cond (nat_lt (number unit) 7) (nat_eq unit) s.free
-
   abbrev pub sum : (ℕ → Bool) → List Numbered → ℕ
   sum test es = total (placed_bytes s.g test) es
 
-  -- how high a segment of the unit ends
+  -- how high a segment of the unit ends: above a walk to the unit and what is placed of it, or, under no root, above
+  -- all roots and what is placed under none
   pub record IsHigh (done : List Numbered) (unit end : ℕ) : Type 0 where
-    before : ℕ
-    own : ℕ
-    walked : number unit < 7 → IsWalked unit before
-    bare : number unit ≡ 7 → before ≡ 0
-    few : own ≤ sum (mine unit) done
-    high : end ≤ s.low + top (number unit) + before + own
-
-  of_root : (unit : ℕ) (done : List Numbered) → number unit < 7 → sum (mine unit) done ≡ sum (nat_eq unit) done
-  of_root unit done below = rw (lt-ltb (number unit) 7 below)
-
-  of_none : (unit : ℕ) (done : List Numbered) → number unit ≡ 7 → sum (mine unit) done ≡ sum s.free done
-  of_none unit done end = rw (le-ltb (number unit) 7 (omega (arith, end)))
+    under : number unit < 7 → (before : ℕ) × IsWalked unit before
+        × (end ≤ s.low + top (number unit) + before + sum (nat_eq unit) done)
+    bare : number unit ≡ 7 → end ≤ s.low + top 7 + sum s.free done
 
   -- heights rise from root to root
   tops_to : (k n : ℕ) → k ≤ n → top k ≤ top n
@@ -217,12 +205,11 @@ module _ (s : Scene) where
   under_next : (done : List Numbered) (unit end : ℕ) → number unit < 7 → sum (nat_eq unit) done ≤ s.w unit
       → IsHigh done unit end → end ≤ s.low + top (suc (number unit))
   under_next done unit end below most h =
-      let walk = h.walked below in
+      let u = h.under below in
+      let walk = u.1 in
       omega (
         arith,
-        h.high,
-        h.few,
-        of_root unit done below,
+        u.2,
         most,
         walk.weighs,
         along_total s.w (walk.root ∷ walk.more),
@@ -233,24 +220,15 @@ module _ (s : Scene) where
   pub under_all : (done : List Numbered) (unit end : ℕ) → sum (nat_eq unit) done ≤ s.w unit → IsHigh done unit end
       → end ≤ s.low + top 7 + sum s.free done
   under_all done unit end most h = elim (cases_lt (number unit) 7) [
-    | inl below ↦ omega (
-      arith,
-      under_next done unit end below most h,
-      tops_to (suc (number unit)) 7 below,
-    )
-    | inr above ↦
-        let seven : number unit ≡ 7 = omega (arith, above, few_roots s.g s.kept unit) in
-        omega (arith, h.high, h.few, h.bare seven, of_none unit done seven, ap top seven)
+    | inl below ↦ omega (arith, under_next done unit end below most h, tops_to (suc (number unit)) 7 below)
+    | inr above ↦ h.bare (omega (arith, above, few_roots s.g s.kept unit))
   ]
 
   pub still_high : (done later : List Numbered) (unit end : ℕ) → IsHigh done unit end → IsHigh (done ++ later) unit end
   still_high done later unit end h = record {
-    before = h.before;
-    own = h.own;
-    walked = h.walked;
-    bare = h.bare;
-    few = omega (arith, h.few, total-append (placed_bytes s.g (mine unit)) done later);
-    high = h.high;
+    under = λ below. let u = h.under below in
+        (u.0, u.1, omega (arith, u.2, total-append (placed_bytes s.g (nat_eq unit)) done later));
+    bare = λ seven. omega (arith, h.bare seven, total-append (placed_bytes s.g s.free) done later);
   }
 
   -- with one more segment of the unit
@@ -262,78 +240,53 @@ module _ (s : Scene) where
     abbrev more : List Numbered
     more = done ++ e ∷ []
 
-    mine_own : mine unit unit ≡ true
-    mine_own = elim (cases_lt (number unit) 7) [
-      | inl below ↦ rw (lt-ltb (number unit) 7 below) (eq-eqb unit unit refl)
-      | inr above ↦ rw (le-ltb (number unit) 7 above)
-          (s.is_free unit (omega (arith, above, few_roots s.g s.kept unit)))
-    ]
+    pushed : (test : ℕ → Bool) → test unit ≡ true → sum test more ≡ sum test done + size
+    pushed test is =
+        let here : placed_bytes s.g test e ≡ size = rw (own_is, data_is, is) in
+        omega (arith, total-append (placed_bytes s.g test) done (e ∷ []), here)
 
-    pushed : sum (mine unit) more ≡ sum (mine unit) done + size
-    pushed =
-        let here : placed_bytes s.g (mine unit) e ≡ size = rw (own_is, data_is, mine_own) in
-        omega (arith, total-append (placed_bytes s.g (mine unit)) done (e ∷ []), here)
+    own : sum (nat_eq unit) more ≡ sum (nat_eq unit) done + size
+    own = pushed (nat_eq unit) (eq-eqb unit unit refl)
+
+    loose : number unit ≡ 7 → sum s.free more ≡ sum s.free done + size
+    loose seven = pushed s.free (s.is_free unit seven)
 
     -- where it begins no higher than the roots before its own
     pub fresh : (base : ℕ) → base ≤ s.low + top (number unit) → IsHigh more unit (base + size)
     fresh base h = record {
-      before = 0;
-      own = size;
-      walked = first_walk unit;
-      bare = λ _. refl;
-      few = omega (arith, pushed);
-      high = omega (arith, h);
+      under = λ below. (0, first_walk unit below, omega (arith, h, own));
+      bare = λ seven. omega (arith, h, loose seven, ap top seven);
     }
 
     on_same : (base : ℕ) → IsHigh done unit base → IsHigh more unit (base + size)
     on_same base h = record {
-      before = h.before;
-      own = h.own + size;
-      walked = h.walked;
-      bare = h.bare;
-      few = omega (arith, pushed, h.few);
-      high = omega (arith, h.high);
-    }
-
-    on_free : (base u : ℕ) → number u ≡ 7 → number unit ≡ 7 → IsHigh done u base → IsHigh more unit (base + size)
-    on_free base u end end' h = record {
-      before = 0;
-      own = h.own + size;
-      walked = λ below. absurd (omega (arith, below, end'));
-      bare = λ _. refl;
-      few = omega (arith, pushed, h.few, of_none u done end, of_none unit done end');
-      high = omega (arith, h.high, h.bare end, ap top end, ap top end');
+      under = λ below. let u = h.under below in (u.0, u.1, omega (arith, u.2, own));
+      bare = λ seven. omega (arith, h.bare seven, loose seven);
     }
 
     on_caller : (base u : ℕ) → number u ≡ number unit → Reaches s.g.edges u unit → sum (nat_eq u) done ≤ s.w u
         → IsHigh done u base → IsHigh more unit (base + size)
-    on_caller base u same reach most h = elim (cases_lt (number u) 7) [
-      | inl below ↦ record {
-        before = h.before + s.w u;
-        own = size;
-        walked = λ _. walk_on u unit h.before same reach (h.walked below);
-        bare = λ end. absurd (omega (arith, below, same, end));
-        few = omega (arith, pushed);
-        high = omega (arith, h.high, h.few, of_root u done below, most, ap top same);
-      }
-      | inr above ↦
-          let seven : number u ≡ 7 = omega (arith, above, few_roots s.g s.kept u) in
-          on_free base u seven (sym same ∙ seven) h
-    ]
+    on_caller base u same reach most h = record {
+      under = λ below. let v = h.under (omega (arith, same, below)) in
+          (v.0 + s.w u, walk_on u unit v.0 same reach v.1, omega (arith, v.2, most, ap top same, own));
+      bare = λ seven. omega (arith, h.bare (omega (arith, same, seven)), loose seven);
+    }
 
     -- where it begins at the end of an earlier one in conflict
     pub on_top : (base u : ℕ) → sum (nat_eq u) done ≤ s.w u → Precedes s.g u unit → IsHigh done u base
         → IsHigh more unit (base + size)
     on_top base u most (EarlierRoot less) h =
-        let few = few_roots s.g s.kept unit in
         fresh base (omega (
           arith,
-          under_next done u base (omega (arith, less, few)) most h,
+          under_next done u base (omega (arith, less, few_roots s.g s.kept unit)) most h,
           tops_to (suc (number u)) (number unit) less,
         ))
     on_top base u most (SameUnit same) h = on_same base (rw same at h)
     on_top base u most (Leads same reach) h = on_caller base u same reach most h
-    on_top base u most (UnderNone end end') h = on_free base u end end' h
+    on_top base u most (UnderNone end end') h = record {
+      under = λ below. absurd (omega (arith, below, end'));
+      bare = λ _. omega (arith, h.bare end, loose end');
+    }
 
 -- Overlaid DATA in its order, each segment on the run or on earlier ones: none ends too high, and each has a base where
 -- the run is long enough.
@@ -472,21 +425,6 @@ module _ (s : Scene) where
           tt,
         )
 
-    free_at_base : (base : ℕ) → base + len ≤ 0x80
-        → ((e : Numbered) → In e (s.front ++ done) → in_conflict_with s.g t.number e ≡ true
-        → IsOut base len e.placed)
-        → IsFree (conflicting s.g t.number (s.front ++ done)) t.segment.kind t.segment.reloc len base
-    free_at_base base h out = record {
-      fits =
-          let fits : Fits Direct UnitType base len = h in
-          rw (one.local.kind, one.local.reloc) fits;
-      apart = every_all _ _ (every_of (IsApart (extent_of t.segment.kind base len)) _ (λ p there.
-          let image = in_map (λ (e : Numbered). e.placed) _ p there in
-          let passes = in_filter (in_conflict_with s.g t.number) (s.front ++ done) image.0 image.1 in
-          rw (← image.2) (out_apart t.segment.kind base len image.0.placed one.local.kind
-          (out image.0 passes.0 passes.1))));
-    }
-
     -- an extent placed before the overlaid segments covers no byte of the run
     front_out : (base : ℕ) → s.low ≤ base → base + len ≤ s.high → (e : Numbered) → In e s.front
         → IsOut base len e.placed
@@ -515,7 +453,8 @@ module _ (s : Scene) where
     some_base room = elim (cases_lt 0 len) [
       | inr none ↦ (
         0,
-        free_at_base 0 (omega (arith, none)) (λ e there conflict at from below covers. omega (arith, none, below)),
+        free_at s.g t (s.front ++ done) 0 one.local.kind one.local.reloc (omega (arith, none))
+            (λ e there conflict at from below covers. omega (arith, none, below)),
       )
       | inl some ↦
           let h = peak s.g done t s.low done (every_of _ done (λ e there. there)) in
@@ -524,7 +463,7 @@ module _ (s : Scene) where
           (omega (arith, after.units one.unit)) (ends_at h.0 h.1.seat) in
           let ends : h.0 + len ≤ s.high = omega (arith, high, after.others, room) in (
             h.0,
-            free_at_base h.0 (omega (arith, ends, s.run.most))
+            free_at s.g t (s.front ++ done) h.0 one.local.kind one.local.reloc (omega (arith, ends, s.run.most))
                 (λ e there conflict. elim (in_cases s.front done e there) [
                   | inl in_front ↦ front_out h.0 h.1.above ends e in_front
                   | inr in_done ↦ done_out h.0 e in_done (every_in _ done e h.1.clears in_done conflict)

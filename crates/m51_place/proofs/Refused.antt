@@ -7,6 +7,7 @@ use Rattle.m51_place.proofs.Common.{shared_after, shared_at, shared_extents, own
 use Rattle.m51_place.proofs.Common.{OverlaysData, base_for, located_at, located_of}
 use Rattle.m51_place.specs.Overlay.{OverlayFits, PlacesOverlaid, ExceedsRun, LeavesRun, OverlayRefused, PlacesBefore}
 use Rattle.m51_place.specs.Overlay.{RefusesOverlaid}
+use Rattle.m51_place.proofs.Numbering.{pairs_between}
 use Rattle.m51_place.proofs.Free.{all_fail, Answer, and_then, base_cases, place_append}
 use Rattle.m51_place.proofs.Piled.{Piles}
 use Rattle.m51_place.proofs.Tight.{answer as settled, scene, Setting, unrooted, weighs, holds}
@@ -15,7 +16,7 @@ use Rattle.std.proofs.lemmas.Slice.Eq.{bytes_eq-Decides}
 use Rattle.m51_module.specs.declared.segment.Segment.{Segment}
 use Rattle.m51_resolve.specs.Joining.{all_segments, are_parts, firsts, joined_of, title_of}
 use Rattle.m51_resolve.proofs.FirstSight.{AreApart, firsts_apart}
-use Rattle.m51_cells.proofs.Members.{map_at, Every, every_in, In, in_filter, in_left, in_right, Pairs, pairs_at}
+use Rattle.m51_cells.proofs.Members.{map_at, Every, every_in, In, in_filter, in_left, in_right, Pairs}
 use Rattle.std.specs.Option.{option_or}
 use Rattle.m51_module.specs.declared.linked.Refusal.TheVariants.{L9}
 use Rattle.m51_place.specs.Placement.{placing_from}
@@ -70,14 +71,12 @@ one_title modules n m j k at at' a b same =
     let reloc' : is_absolute f'.0.reloc ≡ false = rw (← f'.2) at b in
     let title : title_of f.0 ≡ title_of f'.0 = rw (← f.2, ← f'.2) at same in
     let apart = apart_pairs (firsts all) (firsts_apart [] all) in
-    elim (cases_lt n m) [
-      | inl less ↦ absurd
-          (cc (pairs_at _ (firsts all) n m f.0 f'.0 apart less f.1 f'.1, alike f.0 f'.0 reloc reloc' title))
-      | inr not_less ↦ elim (cases_lt m n) [
-        | inl more ↦ absurd
-            (cc (pairs_at _ (firsts all) m n f'.0 f.0 apart more f'.1 f.1, alike f'.0 f.0 reloc' reloc (sym title)))
-        | inr not_more ↦ omega (arith, not_less, not_more)
-      ]
+    elim (pairs_between _ (firsts all) n m f.0 f'.0 apart f.1 f'.1) [
+      | inl one ↦ one
+      | inr rest ↦ absurd (elim rest [
+        | inl is ↦ cc (is, alike f.0 f'.0 reloc reloc' title)
+        | inr is ↦ cc (is, alike f'.0 f.0 reloc' reloc (sym title))
+      ])
     ]
 
 -- L12 names an overlaid segment exactly if the run has fewer bytes than the weight.

@@ -8,12 +8,12 @@ use Rattle.m51_place.proofs.Common.{reserves_of, shared_extents, own_at, length,
 use Rattle.m51_place.proofs.Common.{slice_get_within, Meet, LayoutParts, Overlaid, Placed, FirstPlain, SecondPlain}
 use Rattle.m51_place.proofs.Common.{Owners, IsSegment, layout_graph, owners_of, IsSound, reach_edge, none_in_empty}
 use Rattle.m51_place.proofs.Common.{edge_test, IsGraph, SegmentsConflict, is_argument_at, owners_at, parts_of_layout}
-use Rattle.m51_place.proofs.Numbering.{at_number, filter_in, number_at, numbers_rise, with_numbers}
-use Rattle.std.proofs.lemmas.Bool.{eq-eqb, cases_eq, cases_order, ne_eqb}
+use Rattle.m51_place.proofs.Numbering.{at_number, filter_in, number_at, numbers_rise, pairs_between, with_numbers}
+use Rattle.std.proofs.lemmas.Bool.{eq-eqb, cases_eq, ne_eqb}
 use Rattle.m51_cells.specs.Kinds.{is_code}
 use Rattle.m51_graph.specs.Units.{is_root, roots_from, units_from}
 use Rattle.m51_cells.proofs.Members.{contains_in, every_in, got_in, In, in_contains, in_filter, in_map, in_right}
-use Rattle.m51_cells.proofs.Members.{map_at, map_got, map_in, pairs_all, pairs_at, pairs_filter, pairs_in, pairs_range}
+use Rattle.m51_cells.proofs.Members.{map_at, map_got, map_in, pairs_all, pairs_filter, pairs_in, pairs_range}
 use Rattle.m51_place.proofs.Ranks.{absolute_at, absolutes_are, IsOf, is_fixed, joined_at, Program, segments, shape}
 use Rattle.m51_cells.proofs.KindLaws.{code_is}
 use Rattle.m51_module.specs.Cells.{code_cell}
@@ -22,9 +22,9 @@ use Rattle.m51_place.proofs.Whole.{bare_absolute, fixed, fixed_pairs, overlaid_a
 use Rattle.m51_place.proofs.Whole.{found, IsWhole, only}
 use Rattle.std.proofs.lemmas.List.FromFn.{get_or-map-range_with_len, length-map-range_with_len}
 use Rattle.m51_module.specs.Laws.{HaveSameUnits}
-use Rattle.m51_module.specs.Plan.{ExtentsConflict, IsCodeSegment, IsOverlaid, IsPlaced, IsRootAt, Owns, UnitLiesUnder}
+use Rattle.m51_module.specs.Plan.{ExtentsConflict, IsCodeSegment, IsOverlaid, IsPlaced, IsRootAt, Owns}
 use Rattle.m51_module.specs.Rising.{Rises}
-use Rattle.m51_module.proofs.Conflicts.{conflict_back, related_there}
+use Rattle.m51_module.proofs.Conflicts.{conflict_back, related_there, under_there}
 use Rattle.m51_place.specs.Conflicts.{callers_of}
 use Rattle.m51_place.specs.Placement.{owner_pairs, owners_of_extent, pairs_with, joined_index, joined_base}
 use Rattle.m51_place.specs.Placement.{placing_with}
@@ -111,13 +111,7 @@ module _ (segments : List JoinedSegment) where
       let a = map_at pick_number picks u n (rw (units_are 0 segments) at h) in
       let b = map_at pick_number picks v m (rw (units_are 0 segments) at k) in
       let rise = pairs_filter _ is_unit (with_numbers 0 segments) (numbers_rise segments) in
-      elim (cases_order u v) [
-        | inl e ↦ e
-        | inr rest ↦ absurd (elim rest [
-          | inl less ↦ omega (arith, pairs_at _ picks u v a.0 b.0 rise less a.1 b.1, a.2, b.2, same)
-          | inr less ↦ omega (arith, pairs_at _ picks v u b.0 a.0 rise less b.1 a.1, a.2, b.2, same)
-        ])
-      ]
+      grind (arith, pairs_between _ picks u v a.0 b.0 rise a.1 b.1, a.2, b.2, same)
 
 -- roots among segments of program memory
 pub root_there : (codes : List JoinedSegment) (unit : ℕ) (j : JoinedSegment) → slice_get codes unit ≡ Some j
@@ -374,14 +368,8 @@ module _ (segments : List JoinedSegment) (controls : List (ℕ × Control)) (g :
         base = fixed.1 ∙ ap (λ (x : JoinedSegment). x.base) there.is ∙ root.base;
       }
 
-  pub lies_in : (vector unit : ℕ) → UnitLiesUnder l vector unit → graph.UnitLiesUnder g vector unit
-  lies_in vector unit h = record { root = h.root; is_root = root_in vector h.root h.is_root; leads = h.leads }
-
-  pub lies_out : (vector unit : ℕ) → graph.UnitLiesUnder g vector unit → UnitLiesUnder l vector unit
-  lies_out vector unit h = record { root = h.root; is_root = root_out vector h.root h.is_root; leads = h.leads }
-
   -- the layout has the units of the graph
-  same_units : HaveSameUnits (layout_graph l) (graph.joined_graph g)
+  pub same_units : HaveSameUnits (layout_graph l) (graph.joined_graph g)
   same_units =
       record { edges = λ u v. (λ h. h, λ h. h); roots = λ vector unit. (root_in vector unit, root_out vector unit) }
 
@@ -452,24 +440,18 @@ module _ (segments : List JoinedSegment) (controls : List (ℕ × Control)) (g :
       (conflict_tells g kept.units n m (λ same. ne (same_place n s t e f h k p (rw same q)))).1
       (segments_conflict s t n m e f h k p q conflict)
 
-  clear_at : (s t : ℕ) (e f : Numbered) → s < t → IsAt s e → IsAt t f → ExtentsConflict l s t
-      → Meet (extent_at e.placed) (extent_at f.placed) → ⊥
-  clear_at s t e f less h k conflict =
-      (pairs_at (KeepApart g) located s t e f whole.apart less h k).none
-      (both_numbers s t e f e.number f.number (λ same. omega (arith, less, same)) h k refl refl conflict)
-
   clear : (s t : ℕ) (p q : Placed) → IsPlaced l s p → IsPlaced l t q → s ≢ t → ExtentsConflict l s t
       → Meet (extent_at p) (extent_at q) → ⊥
   clear s t p q h k ne conflict meet =
       let a = stands s p h in
       let b = stands t q k in
       let met : Meet (extent_at a.0.placed) (extent_at b.0.placed) = rw (a.2, b.2) meet in
-      elim (cases_order s t) [
+      elim (pairs_between (KeepApart g) located s t a.0 b.0 whole.apart a.1 b.1) [
         | inl same ↦ ne same
         | inr rest ↦ elim rest [
-          | inl less ↦ clear_at s t a.0 b.0 less a.1 b.1 conflict met
-          | inr less ↦ clear_at t s b.0 a.0 less b.1 a.1 (conflict_back (layout_graph l) s t conflict)
-              (met.0, met.2, met.1)
+          | inl keep ↦ keep.none (both_numbers s t a.0 b.0 a.0.number b.0.number ne a.1 b.1 refl refl conflict) met
+          | inr keep ↦ keep.none (both_numbers t s b.0 a.0 b.0.number a.0.number (λ e. ne (sym e)) b.1 a.1 refl
+              refl (conflict_back (layout_graph l) s t conflict)) (met.0, met.2, met.1)
         ]
       ]
 
@@ -533,7 +515,7 @@ module _ (segments : List JoinedSegment) (controls : List (ℕ × Control)) (g :
       different = others_differ g kept (is_argument_at g o.n) o.own;
     };
     one_root = λ s u x y h under under'. let o = owned s u h in
-        kept.one_root o.n u x y o.owns (lies_in x u under) (lies_in y u under');
+        kept.one_root o.n u x y o.owns (under_there _ _ same_units x u under) (under_there _ _ same_units y u under');
     apart = clear;
   }
 

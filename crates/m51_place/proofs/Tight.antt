@@ -5,10 +5,10 @@ use Rattle.m51_place.proofs.Common.{Overlaid, Owners, AreRelated, vectors, Joine
 use Rattle.m51_place.proofs.Common.{IsGraph, joined_graph, Numbered, Ranked, nat_lt, shared_extents, own_at}
 use Rattle.m51_place.proofs.Common.{before_overlaid, bytes_joined, IsWeightOf, overlaid_in, OverlaysData, unit_weight}
 use Rattle.m51_place.proofs.Common.{before_by, class_number, comes_before, group_number, is_some, located_at}
-use Rattle.m51_place.proofs.Common.{place_after, Result, Err, subst, suc, owners_of, option_map_or, Refusal}
+use Rattle.m51_place.proofs.Common.{place_after, Result, Err, subst, owners_of, option_map_or, Refusal}
 use Rattle.m51_place.proofs.Common.{LayoutParts, Placed, ChainsFrom, weight_of, layout_graph, AreResolved, ProgramGraph}
 use Rattle.m51_place.proofs.Common.{Placing, bytes_passing, owners_at, located_of, parts_of_layout, list_any, and_parts}
-use Rattle.m51_place.proofs.Common.{none-some, covers_byte, zero, Kind, Direct, Reloc, UnitType, Mark, is_overlaid_data}
+use Rattle.m51_place.proofs.Common.{none-some, covers_byte, Kind, Direct, Reloc, UnitType, Mark, is_overlaid_data}
 use Rattle.m51_place.proofs.Numbering.{at_number, with_numbers}
 use Rattle.std.proofs.Common.{min}
 use Rattle.std.proofs.lemmas.Bool.Decides.{nat_tests}
@@ -25,13 +25,16 @@ use Rattle.m51_place.proofs.Piled.{order_sum, own_of, ranked_bytes, order_all, u
 use Rattle.m51_cells.proofs.Members.{Every, every_append, every_map, every_of, every_weaker, Pairs, pairs_at}
 use Rattle.m51_cells.proofs.Members.{pairs_both, pairs_got, pairs_map, pairs_filter, total, total_map, total_sum}
 use Rattle.m51_cells.proofs.Members.{every_in, got_in, In, in_cases, in_contains, in_filter, in_map}
-use Rattle.m51_place.proofs.SoundLayout.{one_root_each, lies_in, lies_out, owners_are, root_in, root_out, sound}
+use Rattle.m51_place.proofs.SoundLayout.{one_root_each, owners_are, same_units, sound}
+use Rattle.m51_module.specs.Laws.{HaveSameUnits}
+use Rattle.m51_module.specs.Roots.{LiesUnder}
+use Rattle.m51_module.proofs.Conflicts.{same_back, under_there}
+use Rattle.m51_module.specs.Chains.{IsHeaviestWalk}
 use Rattle.m51_place.proofs.Ordered.{AreParts, IsPlain, no_root, order_parts, lone_before}
 use Rattle.m51_place.proofs.Ranks.{IsRankedOf, Earlier, order, order_rises, Program, ranked, segments, shape}
 use Rattle.m51_place.proofs.Whole.{bare_absolute, fixed, fixed_bare, fixed_pairs, overlaid_at, IsWhole, placed_whole}
 use Rattle.m51_place.proofs.Whole.{unless_none, IsSpot}
 use Rattle.std.specs.Prelude.{◌↔◌}
-use Rattle.m51_module.specs.Chains.{IsHeaviestWalk}
 use Rattle.m51_place.specs.Bound.{IsWeight, count_below, covered_bytes, overlaid_bytes, overlays_byte}
 use Rattle.m51_place.specs.Overlay.{WeightsAgree, FindsRun, PlacingIsTight, FigureIsWeight}
 use Rattle.m51_place.specs.Placement.{placing_from, placing_with}
@@ -268,19 +271,35 @@ locals_are g located number (e ∷ more) from =
     rw (owners_are g located number, from.0, first_is_own) in
     cc (first, locals_are g located (number + 1) more from.1)
 
--- chains by the roots of one program are chains by those of another with the same edges
-chains_there : (p q : ProgramGraph) (w : ℕ → ℕ) →
-    ((c : Chain) → IsHeaviestWalk p.edges w c → IsHeaviestWalk q.edges w c)
-    → ((v u : ℕ) → p.IsRoot v u → q.IsRoot v u) → ((v u : ℕ) → q.IsRoot v u → p.IsRoot v u) → (at : List ℕ)
-    (chains : List Chain) → ChainsFrom p w at chains → ChainsFrom q w at chains
-chains_there p q w heavy there back [] [] h = tt
-chains_there p q w heavy there back [] (c ∷ chains) h = absurd h
-chains_there p q w heavy there back (v ∷ more) [] h =
-    (λ unit root. h.0 unit (back v unit root), chains_there p q w heavy there back more [] h.1)
-chains_there p q w heavy there back (v ∷ more) (c ∷ chains) (inl h) =
-    inl (λ unit root. h.0 unit (back v unit root), chains_there p q w heavy there back more (c ∷ chains) h.1)
-chains_there p q w heavy there back (v ∷ more) (c ∷ chains) (inr h) =
-    inr (there v c.root h.0, heavy c h.1, chains_there p q w heavy there back more chains h.2)
+-- what holds of one program holds of another with the same edges and roots
+module _ (p q : ProgramGraph) (same : HaveSameUnits p q)
+    (heavy : (w : ℕ → ℕ) (c : Chain) → IsHeaviestWalk p.edges w c → IsHeaviestWalk q.edges w c) where
+  chains_there : (w : ℕ → ℕ) (at : List ℕ) (chains : List Chain) → ChainsFrom p w at chains → ChainsFrom q w at chains
+  chains_there w [] [] h = tt
+  chains_there w [] (c ∷ chains) h = absurd h
+  chains_there w (v ∷ more) [] h = (λ unit root. h.0 unit ((same.roots v unit).1 root), chains_there w more [] h.1)
+  chains_there w (v ∷ more) (c ∷ chains) (inl h) =
+      inl (λ unit root. h.0 unit ((same.roots v unit).1 root), chains_there w more (c ∷ chains) h.1)
+  chains_there w (v ∷ more) (c ∷ chains) (inr h) =
+      inr ((same.roots v c.root).0 h.0, heavy w c h.1, chains_there w more chains h.2)
+
+  none_there : (unit : ℕ) (free : Bool) → ((free ≡ true) ↔ ((v : ℕ) → LiesUnder p v unit → ⊥))
+      → ((free ≡ true) ↔ ((v : ℕ) → LiesUnder q v unit → ⊥))
+  none_there unit free h = (
+    λ f v lies. h.0 f v (under_there q p (same_back p q same) v unit lies),
+    λ none. h.1 (λ v lies. none v (under_there p q same v unit lies)),
+  )
+
+-- what lies in a range counts no more than its length
+in_range_most : (test : ℕ → Bool) (base size n : ℕ)
+    → ((byte : ℕ) → test byte ≡ true → (base ≤ byte) × (byte < base + size)) → count_below test n ≤ size
+in_range_most test base size n h =
+    omega (
+      arith,
+      tally_mono test (has_byte base size) n (λ byte passes. (has_byte_tells base size byte).1 (h byte passes)),
+      tally_range base size n,
+      count_is test n,
+    )
 
 module _ (c : Program) (is : IsGraph c.g) (resolved : AreResolved c.modules) (located : List Numbered)
     (located_is : located_of c.modules c.controls c.g ≡ Ok located) where
@@ -309,23 +328,19 @@ module _ (c : Program) (is : IsGraph c.g) (resolved : AreResolved c.modules) (lo
   same_weights : unit_weight (segments c) c.g ≡ weight_of layout
   same_weights = λ i unit. sym (weight_is layout unit 0 layout.placed ∙ passing_joined (nat_eq unit)) i
 
-  same_roots : (v u : ℕ) → (layout_graph layout).IsRoot v u ↔ (joined_graph c.g).IsRoot v u
-  same_roots v u = (root_in _ _ _ (shape c) is _ whole v u, root_out _ _ _ (shape c) is _ whole v u)
+  same : HaveSameUnits (layout_graph layout) (joined_graph c.g)
+  same = same_units _ _ _ (shape c) is _ whole
+
+  back_same : HaveSameUnits (joined_graph c.g) (layout_graph layout)
+  back_same = same_back _ _ same
 
   pub agree : (weight : ℕ) → IsWeightOf (segments c) c.g weight → IsWeight layout weight
   agree weight h = record {
     chains = h.chains;
-    heaviest =
-        chains_there (joined_graph c.g) (layout_graph layout) (weight_of layout) (λ x heavy. heavy)
-        (λ v u. (same_roots v u).1) (λ v u. (same_roots v u).0) vectors h.chains
+    heaviest = chains_there _ _ back_same (λ w x heavy. heavy) (weight_of layout) vectors h.chains
         (subst (λ w. ChainsFrom (joined_graph c.g) w vectors h.chains) same_weights h.heaviest);
     free = h.free;
-    tells = λ unit. (
-      λ f vector lies. (h.tells unit).0 f vector
-          (lies_in _ _ _ (shape c) is _ whole vector unit lies),
-      λ none. (h.tells unit).1 (λ vector lies. none vector
-          (lies_out _ _ _ (shape c) is _ whole vector unit lies)),
-    );
+    tells = λ unit. none_there _ _ back_same (λ w x heavy. heavy) unit _ (h.tells unit);
     is = rw passing_joined h.is;
   }
 
@@ -333,17 +348,101 @@ module _ (c : Program) (is : IsGraph c.g) (resolved : AreResolved c.modules) (lo
   back weight h = record {
     chains = h.chains;
     heaviest = subst (λ w. ChainsFrom (joined_graph c.g) w vectors h.chains) (sym same_weights)
-        (chains_there (layout_graph layout) (joined_graph c.g) (weight_of layout) (λ x heavy. heavy)
-        (λ v u. (same_roots v u).0) (λ v u. (same_roots v u).1) vectors h.chains h.heaviest);
+        (chains_there _ _ same (λ w x heavy. heavy) (weight_of layout) vectors h.chains h.heaviest);
     free = h.free;
-    tells = λ unit. (
-      λ f vector lies. (h.tells unit).0 f vector
-          (lies_out _ _ _ (shape c) is _ whole vector unit lies),
-      λ none. (h.tells unit).1 (λ vector lies. none vector
-          (lies_in _ _ _ (shape c) is _ whole vector unit lies)),
-    );
+    tells = λ unit. none_there _ _ same (λ w x heavy. heavy) unit _ (h.tells unit);
     is = rw passing_joined at h.is;
   }
+
+  -- Placing covers by overlaid DATA as few bytes as it can.
+
+  module _ (low high weight : ℕ) (data_only : OverlaysData (segments c) c.g)
+      (finds : FindsRun c.g (fixed c) (order c) low high) (h : IsWeight layout weight) where
+    abbrev t : Setting
+    t = record {
+      c = c;
+      is = is;
+      low = low;
+      high = high;
+      weight = weight;
+      shares = rules.0;
+      data_only = data_only;
+      finds = finds;
+      weighed = back weight h;
+    }
+
+    -- what is placed up to the last overlaid segment, and the rest
+    parts : AreParts c.g (order c)
+    parts = all_parts t
+
+    middle : (es : List Numbered) × (place_after c.g finds.extents (overlaid_in (order c)) ≡ Ok es)
+        × (place_after c.g es parts.rest ≡ Ok located)
+    middle =
+        let all = rw parts.are at rules.1 in
+        let later = rw finds.placed at (rw place_append at all) in
+        both_ok (place_after c.g finds.extents (overlaid_in (order c))) (λ es. place_after c.g es parts.rest) located
+        (rw place_append at later)
+
+    done : AreLaid (scene t) (unrooted t) middle.0
+    done = laid t middle.0 middle.1
+
+    rest : AreAfter c.g middle.0 parts.rest located
+    rest = are_after c.g parts.rest middle.0 located (after t middle.0 middle.1).apart middle.2
+
+    -- where an overlaid segment lies
+    abbrev IsIn : ℕ → Type 0
+    IsIn byte = (low ≤ byte) × (byte < low + weight)
+
+    laid_in : (e : Numbered) (byte : ℕ) → IsLaid (scene t) done.done [] e
+        → has_byte e.placed.base e.placed.size byte ≡ true → IsIn byte
+    laid_in e byte l has =
+        let inside = (has_byte_tells e.placed.base e.placed.size byte).0 has in
+        let base : e.placed.base ≡ l.base = ap (λ (x : Numbered). x.placed.base) l.is in
+        let size : e.placed.size ≡ l.t.segment.size = ap (λ (x : Numbered). x.placed.size) l.is in
+        let some : 0 < l.t.segment.size = omega (arith, inside.0, inside.1, size) in
+        let from = l.from some in
+        let most =
+        under_all (scene t) done.done l.one.unit (l.base + l.t.segment.size)
+        (omega (arith, done.room.units l.one.unit)) (l.ends some) in
+        (omega (arith, from, base, inside.0), omega (arith, most, done.room.others, weighs t, base, size, inside.1))
+
+    bare_out : (e : Numbered) → In e located → e.placed.mark ≡ Overlaid → own_of c.g e ≡ None → ⊥
+    bare_out e there mark none =
+        let of = overlaid_at e (every_in (IsSpot c.g (segments c)) located e whole.spots there) mark in
+        none-some _ (sym (rw of.1 at none) ∙ (of.2.overlaid mark).1)
+
+    -- the extents before the overlaid segments, these, and plain ones
+    sides : (e : Numbered) (byte : ℕ) → In e located → e.placed.mark ≡ Overlaid
+        → has_byte e.placed.base e.placed.size byte ≡ true → IsIn byte
+    sides e byte there mark has = elim (in_cases middle.0 (map at_base rest.picks) e (rw rest.are at there)) [
+      | inr other ↦ absurd (bare_out e there mark
+          (every_in (λ e. own_of c.g e ≡ None) _ e
+          (later_every rest (IsPlain c.g) (λ e. own_of c.g e ≡ None) (λ u base room lone. lone) parts.after) other))
+      | inl first ↦ elim (in_cases finds.extents done.done e (rw done.are at first)) [
+        | inl front ↦ absurd (bare_out e there mark
+            (every_in (λ e. own_of c.g e ≡ None) finds.extents e (plain t) front))
+        | inr in_done ↦ laid_in e byte (every_in (IsLaid (scene t) done.done []) done.done e done.laid in_done) has
+      ]
+    ]
+
+    covered_in : (byte : ℕ) → list_any (covers_byte byte) (map (λ (e : Numbered). e.placed) located) ≡ true → IsIn byte
+    covered_in byte covers =
+        let any = Any-from_list_any (covers_byte byte) (map (λ (e : Numbered). e.placed) located) covers in
+        let p : Placed = any.1 in
+        let both = and_parts (is_data p) (has_byte p.base p.size byte) any.4 in
+        let image = in_map (λ (e : Numbered). e.placed) located p (in_contains _ p (any.0, any.2, any.3)) in
+        sides image.0 byte image.1
+        (ap (λ (x : Placed). x.mark) image.2 ∙ (data_kind p.kind p.reloc p.mark both.0).1) (rw image.2 both.1)
+
+    pub tight : (covered_bytes layout ≡ weight) × (low ≤ high) × (weight ≤ high - low)
+    tight =
+        let test : ℕ → Bool = λ byte. list_any (covers_byte byte) (map (λ (e : Numbered). e.placed) located) in
+        let bound = least layout weight (sound _ _ _ (shape c) is _ whole) h in
+        let room = holds t middle.0 middle.1 in (
+          omega (arith, in_range_most test low weight 256 covered_in, bound),
+          finds.run.order,
+          omega (arith, room),
+        )
 
 pub weights_agree : WeightsAgree
 weights_agree modules controls g p weight valid resolved kept is graph_is placed h =
@@ -352,117 +451,12 @@ weights_agree modules controls g p weight valid resolved kept is graph_is placed
     let of = of_located g _ (located_of modules controls g) p placed in
     rw (← of.placing) (agree c is resolved of.located of.is weight h)
 
--- Placing covers by overlaid DATA as few bytes as it can.
-
--- what lies in a range counts no more than its length
-in_range_most : (test : ℕ → Bool) (base size n : ℕ)
-    → ((byte : ℕ) → test byte ≡ true → (base ≤ byte) × (byte < base + size)) → count_below test n ≤ size
-in_range_most test base size n h =
-    omega (
-      arith,
-      tally_mono test (has_byte base size) n (λ byte passes. (has_byte_tells base size byte).1 (h byte passes)),
-      tally_range base size n,
-      count_is test n,
-    )
-
-module _ (c : Program) (is : IsGraph c.g) (low high weight : ℕ) (resolved : AreResolved c.modules)
-    (data_only : OverlaysData (segments c) c.g) (finds : FindsRun c.g (fixed c) (order c) low high)
-    (located : List Numbered) (located_is : located_of c.modules c.controls c.g ≡ Ok located)
-    (h : IsWeight (layout c is resolved located located_is) weight) where
-  abbrev t : Setting
-  t = record {
-    c = c;
-    is = is;
-    low = low;
-    high = high;
-    weight = weight;
-    shares = (rules c is resolved located located_is).0;
-    data_only = data_only;
-    finds = finds;
-    weighed = back c is resolved located located_is weight h;
-  }
-
-  -- what is placed up to the last overlaid segment, and the rest
-  parts : AreParts c.g (order c)
-  parts = all_parts t
-
-  middle : (es : List Numbered) × (place_after c.g finds.extents (overlaid_in (order c)) ≡ Ok es)
-      × (place_after c.g es parts.rest ≡ Ok located)
-  middle =
-      let whole = rw parts.are at (rules c is resolved located located_is).1 in
-      let later = rw finds.placed at (rw place_append at whole) in
-      both_ok (place_after c.g finds.extents (overlaid_in (order c))) (λ es. place_after c.g es parts.rest) located
-      (rw place_append at later)
-
-  done : AreLaid (scene t) (unrooted t) middle.0
-  done = laid t middle.0 middle.1
-
-  rest : AreAfter c.g middle.0 parts.rest located
-  rest = are_after c.g parts.rest middle.0 located (after t middle.0 middle.1).apart middle.2
-
-  -- where an overlaid segment lies
-  abbrev IsIn : ℕ → Type 0
-  IsIn byte = (low ≤ byte) × (byte < low + weight)
-
-  laid_in : (e : Numbered) (byte : ℕ) → IsLaid (scene t) done.done [] e
-      → has_byte e.placed.base e.placed.size byte ≡ true → IsIn byte
-  laid_in e byte l has =
-      let inside = (has_byte_tells e.placed.base e.placed.size byte).0 has in
-      let base : e.placed.base ≡ l.base = ap (λ (x : Numbered). x.placed.base) l.is in
-      let size : e.placed.size ≡ l.t.segment.size = ap (λ (x : Numbered). x.placed.size) l.is in
-      let some : 0 < l.t.segment.size = omega (arith, inside.0, inside.1, size) in
-      let from = l.from some in
-      let most =
-      under_all (scene t) done.done l.one.unit (l.base + l.t.segment.size)
-      (omega (arith, done.room.units l.one.unit)) (l.ends some) in
-      (omega (arith, from, base, inside.0), omega (arith, most, done.room.others, weighs t, base, size, inside.1))
-
-  bare_out : (e : Numbered) → In e located → e.placed.mark ≡ Overlaid → own_of c.g e ≡ None → ⊥
-  bare_out e there mark none =
-      let spots = (whole c is resolved located located_is).spots in
-      let of = overlaid_at e (every_in (IsSpot c.g (segments c)) located e spots there) mark in
-      none-some _ (sym (rw of.1 at none) ∙ (of.2.overlaid mark).1)
-
-  -- the extents before the overlaid segments, these, and plain ones
-  sides : (e : Numbered) (byte : ℕ) → In e located → e.placed.mark ≡ Overlaid
-      → has_byte e.placed.base e.placed.size byte ≡ true → IsIn byte
-  sides e byte there mark has = elim (in_cases middle.0 (map at_base rest.picks) e (rw rest.are at there)) [
-    | inr other ↦ absurd (bare_out e there mark
-        (every_in (λ e. own_of c.g e ≡ None) _ e
-        (later_every rest (IsPlain c.g) (λ e. own_of c.g e ≡ None) (λ u base room lone. lone) parts.after) other))
-    | inl first ↦ elim (in_cases finds.extents done.done e (rw done.are at first)) [
-      | inl front ↦ absurd (bare_out e there mark (every_in (λ e. own_of c.g e ≡ None) finds.extents e (plain t) front))
-      | inr in_done ↦ laid_in e byte (every_in (IsLaid (scene t) done.done []) done.done e done.laid in_done) has
-    ]
-  ]
-
-  covered_in : (byte : ℕ) → list_any (covers_byte byte) (map (λ (e : Numbered). e.placed) located) ≡ true → IsIn byte
-  covered_in byte covers =
-      let any = Any-from_list_any (covers_byte byte) (map (λ (e : Numbered). e.placed) located) covers in
-      let p : Placed = any.1 in
-      let both = and_parts (is_data p) (has_byte p.base p.size byte) any.4 in
-      let image = in_map (λ (e : Numbered). e.placed) located p (in_contains _ p (any.0, any.2, any.3)) in
-      sides image.0 byte image.1
-      (ap (λ (x : Placed). x.mark) image.2 ∙ (data_kind p.kind p.reloc p.mark both.0).1) (rw image.2 both.1)
-
-  pub tight : (covered_bytes (layout c is resolved located located_is) ≡ weight) × (low ≤ high) × (weight ≤ high - low)
-  tight =
-      let test : ℕ → Bool = λ byte. list_any (covers_byte byte) (map (λ (e : Numbered). e.placed) located) in
-      let bound =
-      least (layout c is resolved located located_is) weight
-      (sound _ _ _ (shape c) is _ (whole c is resolved located located_is)) h in
-      let room = holds t middle.0 middle.1 in (
-        omega (arith, in_range_most test low weight 256 covered_in, bound),
-        finds.run.order,
-        omega (arith, room),
-      )
-
 pub placing_tight : PlacingIsTight
 placing_tight modules controls g p low high weight valid resolved kept is graph_is placed data_only finds h =
     let c : Program = record
     { modules = modules; controls = controls; g = g; valid = valid; kept = kept; of = graph_is } in
     let of = of_located g _ (located_of modules controls g) p placed in
-    rw (← of.placing) (tight c is low high weight resolved data_only finds of.located of.is (rw (← of.placing) at h))
+    rw (← of.placing) (tight c is resolved of.located of.is low high weight data_only finds (rw (← of.placing) at h))
 
 -- Where overlaid segments are of DATA of type UNIT only, a map's figure of overlaid bytes is what they cover.
 
@@ -490,18 +484,12 @@ module _ (g : GraphParts) (segments : List JoinedSegment) (data_only : OverlaysD
         any_same byte es spots.1,
       )
 
-  count_same : (es : List Numbered) (n : ℕ) → Every (IsSpot g segments) es
-      → count_below (λ byte. list_any (overlays_byte byte) (map (λ (e : Numbered). e.placed) es)) n
-      ≡ count_below (λ byte. list_any (covers_byte byte) (map (λ (e : Numbered). e.placed) es)) n
-  unfolding count_below
-  count_same es zero spots = refl
-  count_same es (suc n) spots = grind (arith, any_same n es spots, count_same es n spots)
-
 pub figure_is_weight : FigureIsWeight
 figure_is_weight modules controls g p low high weight valid resolved kept is graph_is placed data_only finds h =
     let of = of_located g _ (located_of modules controls g) p placed in
     let whole = placed_whole modules controls g of.located graph_is valid resolved kept of.is in
     let same : overlaid_bytes p.layout ≡ covered_bytes p.layout =
-    rw (← of.placing) (count_same g (segments_of modules) data_only of.located 256 whole.spots) in
+    rw (← of.placing) (ap (λ (test : ℕ → Bool). count_below test 256)
+    (λ i byte. any_same g (segments_of modules) data_only byte of.located whole.spots i)) in
     same ∙ (placing_tight modules controls g p low high weight valid resolved kept is graph_is placed data_only finds
     h).0

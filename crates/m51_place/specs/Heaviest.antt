@@ -1,6 +1,6 @@
 -- Of the code: how the heaviest walks are found, for each unit one number, the bytes of the heaviest walk from it.
-use Rattle.std.specs.Prelude.{◌≡◌, ◌≢◌, ℕ, ◌+◌, ◌<◌, ◌≤◌, Bool, true, false, ◌&&◌, nat_eq, nat_lt, List, []}
-use Rattle.std.specs.Prelude.{◌∷◌, if◌then◌else◌, ◌++◌, length, sum, slice_index, slice_set, Option, Some, None}
+use Rattle.std.specs.Prelude.{◌≡◌, ◌≢◌, ℕ, ◌+◌, ◌<◌, ◌≤◌, Bool, true, false, nat_lt, if◌then◌else◌, List, [], ◌∷◌}
+use Rattle.std.specs.Prelude.{◌++◌, length, sum, slice_index, slice_set, Option, Some, None}
 use Rattle.m51_module.specs.declared.parts.LayoutParts.{LayoutParts}
 use Rattle.m51_module.specs.Chains.{weight_along, weight_of}
 use Rattle.m51_module.specs.Walks.{Edges, HasEdge, IsWalk}
@@ -52,40 +52,40 @@ Lifts l u v old new true =
     × (new ≡ slice_set old u (weight_of l u + slice_index old v))
 Lifts l u v old new false = (weight_of l u + slice_index old v ≤ slice_index old u) × (new ≡ old)
 
--- `v` follows `u` in the heaviest walk: it is the least of the units to which an edge leads from `u` and whose heaviest
--- walk has, with the bytes of `u`, as many bytes as that from `u`
-pub record IsNext (l : LayoutParts) (best : List ℕ) (u v : ℕ) : Type 0 where
-  pub edge : HasEdge l.edges u v
+-- `v` follows `u` in the heaviest walk, as far as these edges lead: it is the least of the units to which one of them
+-- leads from `u` and whose heaviest walk has, with the bytes of `u`, as many bytes as that from `u`
+pub record IsNext (l : LayoutParts) (edges : Edges) (best : List ℕ) (u v : ℕ) : Type 0 where
+  pub edge : HasEdge edges u v
   pub rest : weight_of l u + slice_index best v ≡ slice_index best u
-  pub least : (w : ℕ) → w < v → HasEdge l.edges u w → weight_of l u + slice_index best w ≢ slice_index best u
+  pub least : (w : ℕ) → w < v → HasEdge edges u w → weight_of l u + slice_index best w ≢ slice_index best u
+
+-- the unit that follows `u`, as far as these edges lead; none, if none of them leads from `u` to such a unit
+abbrev pub IsNextAmong : LayoutParts → Edges → List ℕ → ℕ → Option ℕ → Type 0
+IsNextAmong l edges best u None =
+    (v : ℕ) → HasEdge edges u v → weight_of l u + slice_index best v ≢ slice_index best u
+IsNextAmong l edges best u (Some v) = IsNext l edges best u v
 
 -- the walk from the unit that is extended as long as that adds bytes
 abbrev pub FollowsHeaviest : LayoutParts → List ℕ → ℕ → List ℕ → Type 0
 FollowsHeaviest l best u [] = slice_index best u ≡ weight_of l u
-FollowsHeaviest l best u (v ∷ more) = (slice_index best u ≢ weight_of l u) × IsNext l best u v
+FollowsHeaviest l best u (v ∷ more) = (slice_index best u ≢ weight_of l u) × IsNext l l.edges best u v
     × FollowsHeaviest l best v more
 
 -- the edge leads from the unit to one whose heaviest walk has, with the bytes of the unit, as many bytes as that from
 -- the unit
-abbrev pub leads_on : List ℕ → List ℕ → ℕ → ℕ × ℕ → Bool
-leads_on weights best unit edge =
-    nat_eq edge.0 unit && nat_eq (slice_index weights unit + slice_index best edge.1) (slice_index best unit)
+pub record LeadsOn (weights best : List ℕ) (unit : ℕ) (edge : ℕ × ℕ) : Type 0 where
+  pub from : edge.0 ≡ unit
+  pub rest : slice_index weights unit + slice_index best edge.1 ≡ slice_index best unit
 
 -- the lesser of a unit and the one that was found
 abbrev pub lesser : Option ℕ → ℕ → ℕ
 lesser None unit = unit
 lesser (Some other) unit = if nat_lt other unit then other else unit
 
--- the least of the unit that was found and of those to which the edges that pass lead
-abbrev pub least_of : (ℕ × ℕ → Bool) → Option ℕ → Edges → Option ℕ
-least_of passes found [] = found
-least_of passes found (edge ∷ more) =
-    least_of passes (if passes edge then Some (lesser found edge.1) else found) more
-
 -- the walk ends in the unit, or continues to the next
 abbrev pub Steps : LayoutParts → List ℕ → ℕ → Option ℕ → Type 0
 Steps l best unit None = slice_index best unit ≡ weight_of l unit
-Steps l best unit (Some v) = (slice_index best unit ≢ weight_of l unit) × IsNext l best unit v
+Steps l best unit (Some v) = (slice_index best unit ≢ weight_of l unit) × IsNext l l.edges best unit v
 
 -- the first units of the walk from a root, of which the last is this one
 pub record IsFront (l : LayoutParts) (best : List ℕ) (root unit : ℕ) (units : List ℕ) : Type 0 where

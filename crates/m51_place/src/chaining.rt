@@ -1,9 +1,9 @@
 //! The heaviest chains of a layout.
-ghost use Rattle.std.specs.Prelude.{◌≡◌, ◌==◌, ◌+◌, ◌<◌, ◌≤◌, IfOk, None, Some, length, slice_index};
+ghost use Rattle.std.specs.Prelude.{◌≡◌, ◌==◌, ◌+◌, ◌<◌, ◌≤◌, ◌↔◌, IfOk, IsTrue, Some, length, slice_index};
 ghost use Rattle.m51_module.specs.Chains.{AreHeaviest, ChainsAt, IsHeaviest, is_first, is_overlaid_data, weight_of};
 ghost use Rattle.m51_module.specs.Sound.{IsSound};
-ghost use Rattle.m51_place.specs.Heaviest.{AreBest, AreReached, AreWeights, HasRoom, IsHeaviestFrom, IsRising};
-ghost use Rattle.m51_place.specs.Heaviest.{Lifts, Steps, leads_on, least_of, lesser};
+ghost use Rattle.m51_place.specs.Heaviest.{AreBest, AreReached, AreWeights, HasRoom, IsHeaviestFrom, IsNextAmong};
+ghost use Rattle.m51_place.specs.Heaviest.{IsRising, LeadsOn, Lifts, Steps, lesser};
 
 use m51_cells::{Kind, ListOf, NoMemory, Reloc, cite};
 use m51_module::{Chain, Layout, Mark, Placed};
@@ -112,7 +112,7 @@ fn leads_on(weights: &[u32], best: &[u32], unit: u16, edge: (u16, u16)) -> bool
     requires unit { unit < length best.now }
     requires to { edge.1 < length best.now }
     requires room { slice_index weights.now unit + slice_index best.now edge.1 ≤ 65535 }
-    ensures { result ≡ leads_on weights.now best.now unit edge }
+    ensures { IsTrue result ↔ LeadsOn weights.now best.now unit edge }
 {
     let unit = usize::from(unit);
     usize::from(edge.0) == unit && weights[unit] + best[usize::from(edge.1)] == best[unit]
@@ -134,7 +134,7 @@ fn least_on(layout: &Layout, weights: &[u32], best: &[u32], unit: u16) -> Option
     requires weights { AreWeights layout.now weights.now }
     requires best { AreBest layout.now best.now }
     requires unit { unit < length layout.now.units }
-    ensures { result ≡ least_of (leads_on weights.now best.now unit) None layout.now.edges }
+    ensures { IsNextAmong layout.now layout.now.edges best.now unit result }
 {
     let mut found = None;
     for edge in layout.edges() {

@@ -1,27 +1,22 @@
-use Rattle.m51_place.proofs.Common.{◌-◌, ◌<◌, ℕ, [], length, arith, append-nil, leads, IsFront}
+use Rattle.m51_place.proofs.Common.{◌-◌, ◌<◌, ℕ, [], length, refl, arith, append-nil, leads, IsFront}
 use Rattle.m51_graph.proofs.Climbing.{rank_edge, tally_le}
 use Rattle.m51_place.specs.Heaviest.{IsNext}
-use Rattle.m51_place.proofs.Chained.{front_more, front_start, rank}
+use Rattle.m51_place.proofs.Chained.{front_more, rank}
 use Rattle.m51_place.proofs.chaining.units_from.Goals as goal
 
 pub loop-next-init : goal.loop-next-init
-loop-next-init c =
-    let l = c.args.layout.now in
-    rw c.in_ok-units.ensures.items (front_start l c.requires.sound c.args.weights.now c.args.best.now c.requires.weights
-    c.requires.best c.args.root c.requires.root)
+loop-next-init c = rw c.in_ok-units.ensures.items
+    (record { front = []; are = refl; goes = λ more h. h; below = c.requires.root })
 
 pub loop-next-preserved : goal.loop-next-preserved
-loop-next-preserved c =
-    let l = c.args.layout.now in
-    rw c.in_ok-push.ensures.items (front_more l c.requires.sound c.args.weights.now c.args.best.now c.requires.weights
-    c.requires.best c.args.root c.loop-next.unit c.in-Some.next c.loop-next.units.items c.loop-next.invariant
-    c.in-Some.ensures)
+loop-next-preserved c = rw c.in_ok-push.ensures.items
+    (front_more _ _ _ _ _ _ c.requires.sound c.loop-next.invariant c.in-Some.ensures)
 
 pub loop-next-smaller : goal.loop-next-smaller
 loop-next-smaller c =
     let l = c.args.layout.now in
     let n : ℕ = length l.units in
-    let next : IsNext l c.args.best.now c.loop-next.unit c.in-Some.next = c.in-Some.ensures.1 in
+    let next : IsNext l l.edges c.args.best.now c.loop-next.unit c.in-Some.next = c.in-Some.ensures.1 in
     let more =
     rank_edge n l.edges (record { within = c.requires.sound.edges }) c.requires.sound.no_cycle c.loop-next.unit
     c.in-Some.next next.edge in

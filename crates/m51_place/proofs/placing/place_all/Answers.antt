@@ -6,18 +6,15 @@ use Rattle.m51_place.proofs.SoundLayout.{places_are, sound}
 use Rattle.m51_place.proofs.Whole.{numbered, placed_whole}
 use Rattle.m51_place.proofs.placing.place_all.Goals as goal
 
-pub parts_of_layout-requires-clause-few : goal.parts_of_layout-requires-clause-few
-parts_of_layout-requires-clause-few c =
+pub parts_of_layout-requires : goal.parts_of_layout-requires
+parts_of_layout-requires c =
     let all = placed_whole _ _ _ _ c.requires c.modules.ensures.valid c.modules.ensures.resolved c.lines.ensures.kept
     c.in_ok-located.ensures in
-    rw c.deref-2.ensures.value all.few
-
-pub parts_of_layout-requires-clause-numbered : goal.parts_of_layout-requires-clause-numbered
-parts_of_layout-requires-clause-numbered c =
-    let all = placed_whole _ _ _ _ c.requires c.modules.ensures.valid c.modules.ensures.resolved c.lines.ensures.kept
-    c.in_ok-located.ensures in
-    rw c.deref-2.ensures.value
-    (numbered _ (graph_is c.args.joined.now c.args.controls.now _ c.requires) all.spots)
+    record {
+      few = rw c.deref-2.ensures.value all.few;
+      numbered = rw c.deref-2.ensures.value
+          (numbered _ (graph_is c.args.joined.now c.args.controls.now _ c.requires) all.spots);
+    }
 
 pub make-requires : goal.make-requires
 make-requires c =

@@ -72,10 +72,14 @@ pub cut_complete : (part blanks rest : List ℕ) → NoBlanks part → AreBlanks
 cut_complete part blanks rest lacks blank stops =
     let inside : length part < length (part ++ (blanks ++ rest)) =
     omega (arith, blank.some, length-append part (blanks ++ rest), length-append blanks rest) in
-    rw (run_len (λ b. not (is_blank b)) part (blanks ++ rest) lacks (blank_first blanks rest blank),
-    lt-ltb (length part) (length (part ++ (blanks ++ rest))) inside, take-append_seam part (blanks ++ rest),
-    drop-append_seam part (blanks ++ rest), run_len is_blank blanks rest blank.each stops,
-    drop-append_seam blanks rest) refl
+    rw (
+      run_len (λ b. not (is_blank b)) part (blanks ++ rest) lacks (blank_first blanks rest blank),
+      lt-ltb (length part) (length (part ++ (blanks ++ rest))) inside,
+      take-append_seam part (blanks ++ rest),
+      drop-append_seam part (blanks ++ rest),
+      run_len is_blank blanks rest blank.each stops,
+      drop-append_seam blanks rest,
+    ) refl
 
 -- a text without blanks is not cut
 pub cut_none : (text : List ℕ) → NoBlanks text → cut text ≡ None

@@ -143,29 +143,51 @@ number_alone {part = part} w small = starts_alone part (number_lacks small w)
 line_complete : (line : List ℕ) (form : LineForm) → WritesForm line form → line_form line ≡ Some form
 unfolding form_by_word
 line_complete line form (Fills {one = one} {hh = hh} {byte = byte} b1 wh is says) =
-    rw (says, is, cut_complete (codes "FILL") one hh refl b1 (number_alone wh (omega arith)),
-    number_complete wh) refl
+    rw (
+      says,
+      is,
+      cut_complete (codes "FILL") one hh refl b1 (number_alone wh (omega arith)),
+      number_complete wh,
+    ) refl
 line_complete line form
     (Pins {one = one} {two = two} {three = three} {cc = cc} {n = n} {hh = hh} {cycle = cycle} {port = port}
     {level = level} b1 wc b2 wn b3 wh is says) =
     let rest = (letter_p ∷ n) ++ (three ++ hh) in
-    rw (says, is, cut_complete (codes "PIN") one (cc ++ (two ++ rest)) refl b1 (number_starts _ wc (omega arith)),
-    cut_number rest wc (omega arith) b2 refl, number_complete wc,
-    cut_complete (letter_p ∷ n) three hh (number_lacks (omega arith) wn) b3 (number_alone wh (omega arith)),
-    number_complete wn, number_complete wh) refl
+    rw (
+      says,
+      is,
+      cut_complete (codes "PIN") one (cc ++ (two ++ rest)) refl b1 (number_starts _ wc (omega arith)),
+      cut_number rest wc (omega arith) b2 refl,
+      number_complete wc,
+      cut_complete (letter_p ∷ n) three hh (number_lacks (omega arith) wn) b3 (number_alone wh (omega arith)),
+      number_complete wn,
+      number_complete wh,
+    ) refl
 line_complete line form
     (Receives {one = one} {two = two} {cc = cc} {hh = hh} {cycle = cycle} {byte = byte} b1 wc b2 wh is says) =
-    rw (says, is, cut_complete (codes "RX") one (cc ++ (two ++ hh)) refl b1 (number_starts _ wc (omega arith)),
-    cut_number hh wc (omega arith) b2 (number_alone wh (omega arith)), number_complete wc,
-    cut_none hh (number_lacks (omega arith) wh), number_complete wh) refl
+    rw (
+      says,
+      is,
+      cut_complete (codes "RX") one (cc ++ (two ++ hh)) refl b1 (number_starts _ wc (omega arith)),
+      cut_number hh wc (omega arith) b2 (number_alone wh (omega arith)),
+      number_complete wc,
+      cut_none hh (number_lacks (omega arith) wh),
+      number_complete wh,
+    ) refl
 line_complete line form
     (ReceivesBit {one = one} {two = two} {three = three} {cc = cc} {hh = hh} {b = b} {cycle = cycle} {byte = byte}
     {bit = bit} b1 wc b2 wh b3 wb is says) =
     let rest = hh ++ (three ++ b) in
-    rw (says, is, cut_complete (codes "RX") one (cc ++ (two ++ rest)) refl b1 (number_starts _ wc (omega arith)),
-    cut_number rest wc (omega arith) b2 (number_starts _ wh (omega arith)), number_complete wc,
-    cut_number b wh (omega arith) b3 (number_alone wb (omega arith)), number_complete wh,
-    number_complete wb) refl
+    rw (
+      says,
+      is,
+      cut_complete (codes "RX") one (cc ++ (two ++ rest)) refl b1 (number_starts _ wc (omega arith)),
+      cut_number rest wc (omega arith) b2 (number_starts _ wh (omega arith)),
+      number_complete wc,
+      cut_number b wh (omega arith) b3 (number_alone wb (omega arith)),
+      number_complete wh,
+      number_complete wb,
+    ) refl
 
 pub read_as_written : ReadAsWritten
 read_as_written = λ line form. (line_sound line form, line_complete line form)

@@ -15,15 +15,11 @@ use Rattle.m51_script.specs.Written.{AreBlanks}
 abbrev pub NoBlanks : List ℕ → Type 0
 NoBlanks text = list_all (λ b. not (is_blank b)) text ≡ true
 
-all_step : (n m : ℕ) (b : Bool) → b ≡ true → n ≡ m → cond b (1 + n) 0 ≡ suc m
-all_step n m true h e = omega (arith, e)
-all_step n m false h e = absurd (cc)
-
 all_len : (p : ℕ → Bool) (xs : List ℕ) → list_all p xs ≡ true → prefix_len p xs ≡ length xs
 all_len p [] all = refl
 all_len p (x ∷ xs) all =
     let parts : (p x ≡ true) × (list_all p xs ≡ true) = and_parts (p x) (list_all p xs) all in
-    all_step (prefix_len p xs) (length xs) (p x) parts.0 (all_len p xs parts.1)
+    rw parts.0 (omega (arith, all_len p xs parts.1))
 
 some_step : (x : ℕ) (xs : List ℕ) (b : Bool) (n : ℕ) → is_blank x ≡ b → cond (not b) (1 + n) 0 < length (x ∷ xs)
     → (n < length xs → 0 < length (take (prefix_len is_blank (drop n xs)) (drop n xs)))
@@ -61,21 +57,9 @@ cut_sound text parts h =
     let here : IsCut text (take n text) (drop m rest) = record {
       blanks = take m rest;
       blank = record { some = some_blank text (ltb-true n (length text) found.0); each = front_passes is_blank rest };
-      is = sym (take-append-drop n text) ∙ ap (λ l. take n text ++ l) (sym (take-append-drop m rest));
+      is = rw (take-append-drop m rest, take-append-drop n text) refl;
     } in
-    subst (λ (p : List ℕ × List ℕ). IsCut text p.0 p.1) found.1 here
-
-cut_where : (n : ℕ) (text part behind rest : List ℕ) → position_or_len is_blank text ≡ n → n < length text
-    → take n text ≡ part → drop n text ≡ behind → drop (prefix_len is_blank behind) behind ≡ rest
-    → cut text ≡ Some (part, rest)
-cut_where n text part behind rest found inside front back after =
-    ap (λ n. cond (nat_lt n (length text)) (Some (take n text, drop (prefix_len is_blank (drop n text)) (drop n text)))
-    None) found
-    ∙ ap (λ t. cond t (Some (take n text, drop (prefix_len is_blank (drop n text)) (drop n text))) None)
-    (lt-ltb n (length text) inside)
-    ∙ ap (λ l. Some (take n text, drop (prefix_len is_blank l) l)) back
-    ∙ ap (λ l. Some (l, drop (prefix_len is_blank behind) behind)) front
-    ∙ ap (λ l. Some (part, l)) after
+    rw (← found.1) here
 
 blank_first : (blanks rest : List ℕ) → AreBlanks blanks → prefix_len (λ b. not (is_blank b)) (blanks ++ rest) ≡ 0
 blank_first [] rest h = absurd (omega (arith, h.some))
@@ -86,20 +70,23 @@ blank_first (x ∷ blanks) rest h =
 pub cut_complete : (part blanks rest : List ℕ) → NoBlanks part → AreBlanks blanks → prefix_len is_blank rest ≡ 0
     → cut (part ++ (blanks ++ rest)) ≡ Some (part, rest)
 cut_complete part blanks rest lacks blank stops =
-    cut_where (length part) (part ++ (blanks ++ rest)) part (blanks ++ rest) rest
-    (run_len (λ b. not (is_blank b)) part (blanks ++ rest) lacks (blank_first blanks rest blank))
-    (omega (arith, blank.some, length-append part (blanks ++ rest), length-append blanks rest))
-    (take-append_seam part (blanks ++ rest))
-    (drop-append_seam part (blanks ++ rest))
-    (ap (λ n. drop n (blanks ++ rest)) (run_len is_blank blanks rest blank.each stops) ∙ drop-append_seam blanks rest)
+    let inside : length part < length (part ++ (blanks ++ rest)) =
+    omega (arith, blank.some, length-append part (blanks ++ rest), length-append blanks rest) in
+    rw (
+      run_len (λ b. not (is_blank b)) part (blanks ++ rest) lacks (blank_first blanks rest blank),
+      lt-ltb (length part) (length (part ++ (blanks ++ rest))) inside,
+      take-append_seam part (blanks ++ rest),
+      drop-append_seam part (blanks ++ rest),
+      run_len is_blank blanks rest blank.each stops,
+      drop-append_seam blanks rest,
+    ) refl
 
 -- a text without blanks is not cut
 pub cut_none : (text : List ℕ) → NoBlanks text → cut text ≡ None
 cut_none text lacks =
     let n = position_or_len is_blank text in
     let whole : length text ≤ n = omega (arith, all_len (λ b. not (is_blank b)) text lacks) in
-    ap (λ t. cond t (Some (take n text, drop (prefix_len is_blank (drop n text)) (drop n text))) None)
-    (le-ltb n (length text) whole)
+    rw (le-ltb n (length text) whole) refl
 
 -- a text that begins with no blank
 pub starts : (text rest : List ℕ) → 0 < length text → NoBlanks text → prefix_len is_blank (text ++ rest) ≡ 0

@@ -1,6 +1,6 @@
 -- A number is read exactly if digits write it.
-use Rattle.std.proofs.Common.{◌≡◌, ℕ, ◌+◌, ◌*◌, ◌≤◌, Bool, true, false, not, ◌||◌, ◌==◌, cond, nat_lt, List, [], ◌∷◌}
-use Rattle.std.proofs.Common.{length, Option, Some, None, refl, sym, ap, ◌∙◌, arith}
+use Rattle.std.proofs.Common.{◌≡◌, ℕ, ◌+◌, ◌*◌, ◌≤◌, Bool, true, false, not, ◌==◌, cond, nat_lt, List, [], ◌∷◌}
+use Rattle.std.proofs.Common.{length, Option, Some, None, refl, arith}
 use Rattle.std.specs.Char.{digit_value}
 use Rattle.std.specs.List.{list_all}
 use Rattle.std.proofs.lemmas.Bool.{and_from, le-ltb, ltb-false}
@@ -9,6 +9,7 @@ use Rattle.m51_cells.specs.Blanks.{is_blank}
 use Rattle.m51_lex.specs.Number.{value_in}
 use Rattle.m51_script.specs.Digits.{number_in_base}
 use Rattle.m51_script.specs.Written.{WritesNumber}
+use Rattle.m51_cells.proofs.Passing.{guarded}
 use Rattle.m51_cells.proofs.Small.{not_zero, positive}
 use Rattle.m51_script.proofs.CutLaws.{NoBlanks}
 
@@ -24,44 +25,24 @@ number_sound base most text n h =
     let p = number_parts (length text == 0) (nat_lt most (length text)) (value_in base 0 text) n h in
     record { some = positive (length text) p.0; few = ltb-false most (length text) p.1; is = p.2 }
 
-pub number_complete : (base most : ℕ) (text : List ℕ) (n : ℕ) → WritesNumber base most text n
+pub number_complete : {base most n : ℕ} {text : List ℕ} → WritesNumber base most text n
     → number_in_base base most text ≡ Some n
-number_complete base most text n w =
-    ap (λ a. cond a None (cond (nat_lt most (length text)) None (value_in base 0 text))) (not_zero (length text) w.some)
-    ∙ ap (λ b. cond b None (value_in base 0 text)) (le-ltb most (length text) w.few)
-    ∙ w.is
+number_complete {base} {most} {n} {text} w = rw (not_zero (length text) w.some, le-ltb most (length text) w.few) w.is
 
-space_is_no_digit : nat_lt (digit_value 32) 16 ≡ false
-space_is_no_digit = refl
-
-tab_is_no_digit : nat_lt (digit_value 9) 16 ≡ false
-tab_is_no_digit = refl
-
-blank_or_not : (c : ℕ) (s t : Bool) → (c == 32) ≡ s → (c == 9) ≡ t → nat_lt (digit_value c) 16 ≡ true
-    → not (s || t) ≡ true
-blank_or_not c true t e f h =
-    absurd (let is : c ≡ 32 = grind (arith, nat_tests, e) in
-    let k : true ≡ false = sym h ∙ ap (λ c. nat_lt (digit_value c) 16) is ∙ space_is_no_digit in cc)
-blank_or_not c false true e f h =
-    absurd (let is : c ≡ 9 = grind (arith, nat_tests, f) in
-    let k : true ≡ false = sym h ∙ ap (λ c. nat_lt (digit_value c) 16) is ∙ tab_is_no_digit in cc)
-blank_or_not c false false e f h = refl
+blank_or_not : (c : ℕ) → nat_lt (digit_value c) 16 ≡ true → not (is_blank c) ≡ true
+blank_or_not c h = grind (arith, nat_tests, h)
 
 wider : (d base : ℕ) → base ≤ 16 → nat_lt d base ≡ true → nat_lt d 16 ≡ true
 wider d base h k = grind (arith, nat_tests)
-
-guarded : (b : Bool) (x : Option ℕ) (n : ℕ) → cond b x None ≡ Some n → (b ≡ true) × (x ≡ Some n)
-guarded true x n h = (refl, h)
-guarded false x n h = absurd (cc)
 
 digits_lack : (base v : ℕ) (text : List ℕ) (n : ℕ) → base ≤ 16 → value_in base v text ≡ Some n → NoBlanks text
 digits_lack base v [] n small h = refl
 digits_lack base v (c ∷ text) n small h =
     let found = guarded (nat_lt (digit_value c) base) (value_in base (v * base + digit_value c) text) n h in
     and_from (not (is_blank c)) (list_all (λ b. not (is_blank b)) text)
-    (blank_or_not c (c == 32) (c == 9) refl refl (wider (digit_value c) base small found.0))
+    (blank_or_not c (wider (digit_value c) base small found.0))
     (digits_lack base (v * base + digit_value c) text n small found.1)
 
 -- no digit is a blank
-pub number_lacks : (base most : ℕ) (text : List ℕ) (n : ℕ) → base ≤ 16 → WritesNumber base most text n → NoBlanks text
-number_lacks base most text n small w = digits_lack base 0 text n small w.is
+pub number_lacks : {base most n : ℕ} {text : List ℕ} → base ≤ 16 → WritesNumber base most text n → NoBlanks text
+number_lacks {base} {n = n} {text = text} small w = digits_lack base 0 text n small w.is

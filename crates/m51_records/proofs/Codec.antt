@@ -7,7 +7,6 @@ use Rattle.m51_module.specs.declared.object_error.ObjError.{ObjError}
 use Rattle.m51_module.specs.Validity.{numbered}
 use Rattle.m51_frame.specs.Fields.{◌>>=◌, checked, or_broken, or_absent, byte_at, pair, pair_at, text_field, text_at}
 use Rattle.m51_frame.specs.Fields.{upper_name, ended}
-use Rattle.m51_records.specs.Ends.{name_at}
 use Rattle.m51_cells.specs.Name.{IsWritten}
 use Rattle.m51_records.proofs.Tools.{on_ok, ok_is, checked_ok, broken_ok, absent_ok, ended_ok}
 use Rattle.m51_records.proofs.FieldLaws.{IsBytes, fit_back, pair_read, pair_takes, text_read, text_takes, upper_takes}

@@ -1,8 +1,6 @@
 -- The first and the last record: what is read is written so, and what is written is read.
-use Rattle.std.proofs.Common.{◌≡◌, inl, inr, ℕ, ◌%◌, ◌<◌, Bool, true, false, eqb, List, refl, sym, ap, arith}
-use Rattle.std.specs.Prelude.{nat_lt, ◌||◌}
+use Rattle.std.proofs.Common.{◌≡◌, ℕ, ◌%◌, ◌<◌, true, List, refl, sym, ap, arith}
 use Rattle.std.proofs.lemmas.Bool.Decides.{nat_tests}
-use Rattle.std.proofs.lemmas.Bool.{eqb-true, eq-eqb, lt-ltb, ltb-true, and_from, and_parts}
 use Rattle.m51_cells.specs.Name.{IsWritten}
 use Rattle.m51_module.specs.Validity.{IsVersion}
 use Rattle.m51_frame.specs.Fields.{same}
@@ -15,8 +13,7 @@ version_is : (version : ℕ) → is_version version ≡ true → IsVersion versi
 version_is version h = grind (arith, nat_tests)
 
 version_of : (version : ℕ) → IsVersion version → is_version version ≡ true
-version_of version (inl e) = ap is_version e
-version_of version (inr e) = ap is_version e
+version_of version h = grind arith
 
 -- what is shown of a name and a version
 pub record IsHeader (header : List ℕ × ℕ) : Type 0 where
@@ -28,8 +25,8 @@ unfolding header_in
 header_agrees = record_agrees
     (then_fields written_name (λ name. then_fields (tested_codec is_version) (λ version. no_field)))
     (λ x. (x.0, x.1.0)) (λ (h : List ℕ × ℕ). header_contents h.0 h.1) IsHeader
-    (λ x g. (refl, record { name = g.0; version = version_is x.1.0 g.1.0 }))
-    (λ h t. ((h.0, (h.1, tt)), refl, (t.name, (version_of h.1 t.version, tt))))
+    (λ x g. (refl, grind (arith, version_is)))
+    (λ h t. ((h.0, (h.1, tt)), refl, grind (arith, version_of)))
 
 -- the banks are those of a module
 pub record AreBanks (banks : ℕ) : Type 0 where
@@ -41,16 +38,5 @@ unfolding end_in
 end_agrees name = record_agrees
     (then_fields (text_codec (same name)) (λ text. then_fields (tested_codec are_banks) (λ banks. no_field)))
     (λ x. x.1.0) (end_contents name) AreBanks
-    (λ x g. (
-      ap (λ t. end_contents t x.1.0) (sym (same_is name x.0 g.0)),
-      let b = and_parts (eqb (x.1.0 % 2) 1) (nat_lt x.1.0 16) g.1.0 in
-          record { first = eqb-true (x.1.0 % 2) 1 b.0; few = ltb-true x.1.0 16 b.1 },
-    ))
-    (λ banks t. (
-      (name, (banks, tt)),
-      refl,
-      (
-        same_of name name refl,
-        (and_from (eqb (banks % 2) 1) (nat_lt banks 16) (eq-eqb (banks % 2) 1 t.first) (lt-ltb banks 16 t.few), tt),
-      ),
-    ))
+    (λ x g. (ap (λ t. end_contents t x.1.0) (sym (same_is name x.0 g.0)), grind (arith, nat_tests)))
+    (λ banks t. ((name, (banks, tt)), refl, (same_of name name refl, (grind (arith, nat_tests), tt))))

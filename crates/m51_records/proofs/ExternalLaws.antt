@@ -1,7 +1,6 @@
 -- The records of externals and publics: what is read is written so, what is written is read, and both are valid
 -- together.
-use Rattle.std.proofs.Common.{◌≡◌, ◌≢◌, ℕ, zero, suc, ◌≤◌, true, List, [], ◌∷◌, ◌++◌, length, Some, Ok, refl, ap, ◌∙◌}
-use Rattle.std.proofs.Common.{subst, arith, All, AllPairs, length-append}
+use Rattle.std.proofs.Common.{◌≡◌, ◌≢◌, ℕ, zero, suc, ◌≤◌, true, List, [], ◌∷◌, length, Some, Ok, refl, ap, ◌∙◌, arith}
 use Rattle.std.specs.Prelude.{not, nat_lt, map}
 use Rattle.std.proofs.lemmas.Bool.{lt-ltb, ltb-true}
 use Rattle.m51_cells.specs.declared.kind.Base.{Base}
@@ -15,11 +14,11 @@ use Rattle.m51_module.specs.Validity.{numbered, IsPublicBase, IsPublicValid}
 use Rattle.m51_cells.specs.Kinds.{same_kind}
 use Rattle.m51_cells.proofs.KindLaws.{kind_same}
 use Rattle.m51_records.specs.Codes.{kind_number, kind_of}
-use Rattle.m51_frame.specs.Fields.{◌>>=◌, or_absent, byte_at, upper_name, is_name_among, new_name_at}
+use Rattle.m51_frame.specs.Fields.{or_absent, byte_at, upper_name, is_name_among, new_name_at}
 use Rattle.m51_records.specs.Externals.{external_contents, kind_at, external_in}
 use Rattle.m51_records.specs.Publics.{base_number, public_contents, base_of_public, public_base_at, public_in}
 use Rattle.m51_records.proofs.Tools.{on_ok, ok_is, checked_ok, absent_ok}
-use Rattle.m51_records.proofs.InTurn.{InTurn, at_most, holds, in_turn}
+use Rattle.m51_records.proofs.InTurn.{Hold, InTurn, at_most, holds, in_turn}
 use Rattle.m51_records.proofs.FieldLaws.{upper_takes, upper_read, kind_takes, kind_read}
 use Rattle.m51_records.proofs.NameLaws.{others, none_among}
 use Rattle.m51_records.proofs.Codec.{Codec, Agrees, Fields, then_fields, if_fields, last_field, record_agrees}
@@ -50,30 +49,26 @@ unfolding external_in kind_at new_name_at
 external_agrees before = record_agrees
     (if_fields (nat_lt (length before) 255) (then_fields any_kind (λ kind. last_name (external_names before))))
     (λ x. record { name = x.1; kind = x.0 }) external_contents (IsExternalTested before)
-    (λ x g. (refl, record { few = g.0; name = g.1.1.0; new = g.1.1.1 }))
-    (λ e t. ((e.kind, e.name), refl, (t.few, (refl, (t.name, t.new)))))
+    (λ x g. (refl, grind arith)) (λ e t. ((e.kind, e.name), refl, grind arith))
 
 -- what a module's validity says of its externals
-pub record AreExternals (externals : List External) : Type 0 where
-  pub few : length externals ≤ 255
-  pub each : All (λ (x : External). IsWritten x.name) externals
-  pub names : AllPairs (λ (x y : External). x.name ≢ y.name) externals
+abbrev IsNamed : External → Type 0
+IsNamed x = IsWritten x.name
 
-pub externals_are : (xs : List External) → InTurn IsExternalTested [] xs → AreExternals xs
-externals_are xs h =
-    let v = holds (λ (x : External). IsWritten x.name) (λ (x y : External). x.name ≢ y.name) IsExternalTested
-    (λ before x v t. ((grind arith), others (λ (x : External). x.name) x.name before t.new))
-    xs h in
-    record {
-      few = at_most IsExternalTested 255 (grind (arith, ltb-true)) xs h;
-      each = v.each;
-      names = v.pairs;
-    }
+abbrev AreOther : External → External → Type 0
+AreOther x y = x.name ≢ y.name
 
-pub externals_in_turn : (xs : List External) → AreExternals xs → InTurn IsExternalTested [] xs
-externals_in_turn xs v =
-    in_turn (λ (x : External). IsWritten x.name) (λ (x y : External). x.name ≢ y.name) IsExternalTested xs
-    (grind (arith, lt-ltb, upper_read, none_among)) v.each v.names
+pub externals_few : (xs : List External) → InTurn IsExternalTested [] xs → length xs ≤ 255
+externals_few xs h = at_most IsExternalTested 255 (grind (arith, ltb-true)) xs h
+
+pub externals_are : (xs : List External) → InTurn IsExternalTested [] xs → Hold IsNamed AreOther xs
+externals_are xs h = holds IsNamed AreOther IsExternalTested
+    (λ before x v t. (grind arith, others (λ (x : External). x.name) x.name before t.new)) xs h
+
+pub externals_in_turn : (xs : List External) → length xs ≤ 255 → Hold IsNamed AreOther xs
+    → InTurn IsExternalTested [] xs
+externals_in_turn xs few v =
+    in_turn IsNamed AreOther IsExternalTested xs (grind (arith, lt-ltb, upper_read, none_among)) v
 
 -- ---- publics
 
@@ -131,23 +126,16 @@ module _ (segments : List Segment) where
       last_name (public_names before)))))
       (λ x. record { name = x.1.1.1; kind = x.0; base = x.1.0; number = x.1.1.0 })
       public_contents (IsPublicTested before)
-      (λ x g. (refl, record { base = g.1.0; name = g.1.1.1.0; new = g.1.1.1.1 }))
-      (λ p t. ((p.kind, (p.base, (p.number, p.name))), refl, (refl, (t.base, (tt, (t.name, t.new))))))
+      (λ x g. (refl, grind arith)) (λ p t. ((p.kind, (p.base, (p.number, p.name))), refl, grind arith))
 
   -- what a module's validity says of its publics
-  pub record ArePublics (publics : List Public) : Type 0 where
-    pub each : All (IsPublicValid segments) publics
-    pub names : AllPairs (λ (p q : Public). p.name ≢ q.name) publics
+  abbrev HaveOther : Public → Public → Type 0
+  HaveOther p q = p.name ≢ q.name
 
-  pub publics_are : (xs : List Public) → InTurn IsPublicTested [] xs → ArePublics xs
-  publics_are xs h =
-      let v = holds (IsPublicValid segments) (λ (p q : Public). p.name ≢ q.name) IsPublicTested (λ before p v t. (
-        grind arith,
-        others (λ (p : Public). p.name) p.name before t.new,
-      )) xs h in
-      grind arith
+  pub publics_are : (xs : List Public) → InTurn IsPublicTested [] xs → Hold (IsPublicValid segments) HaveOther xs
+  publics_are xs h = holds (IsPublicValid segments) HaveOther IsPublicTested
+      (λ before p v t. (grind arith, others (λ (p : Public). p.name) p.name before t.new)) xs h
 
-  pub publics_in_turn : (xs : List Public) → ArePublics xs → InTurn IsPublicTested [] xs
+  pub publics_in_turn : (xs : List Public) → Hold (IsPublicValid segments) HaveOther xs → InTurn IsPublicTested [] xs
   publics_in_turn xs v =
-      in_turn (IsPublicValid segments) (λ (p q : Public). p.name ≢ q.name) IsPublicTested xs
-      (grind (arith, upper_read, none_among)) v.each v.names
+      in_turn (IsPublicValid segments) HaveOther IsPublicTested xs (grind (arith, upper_read, none_among)) v

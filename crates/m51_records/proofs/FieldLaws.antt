@@ -1,18 +1,16 @@
 -- A field that is read is the field that was written, and what was written is read again.
-use Rattle.std.proofs.Common.{◌≡◌, ℕ, zero, suc, ◌+◌, ◌*◌, ◌<◌, Bool, true, cond, List, [], ◌∷◌, ◌++◌, length, get_or}
-use Rattle.std.proofs.Common.{take, drop, Option, Some, None, Ok, Err, refl, sym, ap, subst, ◌∙◌, arith, length-append}
+use Rattle.std.proofs.Common.{◌≡◌, ℕ, suc, ◌+◌, ◌*◌, ◌<◌, Bool, true, cond, List, [], ◌∷◌, ◌++◌, length, get_or, take}
+use Rattle.std.proofs.Common.{drop, Option, Some, Ok, Err, refl, sym, ap, subst, ◌∙◌, arith, length-append}
 use Rattle.std.specs.Prelude.{nat_le}
 use Rattle.std.specs.Cmp.Lexicographic.{bytes_decides}
 use Rattle.std.proofs.lemmas.Bool.{le-leb}
 use Rattle.std.proofs.lemmas.List.{take_at, drop_at, take-append-drop, length-take}
-use Rattle.std.proofs.lemmas.Option.{same_Some}
 use Rattle.std.proofs.Math.Nat.{mod-add-div}
 use Rattle.m51_cells.specs.declared.kind.Kind.{Kind}
 use Rattle.m51_cells.specs.declared.kind.Reloc.{Reloc}
 use Rattle.m51_cells.specs.Name.{name_of, IsWritten}
 use Rattle.m51_module.specs.declared.content.Form.{Form}
 use Rattle.m51_module.specs.declared.object_error.ObjError.{ObjError}
-use Rattle.m51_cells.specs.Kinds.{same_kind}
 use Rattle.m51_records.specs.Codes.{kind_number, kind_of, reloc_number, reloc_by_code, form_number, form_by_code}
 use Rattle.m51_frame.specs.Fields.{offset_of, pair, pair_at, text_field, text_at, same, if_same, upper_name}
 use Rattle.m51_records.proofs.Tools.{ok_is}
@@ -52,11 +50,8 @@ pair_takes end (low ∷ high ∷ rest) x fits e =
 -- texts
 pub text_read : (end : ℕ) (text rest : List ℕ) → text_at end (text_field text ++ rest) ≡ Ok (text, rest)
 text_read end text rest =
-    let fits : nat_le (length text) (length (text ++ rest)) ≡ true =
-    le-leb (length text) (length (text ++ rest)) (omega (arith, length-append text rest)) in
-    let t : take (length text) (text ++ rest) ≡ text = take_at text rest (length text) refl in
-    let d : drop (length text) (text ++ rest) ≡ rest = drop_at text rest (length text) refl in
-    rw (fits, t, d) refl
+    let fits = le-leb (length text) (length (text ++ rest)) (omega (arith, length-append text rest)) in
+    rw (fits, take_at text rest (length text) refl, drop_at text rest (length text) refl) refl
 
 text_split : (end len : ℕ) (rest : List ℕ) (b : Bool) (x : List ℕ × List ℕ) → nat_le len (length rest) ≡ b
     → cond b (Ok (take len rest, drop len rest))
@@ -105,6 +100,3 @@ form_takes n f e = grind arith
 
 pub form_read : (f : Form) → form_by_code (form_number f) ≡ Some f
 form_read f = grind arith
-
-pub same_kind_of : (j k : Kind) → j ≡ k → same_kind j k ≡ true
-same_kind_of j k e = grind arith

@@ -1,24 +1,31 @@
 -- The record of a fixup: what is read is written so, what is written is read, and both are valid together.
-use Rattle.std.proofs.Common.{◌≡◌, ℕ, zero, suc, true, List, [], ◌∷◌, ◌++◌, length, Some, Ok, refl, ap, ◌∙◌, arith}
+use Rattle.std.proofs.Common.{◌≡◌, ℕ, zero, suc, true, List, [], ◌∷◌, ◌++◌, length, Some, Ok, refl, ap, ◌∙◌, arith, ◌+◌}
+use Rattle.std.proofs.Common.{◌<◌, ◌≤◌, Option, All}
 use Rattle.std.specs.Prelude.{nat_le, nat_lt}
-use Rattle.std.proofs.lemmas.Bool.{leb-true}
+use Rattle.std.proofs.lemmas.Bool.{leb-true, lt-ltb}
 use Rattle.m51_cells.specs.declared.kind.Base.{Base}
 use Rattle.m51_cells.specs.declared.kind.Base.TheVariants.{None as NoBase, Segment as InSegment, External as OfExternal}
 use Rattle.m51_module.specs.declared.content.Fixup.{Fixup}
 use Rattle.m51_module.specs.declared.content.Piece.{Piece}
 use Rattle.m51_module.specs.declared.segment.Segment.{Segment}
 use Rattle.m51_module.specs.declared.symbol.External.{External}
-use Rattle.m51_module.specs.Validity.{numbered, IsTarget}
+use Rattle.m51_module.specs.Validity.{numbered, IsTarget, field_len, IsBitNumber, IsHeld, IsPieceValid, IsFixupValid}
+use Rattle.m51_module.specs.Validity.{FieldBefore}
 use Rattle.m51_records.specs.Codes.{form_number, form_by_code}
 use Rattle.m51_records.specs.Contents.{latest}
-use Rattle.m51_frame.specs.Fields.{◌>>=◌, or_absent, byte_at, pair}
+use Rattle.m51_frame.specs.Fields.{or_absent, byte_at, pair}
 use Rattle.m51_records.specs.Fixups.{target_fields, fixup_contents, field_segment_follows, fixup_segment_at}
 use Rattle.m51_records.specs.Fixups.{field_follows, fixup_offset_at, is_inside, form_at, is_bit, bit_at}
-use Rattle.m51_records.specs.Fixups.{target_by_number, tag_at, target_at, addend_at, fixup_in}
+use Rattle.m51_records.specs.Fixups.{target_by_number, tag_at, target_at, addend_at, fixup_in, is_held}
 use Rattle.m51_records.proofs.Tools.{on_ok, ok_is, absent_ok}
 use Rattle.m51_records.proofs.FieldLaws.{IsBytes, form_takes, form_read}
 use Rattle.m51_records.proofs.Codec.{Codec, Agrees, then_fields, if_fields, last_field, no_field, record_agrees}
 use Rattle.m51_records.proofs.Codec.{table_codec, tested_codec, pair_codec, any_pair, numbered_codec, byte_takes}
+use Rattle.std.proofs.lemmas.List.Folds.{Any-from_list_any, list_any_at}
+use Rattle.m51_module.specs.declared.content.Form.{Form}
+use Rattle.m51_module.proofs.FieldLengths.{some_byte}
+use Rattle.m51_records.proofs.InTurn.{Hold, InTurn, at_most, holds as all_hold, in_turn, Follows, last_follows}
+use Rattle.m51_records.proofs.InTurn.{all_follow}
 
 module _ (segments : List Segment) (externals : List External) (pieces : List Piece) where
   -- what the tests of the reader say of a fixup, after those before it
@@ -98,27 +105,70 @@ module _ (segments : List Segment) (externals : List External) (pieces : List Pi
         target = x.1.1.1.1.0;
         addend = x.1.1.1.1.1;
       }) fixup_contents (IsFixupTested before)
-      (λ x g. (
-        refl,
-        record {
-          few = g.0;
-          segment = g.1.0.item;
-          is = g.1.0.is;
-          ascends = g.1.0.passes;
-          follows = g.1.1.0;
-          inside = g.1.1.1.0;
-          bit = g.1.1.1.1.0;
-          target = g.1.1.1.1.1.0;
-        },
-      ))
-      (λ f t. (
-        (f.segment, (f.offset, (f.form, (f.bit, (f.target, f.addend))))),
-        refl,
-        (
-          t.few,
-          (
-            record { item = t.segment; is = t.is; passes = t.ascends; kept = refl },
-            (t.follows, (t.inside, (t.bit, (t.target, tt)))),
-          ),
-        ),
-      ))
+      (λ x g. (refl, grind arith))
+      (λ f t. ((f.segment, (f.offset, (f.form, (f.bit, (f.target, f.addend))))), refl, grind arith))
+
+-- The fixups of a module are valid where each passes the tests of the reader after those before it.
+
+-- ---- the order
+
+abbrev Passes : Fixup → Option Fixup → Type 0
+Passes f previous = (field_segment_follows previous f.segment ≡ true)
+    × (field_follows previous f.segment f.offset ≡ true)
+
+passes_follow : (f : Fixup) (previous : Option Fixup) → Passes f previous → Follows FieldBefore f previous
+passes_follow f previous t = grind arith
+
+-- ---- bits, and content under a field
+
+bit_of : (form : Form) (bit : ℕ) → is_bit form bit ≡ true → IsBitNumber form bit
+bit_of form bit h = grind arith
+
+bit_from : (form : Form) (bit : ℕ) → IsBitNumber form bit → is_bit form bit ≡ true
+bit_from form bit h = grind arith
+
+module _ (pieces : List Piece) (segment : ℕ) where
+  held_of : (offset : ℕ) → is_held pieces segment offset ≡ true → IsHeld pieces segment offset
+  held_of offset h = grind (arith, Any-from_list_any)
+
+  held_from : (offset : ℕ) → IsHeld pieces segment offset → is_held pieces segment offset ≡ true
+  held_from offset h = grind (arith, list_any_at)
+
+  inside_of : (offset : ℕ) (form : Form) → is_inside pieces segment offset form ≡ true → (k : ℕ) → k < field_len form
+      → IsHeld pieces segment (offset + k)
+  inside_of offset form h k less = grind (arith, held_of)
+
+  inside_from : (offset : ℕ) (form : Form) → ((k : ℕ) → k < field_len form → IsHeld pieces segment (offset + k))
+      → is_inside pieces segment offset form ≡ true
+  inside_from offset form h =
+      let first = held_from offset (grind (arith, h 0 (some_byte form))) in
+      grind (arith, held_from)
+
+-- ---- validity
+
+module _ (segments : List Segment) (externals : List External) (pieces : List Piece) where
+  -- what a module's validity says of a fixup, whose segment is one of these
+  pub record IsSeated (f : Fixup) : Type 0 where
+    pub valid : IsFixupValid segments externals pieces f
+    pub segment : Segment
+    pub is : numbered segments f.segment ≡ Some segment
+
+  -- what it says of all its fixups
+  pub fixups_few : (xs : List Fixup) → InTurn (IsFixupTested segments externals pieces) [] xs → length xs ≤ 65535
+  fixups_few xs h = at_most (IsFixupTested segments externals pieces) 65535 (grind arith) xs h
+
+  pub fixups_are : (xs : List Fixup) → InTurn (IsFixupTested segments externals pieces) [] xs
+      → Hold IsSeated FieldBefore xs
+  fixups_are xs h = all_hold IsSeated FieldBefore (IsFixupTested segments externals pieces)
+      (grind (arith, bit_of, inside_of, all_follow, passes_follow, latest)) xs h
+
+  pub fixups_in_turn : (xs : List Fixup) → length xs ≤ 65535 → Hold IsSeated FieldBefore xs
+      → InTurn (IsFixupTested segments externals pieces) [] xs
+  fixups_in_turn xs few v = in_turn IsSeated FieldBefore (IsFixupTested segments externals pieces) xs
+      (grind (arith, latest, last_follows, lt-ltb, length, inside_from, bit_from)) v
+
+  -- a valid fixup lies over a valid piece, which has a segment
+  pub seated : All (IsPieceValid segments) pieces → (f : Fixup) → IsFixupValid segments externals pieces f → IsSeated f
+  seated content f valid =
+      let first = valid.held 0 (some_byte f.form) in
+      grind arith

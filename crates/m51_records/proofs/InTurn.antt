@@ -1,10 +1,10 @@
 -- Items each of which is tested after those before it: what then holds of each and of each two, and back. Where what
 -- holds of two is transitive, the test may look at the last item only.
-use Rattle.std.proofs.Common.{◌≡◌, ℕ, suc, ◌+◌, ◌-◌, ◌<◌, ◌≤◌, List, [], ◌∷◌, ◌++◌, length, Option, Some, None, refl}
-use Rattle.std.proofs.Common.{sym, ap, subst, ◌∙◌, arith, All, AllPairs, append_assoc, length-append}
+use Rattle.std.proofs.Common.{◌≡◌, ℕ, ◌+◌, ◌<◌, ◌≤◌, List, [], ◌∷◌, ◌++◌, length, Option, Some, None, refl, sym, subst}
+use Rattle.std.proofs.Common.{◌∙◌, arith, All, AllPairs, append_assoc, length-append}
 use Rattle.std.proofs.lemmas.List.{append-nil}
-use Rattle.m51_cells.proofs.Members.{Every, Pairs, every_append, every_right, every_all, all_every, every_both}
-use Rattle.m51_cells.proofs.Members.{every_of, pairs_push, pairs_all, all_pairs}
+use Rattle.m51_cells.proofs.Members.{Every, Pairs, every_append, every_all, all_every, every_both, every_of, pairs_push}
+use Rattle.m51_cells.proofs.Members.{pairs_all, all_pairs}
 use Rattle.m51_records.specs.Contents.{latest}
 
 -- each passes after those before it
@@ -68,8 +68,8 @@ module _ {X : Type 0} (P : X → Type 0) (R : X → X → Type 0) (Tested : List
 
   pub in_turn : (xs : List X)
       → ((before : List X) (x : X) → length before < length xs → P x → AreBefore before x → Tested before x)
-      → All P xs → AllPairs R xs → InTurn Tested [] xs
-  in_turn xs step p r = tested (length xs) step [] xs (omega arith) (all_every P xs p, all_pairs R xs r)
+      → Hold P R xs → InTurn Tested [] xs
+  in_turn xs step v = tested (length xs) step [] xs (omega arith) (all_every P xs v.each, all_pairs R xs v.pairs)
       (every_of (AreBefore []) xs (λ _ _. tt))
 
 -- the last of a list of two or more is that of the list without the first

@@ -1,5 +1,5 @@
 -- A module that is read is spelled so and valid, and a valid module that is spelled is read, whatever follows.
-use Rattle.std.proofs.Common.{arith, ◌≡◌, ℕ, List, [], ◌∷◌, ◌++◌, Ok, refl, subst}
+use Rattle.std.proofs.Common.{arith, ◌≡◌, ℕ, List, [], ◌∷◌, ◌++◌, Ok, refl, subst, length, sym, ap, ◌∙◌, length-append}
 use Rattle.m51_module.specs.declared.content.Fixup.{Fixup}
 use Rattle.m51_module.specs.declared.content.Piece.{Piece}
 use Rattle.m51_module.specs.declared.parts.ModuleParts.{ModuleParts}
@@ -8,17 +8,16 @@ use Rattle.m51_module.specs.declared.symbol.External.{External}
 use Rattle.m51_module.specs.declared.symbol.Public.{Public}
 use Rattle.m51_module.specs.Validity.{IsValid}
 use Rattle.m51_records.specs.Spelling.{bytes_of}
-use Rattle.m51_records.specs.Reading.{module_at}
+use Rattle.m51_records.specs.Reading.{module_at, read_of}
 use Rattle.m51_records.proofs.FieldLaws.{IsBytes}
 use Rattle.m51_records.proofs.EndLaws.{header_agrees, end_agrees}
-use Rattle.m51_records.proofs.SegmentLaws.{segment_agrees}
-use Rattle.m51_records.proofs.SegmentsValid.{segments_are, segments_in_turn}
-use Rattle.m51_records.proofs.ExternalLaws.{external_agrees, externals_are, externals_in_turn, public_agrees}
-use Rattle.m51_records.proofs.ExternalLaws.{publics_are, publics_in_turn}
+use Rattle.m51_records.proofs.SegmentLaws.{segment_agrees, segments_are, segments_in_turn}
+use Rattle.m51_records.proofs.ExternalLaws.{external_agrees, externals_few, externals_are, externals_in_turn}
+use Rattle.m51_records.proofs.ExternalLaws.{public_agrees, publics_are, publics_in_turn}
 use Rattle.m51_records.proofs.PieceLaws.{piece_agrees, pieces_are, pieces_in_turn}
-use Rattle.m51_records.proofs.FixupLaws.{fixup_agrees}
-use Rattle.m51_records.proofs.FixupsValid.{fixups_are, fixups_in_turn, seated}
-use Rattle.m51_records.proofs.Chain.{Chain, last_record, then_record, then_records}
+use Rattle.m51_records.proofs.FixupLaws.{fixup_agrees, fixups_few, fixups_are, fixups_in_turn, seated}
+use Rattle.m51_records.proofs.SectionLaws.{Chain, last_record, then_record, then_records}
+use Rattle.m51_records.proofs.Tools.{ok_is}
 
 -- header, segments, externals, publics, pieces, fixups, banks
 abbrev Values : Type 0
@@ -72,19 +71,19 @@ module_takes total number bytes y fits e =
         name = g.0.name;
         version = g.0.version;
         few_segments = segments.few;
-        few_externals = externals.few;
-        few_fixups = fixups.few;
+        few_externals = externals_few x.1.1.0 g.1.1.0;
+        few_fixups = fixups_few x.1.0 x.1.1.0 x.1.1.1.1.0 x.1.1.1.1.1.0 g.1.1.1.1.1.0;
         segments = segments.each;
         marks = segments.marks;
         segment_names = segments.names;
         publics = publics.each;
-        public_names = publics.names;
+        public_names = publics.pairs;
         externals = externals.each;
-        external_names = externals.names;
+        external_names = externals.pairs;
         pieces = pieces.each;
-        piece_order = pieces.order;
+        piece_order = pieces.pairs;
         fixups = grind arith;
-        fixup_order = fixups.order;
+        fixup_order = fixups.pairs;
         banks = g.1.1.1.1.1.1.first;
         few_banks = g.1.1.1.1.1.1.few;
       };
@@ -96,11 +95,22 @@ pub module_again : (m : ModuleParts) (rest : List ℕ) (total number : ℕ) → 
     → module_at total number (bytes_of m ++ rest) ≡ Ok (m, rest)
 unfolding module_at bytes_of
 module_again m rest total number v =
-    let segments = segments_in_turn m.version m.segments
-    (grind arith) in
-    let externals = externals_in_turn m.externals
-    (grind arith) in
+    let segments = segments_in_turn m.version m.segments (grind arith) in
+    let externals = externals_in_turn m.externals v.few_externals (grind arith) in
     let publics = publics_in_turn m.segments m.publics (grind arith) in
     let pieces = pieces_in_turn m.segments m.pieces (grind arith) in
-    let fixups = fixups_in_turn m.segments m.externals m.pieces m.fixups (grind (arith, seated)) in
+    let fixups = fixups_in_turn m.segments m.externals m.pieces m.fixups v.few_fixups (grind (arith, seated)) in
     module_chain.again module_of total number (values_of m) rest (grind arith)
+
+-- No spelling begins another, and a file that begins with the bytes of a module is read as it.
+
+-- no spelling begins another
+pub one_front : (m n : ModuleParts) (x y : List ℕ) → IsValid m → IsValid n → bytes_of m ++ x ≡ bytes_of n ++ y → (m ≡ n)
+    × (x ≡ y)
+one_front m n x y v w e =
+    grind (arith, ok_is (m, x) (n, y) (sym (module_again m x 0 0 v) ∙ ap (module_at 0 0) e ∙ module_again n y 0 0 w))
+
+-- the same for a file that begins with the bytes of a module
+pub read_again : (m : ModuleParts) (bytes rest : List ℕ) → IsValid m → bytes ≡ bytes_of m ++ rest → read_of bytes
+    ≡ Ok (m, length (bytes_of m))
+read_again m bytes rest v is = grind (arith, module_again, length-append)

@@ -1,19 +1,17 @@
 -- The record of a piece: what is read is written so, what is written is read, and both are valid together.
 use Rattle.std.proofs.lemmas.Grind.{common_steps}
-use Rattle.std.proofs.Common.{◌≡◌, ℕ, ◌+◌, ◌-◌, true, eqb, min, List, [], ◌∷◌, ◌++◌, length, drop, Some, refl, sym}
-use Rattle.std.proofs.Common.{subst, ◌∙◌, arith, All, AllPairs}
+use Rattle.std.proofs.Common.{◌≡◌, ℕ, ◌+◌, true, min, List, [], length, drop, Some, refl, sym, subst, ◌∙◌, arith}
 use Rattle.std.specs.Prelude.{◌&&◌, nat_le, nat_lt}
 use Rattle.m51_module.specs.declared.content.Piece.{Piece}
 use Rattle.m51_module.specs.declared.segment.Segment.{Segment}
 use Rattle.m51_module.specs.Validity.{numbered, IsPieceValid, LiesBefore}
 use Rattle.m51_cells.specs.Kinds.{is_code}
 use Rattle.m51_frame.specs.Fields.{checked}
-use Rattle.m51_frame.specs.Pieces.{ends_before}
 use Rattle.m51_records.specs.Contents.{piece_contents, latest, segment_follows, code_segment_at, piece_follows}
 use Rattle.m51_records.specs.Contents.{piece_offset_at, content_at, piece_in}
 use Rattle.m51_records.proofs.Tools.{on_ok, checked_ok}
 use Rattle.m51_records.proofs.Codec.{Agrees, then_fields, last_field, record_agrees, numbered_codec, pair_codec}
-use Rattle.m51_records.proofs.InTurn.{InTurn, holds, in_turn, last_follows, all_follow}
+use Rattle.m51_records.proofs.InTurn.{Hold, InTurn, holds, in_turn, last_follows, all_follow}
 
 module _ (segments : List Segment) where
   -- what the tests of the reader say of a piece, after those before it
@@ -52,50 +50,19 @@ module _ (segments : List Segment) where
       then_fields (pair_codec (piece_follows (latest before) number.0)) (λ offset.
       last_field (content_agrees number.1 offset))))
       (λ x. record { segment = x.0.0; offset = x.1.0; bytes = x.1.1 }) piece_contents (IsPieceTested before)
-      (λ x g. (
-        refl,
-        record {
-          segment = g.0.item;
-          is = g.0.is;
-          ascends = g.0.passes;
-          follows = g.1.0;
-          inside = subst (λ (v : ℕ × ℕ).
-              (nat_lt 0 (length x.1.1) && nat_le (x.1.0 + min (length x.1.1) 1024) v.1) ≡ true) (sym g.0.kept) g.1.1.0;
-          most = g.1.1.1;
-        },
-      ))
-      (λ p t. (
-        ((p.segment, t.segment.size), (p.offset, p.bytes)),
-        refl,
-        (record { item = t.segment; is = t.is; passes = t.ascends; kept = refl }, (t.follows, (t.inside, t.most))),
-      ))
+      (λ x g. (refl, grind arith))
+      (λ p t. (((p.segment, t.segment.size), (p.offset, p.bytes)), refl, grind arith))
 
--- ---- the order
-
--- ---- validity
-
-module _ (segments : List Segment) where
   -- what a module's validity says of its pieces
-  pub record ArePieces (pieces : List Piece) : Type 0 where
-    pub each : All (IsPieceValid segments) pieces
-    pub order : AllPairs LiesBefore pieces
-
-  piece_valid : (before : List Piece) (p : Piece) → IsPieceTested segments before p → IsPieceValid segments p
+  piece_valid : (before : List Piece) (p : Piece) → IsPieceTested before p → IsPieceValid segments p
   piece_valid before p t = grind arith
 
-  pub pieces_are : (xs : List Piece) → InTurn (IsPieceTested segments) [] xs → ArePieces xs
-  pieces_are xs h =
-      let v = holds (IsPieceValid segments) LiesBefore (IsPieceTested segments) (λ before p v t. (
-        piece_valid before p t,
-        all_follow LiesBefore p (IsPieceValid segments) (grind arith) before v.0 v.1
-            (grind arith),
-      )) xs h in
-      grind arith
+  pub pieces_are : (xs : List Piece) → InTurn IsPieceTested [] xs → Hold (IsPieceValid segments) LiesBefore xs
+  pieces_are xs h = holds (IsPieceValid segments) LiesBefore IsPieceTested (λ before p v t. (
+    piece_valid before p t,
+    all_follow LiesBefore p (IsPieceValid segments) (grind arith) before v.0 v.1 (grind arith),
+  )) xs h
 
-  pub pieces_in_turn : (xs : List Piece) → ArePieces xs → InTurn (IsPieceTested segments) [] xs
-  pieces_in_turn xs v = in_turn (IsPieceValid segments) LiesBefore (IsPieceTested segments) xs (grind (
-    arith,
-    common_steps,
-    latest,
-    last_follows LiesBefore,
-  )) v.each v.order
+  pub pieces_in_turn : (xs : List Piece) → Hold (IsPieceValid segments) LiesBefore xs → InTurn IsPieceTested [] xs
+  pieces_in_turn xs v = in_turn (IsPieceValid segments) LiesBefore IsPieceTested xs
+      (grind (arith, common_steps, latest, last_follows LiesBefore)) v

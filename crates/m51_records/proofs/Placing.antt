@@ -1,7 +1,7 @@
 -- An absolute segment fits where it ends by the limit of its kind.
 use Rattle.std.proofs.Common.{◌≢◌, ℕ, ◌+◌, ◌≤◌, arith}
 use Rattle.m51_cells.specs.declared.kind.Kind.{Kind}
-use Rattle.m51_cells.specs.declared.kind.Kind.TheVariants.{Code, Xdata, Direct, Idata, Bits, Number}
+use Rattle.m51_cells.specs.declared.kind.Kind.TheVariants.{Number}
 use Rattle.m51_cells.specs.declared.kind.Reloc.TheVariants.{Abs}
 use Rattle.m51_cells.specs.Fits.{Fits}
 use Rattle.m51_records.specs.Segments.{limit}

@@ -1,4 +1,4 @@
-use Rattle.m51_records.proofs.ModuleAgain.{one_front}
+use Rattle.m51_records.proofs.ModuleLaws.{one_front}
 use Rattle.m51_records.proofs.laws.one_spelling.Goals as goal
 
 pub returns : goal.returns

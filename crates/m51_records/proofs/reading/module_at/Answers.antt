@@ -1,7 +1,4 @@
-use Rattle.std.proofs.Common.{◌++◌, sym, ap, subst, ◌∙◌, arith}
-use Rattle.m51_module.specs.declared.parts.ModuleParts.{ModuleParts}
-use Rattle.m51_module.specs.Validity.{IsValid}
-use Rattle.m51_records.specs.Spelling.{bytes_of}
+use Rattle.std.proofs.Common.{arith}
 use Rattle.m51_records.proofs.FieldLaws.{bytes_fit}
 use Rattle.m51_records.proofs.ModuleLaws.{module_takes}
 use Rattle.m51_records.proofs.reading.module_at.Goals as goal
@@ -14,8 +11,5 @@ make-requires c =
 pub returns-clause-spelled : goal.returns-clause-spelled
 returns-clause-spelled c =
     let r = module_takes c.args.total c.args.number c.args.bytes.now (c.in_ok-parts.parts, c.in_ok-parts.rest.now)
-    (bytes_fit c.args.bytes.now (λ i. omega (arith, c.type_inv.bytes i))) c.in_ok-parts.ensures.value in (
-      subst IsValid (sym c.make.ensures) r.valid,
-      r.bytes_are
-          ∙ ap (λ (m : ModuleParts). bytes_of m ++ c.in_ok-parts.rest.now) (sym c.make.ensures),
-    )
+    (bytes_fit c.args.bytes.now (λ i. omega (arith, c.type_inv.bytes i))) c.in_ok-parts.ensures.value in
+    rw c.make.ensures (r.valid, r.bytes_are)

@@ -9,7 +9,7 @@ pub returns-in_err-contents-clause-value : goal.returns-in_err-contents-clause-v
 returns-in_err-contents-clause-value g c =
     let p = err_from_is_err_and c.from_residual.result c.from_residual.ensures.1 in
     rw (p.1, p.2)
-    (frame_stops c.args.record_type (g.R.Reader.reads c.args.reader) c.args.total c.args.number _ _ _ c.begins.result
+    (frame_stops _ _ _ _ _ _ _ _
     c.begins.ensures (c.args.number + c.len.result) (omega arith) c.loop-alloc.invariant.stands
     c.in_err-contents.field-0.0 c.loop-alloc-test.true c.in_err-contents.ensures.value)
 
@@ -21,7 +21,7 @@ returns-in_err-item-clause-value g c =
     (read c.deref.result.now c.checksum_place-end.result c.in_ok-contents.contents.now))
     c.loop-alloc.invariant.same c.in_err-item.ensures.value in
     rw (p.1, p.2)
-    (value_stops c.args.record_type (g.R.Reader.reads c.args.reader) c.args.total c.args.number _ _ _ c.begins.result
+    (value_stops _ _ _ _ _ _ _ _
     c.begins.ensures (c.args.number + c.len.result) (omega arith) c.loop-alloc.invariant.stands
     c.checksum_place-end.result c.deref.result.now c.in_ok-contents.contents.now c.in_ok-contents.after.now
     c.loop-alloc-test.true c.in_ok-contents.ensures.value c.checksum_place-end.ensures c.deref.ensures.value
@@ -52,6 +52,6 @@ loop-alloc-preserved g c = record {
 
 pub returns-clause-value : goal.returns-clause-value
 returns-clause-value g c =
-    all_read c.args.record_type (g.R.Reader.reads c.args.reader) c.args.total c.args.number _ _ _ c.begins.result
+    all_read _ _ _ _ _ _ _ _
     c.begins.ensures (c.args.number + length c.loop-alloc.items.items) (omega arith) c.loop-alloc.invariant.stands
     c.loop-alloc-test.false

@@ -9,7 +9,7 @@ use Rattle.m51_stackbound.specs.Units.{root_of, unit_of}
 use Rattle.m51_stackbound.proofs.Finding.{root_found, unit_found_at}
 use Rattle.m51_stackbound.proofs.Inside.{interrupt_is_vector}
 use Rattle.m51_stackbound.proofs.Rooted.{first_cases, under}
-use Rattle.m51_stackbound.proofs.Stepping.{steps_to}
+use Rattle.m51_stackbound.proofs.Rooted.{steps_to}
 
 each_less : (k : ℕ) → k + 1 < length interrupts → get_or interrupts k 0 < get_or interrupts (k + 1) 0
 each_less k h = grind arith

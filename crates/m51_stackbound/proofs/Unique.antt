@@ -1,19 +1,21 @@
--- The answer is unique: two answers that are tied, are the same.
+-- Laws of the answer: two answers that are tied are the same, and the total is the sum of depths.
 use Rattle.std.proofs.lemmas.Map.Made.{IsDistinct-from_AllPairs, length-le_from_is_member}
-use Rattle.m51_stackbound.proofs.Common.{◌≡◌, ◌<◌, ◌≤◌, ℕ, zero, suc, List, [], ◌∷◌, length, map, refl, sym, ap, ◌∙◌}
+use Rattle.m51_stackbound.proofs.Common.{◌≡◌, ◌<◌, ◌≤◌, ℕ, zero, suc, List, [], ◌∷◌, length, map, refl, ap}
 use Rattle.m51_stackbound.proofs.Common.{arith, inl, inr, Result, Ok, Err, Contains, Contains-from_any, cases_lt}
 use Rattle.m51_stackbound.proofs.Common.{list_any-from_Contains, LayoutParts, Point, Proc, RootDepth, StackBound, Start}
 use Rattle.m51_stackbound.proofs.Common.{Reset, At, IsSound, ReachedAddress, HasTwoHeights, IsCyclic, IsTotal, Keeps}
-use Rattle.m51_stackbound.proofs.Common.{IsLeast}
+use Rattle.m51_stackbound.proofs.Common.{IsLeast, ◌+◌, Nothing, One, ComesTo, IsDepth}
 use Rattle.m51_cells.proofs.Members.{Every, In, Pairs, all_pairs, contains_in, every_in, in_contains, in_map, map_in}
 use Rattle.std.specs.Prelude.{Some}
 use Rattle.m51_module.specs.declared.stack_bound.StackError.{StackError}
 use Rattle.m51_module.specs.declared.stack_bound.StackError.TheVariants.{K1, K2, K3, K4, K5, K6, Limit, Memory}
 use Rattle.m51_module.proofs.Units.{one_root}
 use Rattle.m51_stackbound.specs.declared.judging.Rule.TheVariants.{WritesSp, Computed, PopsBelow}
-use Rattle.m51_stackbound.specs.Bounds.{AreEach, AreFew, Answers, Breaks, IsBound, IsProc, IsRootDepth, IsTooDeep}
+use Rattle.m51_stackbound.specs.Bounds.{AreEach, AreFew, Answers, Breaks, IsBound, IsProc, IsRootDepth, IsTooDeep, Adds}
+use Rattle.m51_stackbound.specs.Bounds.{Two}
 use Rattle.m51_stackbound.specs.Depths.{ComesFirst, IsPath}
-use Rattle.m51_stackbound.specs.Laws.{IsTied, AnswerIsUnique}
+use Rattle.m51_stackbound.specs.Laws.{IsTied, AnswerIsUnique, DepthsAdd, NoHandler, OneHandler, TwoHandlers}
+use Rattle.m51_stackbound.specs.Laws.{IsSumOfDepths, HaveDepths, TotalIsSumOfDepths}
 use Rattle.m51_stackbound.specs.Search.{AreDifferent}
 use Rattle.m51_stackbound.specs.contracts.point.PointEq.TheImpl.Laws.{laws-law}
 use Rattle.m51_stackbound.proofs.Noting.{same_point}
@@ -51,29 +53,11 @@ same_lists [] [] a b on back = refl
 same_lists [] (q ∷ qs) a b on back = absurd (back q (inl refl))
 same_lists (p ∷ ps) [] a b on back = absurd (on p (inl refl))
 same_lists (p ∷ ps) (q ∷ qs) a b on back =
-    let tails = same_lists ps qs a.1 b.1 on_rest back_rest in
+    let heads : p ≡ q =
+    grind (arith, on p (inl refl), back q (inl refl), above q p qs b.0, above p q ps a.0) in
+    let tails = same_lists ps qs a.1 b.1 (λ r k. grind (arith, on r (inr k), above p r ps a.0 k, heads))
+    (λ r k. grind (arith, back r (inr k), above q r qs b.0 k, heads)) in
     λ i. heads i ∷ tails i
-  where
-    heads : p ≡ q
-    heads = elim (on p (inl refl)) [
-      | inl e ↦ sym e
-      | inr h ↦ elim (back q (inl refl)) [
-        | inl e ↦ e
-        | inr k ↦ absurd (omega (arith, above q p qs b.0 h, above p q ps a.0 k))
-      ]
-    ]
-
-    on_rest : (r : Proc) → In r ps → In r qs
-    on_rest r k = elim (on r (inr k)) [
-      | inl e ↦ absurd (omega (arith, above p r ps a.0 k, ap at_of (heads ∙ e)))
-      | inr h ↦ h
-    ]
-
-    back_rest : (r : Proc) → In r qs → In r ps
-    back_rest r k = elim (back r (inr k)) [
-      | inl e ↦ absurd (omega (arith, above q r qs b.0 k, ap at_of (sym heads ∙ e)))
-      | inr h ↦ h
-    ]
 
 -- different points that are among others are not more than these
 no_more : (xs ys : List Point) → AreDifferent xs → ((p : Point) → Contains xs p → Contains ys p) → length xs ≤ length ys
@@ -225,3 +209,44 @@ module _ (l : LayoutParts) (image : List ℕ) where
 
 pub answer_is_unique : AnswerIsUnique
 answer_is_unique l image sound r s one two h k = one_answer l image sound r s one two h k
+
+module _ (l : LayoutParts) (image : List ℕ) where
+  -- what depths add is added
+  added : (bytes : ℕ) → DepthsAdd l image bytes → Adds l image bytes
+  added _ NoHandler = Nothing
+  added _ (OneHandler v d h k) = One v d k.path h k.takes
+  added _ (TwoHandlers v w d e h k ne i j) = Two v w d e i.path j.path h k ne i.takes j.takes
+
+  -- a sum of depths that is at least this number
+  record AddsAbove (bytes : ℕ) : Type 0 where
+    pub sum : ℕ
+    pub adds : DepthsAdd l image sum
+    pub high : bytes ≤ sum
+
+  module _ (have : HaveDepths l image) where
+    depths_above : (bytes : ℕ) → Adds l image bytes → AddsAbove bytes
+    depths_above _ Nothing = record { sum = 0; adds = NoHandler; high = omega arith }
+    depths_above _ (One v d path h t) =
+        let k = have.handler v h in
+        grind (arith, OneHandler v k.0 h k.1)
+    depths_above _ (Two v w d e path other h k ne t u) =
+        let i = have.handler v h in
+        let j = have.handler w k in
+        grind (arith, TwoHandlers v w i.0 j.0 h k ne i.1 j.1)
+
+    comes : (reset more : ℕ) → IsDepth l image Reset reset → DepthsAdd l image more → ComesTo l image (reset + more)
+    comes reset more d a =
+        grind (arith, added)
+
+    on : (total : ℕ) → IsTotal l image total → IsSumOfDepths l image total
+    on total t =
+        let c = t.comes in
+        let r = have.reset in
+        let a = depths_above c.more c.adds in
+        grind (arith, comes r.0)
+
+    back : (total : ℕ) → IsSumOfDepths l image total → IsTotal l image total
+    back total s = grind (arith, comes s.reset s.more s.reset_is s.adds, depths_above)
+
+pub total_is_sum : TotalIsSumOfDepths
+total_is_sum l image have total = (on l image have total, back l image have total)

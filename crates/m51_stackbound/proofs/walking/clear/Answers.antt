@@ -1,5 +1,5 @@
 use Rattle.m51_stackbound.proofs.Common.{arith}
-use Rattle.m51_stackbound.proofs.Walks.{alone, closed_again, same_when}
+use Rattle.m51_stackbound.proofs.CallRows.{alone, closed_again, same_when}
 use Rattle.m51_stackbound.proofs.walking.clear.Goals as goal
 
 pub returns : goal.returns

@@ -5,7 +5,7 @@ use Rattle.m51_stackbound.proofs.Common.{get_or-set_other, length-set, take_more
 use Rattle.m51_stackbound.proofs.Common.{Contains-append_left, contains_after, first_or_after, none_in_empty}
 use Rattle.m51_stackbound.proofs.Common.{LayoutParts, Start, Reset, At, same_or_not, Call, Point, AreCallRows, calls_of}
 use Rattle.m51_stackbound.proofs.Common.{callee_row, call_of, IsPoint, ArePoints, ◌≤◌, ◌-◌, Bool, true, false}
-use Rattle.m51_stackbound.proofs.Common.{replicate, ap, nat_eq, common_steps, length-replicate}
+use Rattle.m51_stackbound.proofs.Common.{replicate, ap, common_steps, length-replicate}
 use Rattle.m51_stackbound.proofs.Common.{Contains-get_or, AreCleared, GoesOn, IsClosed, CallsThrough}
 use Rattle.std.specs.List.{cons_option}
 use Rattle.std.proofs.lemmas.List.Elements.{filter_map-append, Contains-append_cases}
@@ -135,9 +135,6 @@ rows_more calls c rows few h = by c.from refl
 
 pub marks_len : (count : ℕ) (marks : List Bool) → marks ≡ replicate count false → length marks ≡ count
 marks_len count marks e = rw e (length-replicate {A = Bool} count false)
-
-pub same_when : (a b : ℕ) → nat_eq a b ≡ true → a ≡ b
-same_when a b e = grind arith
 
 pub marked_none : (count : ℕ) (marks : List Bool) → count ≡ 65536 → marks ≡ replicate count false → AreMarked [] marks
 marked_none count marks is e = grind (arith, common_steps)

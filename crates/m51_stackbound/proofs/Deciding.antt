@@ -57,20 +57,14 @@ pub all_low : (depths : List ℕ) → list_any (λ depth. nat_lt 255 depth) dept
 all_low depths none start = grind (arith, common_steps)
 
 module _ (l : LayoutParts) (image : List ℕ) where
-  -- a depth above 255 in the table is one of a start that takes as much
-  taken_by : (points : List Point) (depths : List ℕ) (s : AreSettled l image points depths) (start : Start)
-      → 255 < depth_in depths start → TakesDepth l image start (depth_in depths start)
-  taken_by points depths s start high =
-      grind arith
-
-  -- so SP may get a value above 255
+  -- a depth above 255 in the table is one of a start that takes as much, so SP may get a value above 255
   pub depth_above : (points : List Point) (depths : List ℕ) (s : AreSettled l image points depths)
       → list_any (λ depth. nat_lt 255 depth) depths ≡ true → IsTooDeep l image
   depth_above points depths s some =
       let a = Any-from_list_any _ depths some in
       let start = start_of a.0 in
       let high : 255 < depth_in depths start.0 = grind (arith, common_steps, a.2, a.3, a.4, start.1) in
-      let t = taken_by points depths s start.0 high in
+      let t : TakesDepth l image start.0 (depth_in depths start.0) = grind (arith, high, s.are.taken start.0) in
       let above = taken_above l image start.0 t.path t.bytes t.takes in
       grind arith
 

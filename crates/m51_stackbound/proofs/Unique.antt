@@ -118,7 +118,8 @@ module _ (l : LayoutParts) (image : List ℕ) where
     Rung (suc (suc (suc zero))) = Keeps l image PopsBelow
     Rung (suc (suc (suc (suc zero)))) = (start : Start) → IsCyclic l image start → ⊥
     Rung (suc (suc (suc (suc (suc zero))))) = (reached : ReachedAddress) → HasTwoHeights l image reached → ⊥
-    Rung (suc (suc (suc (suc (suc (suc n)))))) = IsTooDeep l image → ⊥
+    Rung (suc (suc (suc (suc (suc (suc zero)))))) = IsTooDeep l image → ⊥
+    Rung (suc (suc (suc (suc (suc (suc (suc n))))))) = ⊥
 
     -- all rungs below
     Passes : ℕ → Type 0
@@ -129,30 +130,23 @@ module _ (l : LayoutParts) (image : List ℕ) where
     too_deep b few h (inl (reached, breaks)) = h.no_push reached breaks
     too_deep b few h (inr (value, comes, high)) = omega (arith, h.total.most value comes)
 
-    passes : (r : Result StackBound StackError) → IsTied r → Answers l image r → Passes (stage r)
+    -- an answer comes where the program passes all rungs below, and not this one
+    comes_at : (r : Result StackBound StackError) → IsTied r → Answers l image r
+        → Passes (stage r) × (Rung (stage r) → ⊥)
     unfolding stage Rung Passes
-    passes (Err Limit) tied h = tt
-    passes (Err (K1 start at)) tied h = (tt, h.0)
-    passes (Err (K2 start at)) tied h = ((tt, h.0), h.1)
-    passes (Err (K3 start at)) tied h = (((tt, h.0), h.1), h.2)
-    passes (Err (K4 start)) tied h = grind arith
-    passes (Err (K5 start at)) tied h = grind arith
-    passes (Err K6) tied h = grind arith
-    passes (Ok b) tied h = grind (arith, too_deep b tied h)
-    passes (Err Memory) tied h = absurd tied
-
-    fails : (r : Result StackBound StackError) → IsTied r → Answers l image r → stage r < 7 → Rung (stage r) → ⊥
-    unfolding stage Rung
-    fails (Err Limit) tied h low k =
-        omega (arith, no_more h.points k.0 h.different (λ p m. k.1.all p (h.only p m)), h.many, k.1.few)
-    fails (Err (K1 start at)) tied h low k = k (record { start = start; address = at }) h.1.0
-    fails (Err (K2 start at)) tied h low k = k (record { start = start; address = at }) h.2.0
-    fails (Err (K3 start at)) tied h low k = k (record { start = start; address = at }) h.3.0
-    fails (Err (K4 start)) tied h low k = k start h.1.cyclic
-    fails (Err (K5 start at)) tied h low k = k (record { start = start; address = at }) h.1.0
-    fails (Err K6) tied h low k = k h.1
-    fails (Ok b) tied h low k = absurd (omega (arith, low))
-    fails (Err Memory) tied h low k = absurd tied
+    comes_at (Err Limit) tied h = (
+      tt,
+      λ k. omega (arith, no_more h.points k.0 h.different (λ p m. k.1.all p (h.only p m)), h.many, k.1.few),
+    )
+    comes_at (Err (K1 start at)) tied h = ((tt, h.0), λ k. k (record { start = start; address = at }) h.1.0)
+    comes_at (Err (K2 start at)) tied h = (((tt, h.0), h.1), λ k. k (record { start = start; address = at }) h.2.0)
+    comes_at (Err (K3 start at)) tied h =
+        ((((tt, h.0), h.1), h.2), λ k. k (record { start = start; address = at }) h.3.0)
+    comes_at (Err (K4 start)) tied h = (grind arith, λ k. k start h.1.cyclic)
+    comes_at (Err (K5 start at)) tied h = (grind arith, λ k. k (record { start = start; address = at }) h.1.0)
+    comes_at (Err K6) tied h = (grind arith, λ k. k h.1)
+    comes_at (Ok b) tied h = (grind (arith, too_deep b tied h), λ k. k)
+    comes_at (Err Memory) tied h = absurd tied
 
     rung_below : (n m : ℕ) → n < m → Passes m → Rung n
     unfolding Passes
@@ -162,16 +156,11 @@ module _ (l : LayoutParts) (image : List ℕ) where
       | inr not_less ↦ let same : m ≡ n = omega (arith, low, not_less) in rw same at h.1
     ]
 
-    few_stages : (r : Result StackBound StackError) → IsTied r → stage r ≤ 7
-    unfolding stage
-    few_stages r tied = grind arith
-
     -- an answer that comes later does not come beside one that comes earlier
     not_before : (r s : Result StackBound StackError) → IsTied r → IsTied s → Answers l image r → Answers l image s
         → stage r < stage s → ⊥
     not_before r s one two h k less =
-        let few = few_stages s two in
-        fails r one h (omega (arith, less, few)) (rung_below (stage r) (stage s) less (passes s two k))
+        (comes_at r one h).1 (rung_below (stage r) (stage s) less (comes_at s two k).0)
 
     at_place : (E : Start → ℕ → StackError) (Is : ReachedAddress → Type 0) (s t : Start) (a b : ℕ)
         → IsLeast Is (Some (record { start = s; address = a })) → IsLeast Is (Some (record { start = t; address = b }))

@@ -1,6 +1,6 @@
 -- The two greatest numbers that interrupts add.
-use Rattle.m51_stackbound.proofs.Common.{◌≢◌, ◌<◌, ◌≤◌, ◌+◌, ℕ, List, [], length, get_or, take, sym, arith, inl, inr}
-use Rattle.m51_stackbound.proofs.Common.{Contains, cases_lt, common_steps, Rises, AreGreatest}
+use Rattle.m51_stackbound.proofs.Common.{◌≡◌, ◌⊎◌, ◌≢◌, ◌<◌, ◌≤◌, ◌+◌, ◌∙◌, ℕ, List, [], length, get_or, take, sym}
+use Rattle.m51_stackbound.proofs.Common.{arith, inl, inr, Contains, cases_lt, common_steps, Rises, AreGreatest}
 use Rattle.std.proofs.lemmas.Bool.{le-ltb, lt-ltb}
 use Rattle.std.proofs.lemmas.List.{length-take-le}
 use Rattle.m51_stackbound.specs.declared.totals.Greatest.{Greatest}
@@ -40,71 +40,53 @@ module _ (depths : List ℕ) where
     unfolding kept
     kept_two a b t = record { first = kept a t.first; second = kept b t.second; different = t.different }
 
-    -- what holds of each vector before and of the newest, holds of each
-    each : (P : ℕ → Type 0) → ((v : ℕ) → Contains front v → P v) → P here → (v : ℕ) → Contains longer v → P v
-    each P old new v k = grind (arith, common_steps, front_cases vectors i 0 v below k, old v)
-
-    -- sums of two different vectors
-    sums : (most : ℕ) → ((v w : ℕ) → Contains front v → Contains front w → v ≢ w
-        → added depths v + added depths w ≤ most)
-        → ((v : ℕ) → Contains front v → added depths v + bytes ≤ most) → (v w : ℕ) → Contains longer v
-        → Contains longer w → v ≢ w → added depths v + added depths w ≤ most
-    sums most old new v w k m other =
-        grind (
-          arith,
-          common_steps,
-          front_cases vectors i 0 v below k,
-          front_cases vectors i 0 w below m,
-          old v w,
-          new v,
-          new w,
-        )
-
     module _ (g : Greatest) (h : AreGreatest depths front g) where
+      -- two numbers that are no less, and no less together
+      grown : (first second : ℕ) → (first ≡ 0) ⊎ OneAdds depths longer first
+          → (second ≡ 0) ⊎ TwoAdd depths longer first second → second ≤ first → g.first ≤ first → bytes ≤ first
+          → g.first + g.second ≤ first + second → bytes + g.first ≤ first + second
+          → AreGreatest depths longer (record { first = first; second = second })
+      grown first second one two order high more both new = record {
+        one = one;
+        two = two;
+        order = order;
+        most = λ v k. grind (arith, front_cases vectors i 0 v below k, h.most v);
+        sum = λ v w k m other. elim (front_cases vectors i 0 v below k) [
+          | inl old ↦ elim (front_cases vectors i 0 w below m) [
+            | inl older ↦ omega (arith, both, h.sum v w old older other)
+            | inr e ↦ rw (← e) (omega (arith, new, h.most v old))
+          ]
+          | inr e ↦ elim (front_cases vectors i 0 w below m) [
+            | inl older ↦ rw (← e) (omega (arith, new, h.most w older))
+            | inr f ↦ absurd (other (sym e ∙ f))
+          ]
+        ];
+      }
+
       greater : g.first < bytes → AreGreatest depths longer (record { first = bytes; second = g.first })
       unfolding kept newest
-      greater more = record {
-        one = inr newest;
-        two = elim h.one [
-          | inl none ↦ inl none
-          | inr o ↦ inr (record {
-            first = newest;
-            second = kept g.first o;
-            different = λ e. fresh o.vector o.listed (sym e);
-          })
-        ];
-        order = omega (arith, more);
-        most = each (λ v. added depths v ≤ bytes) (λ v k. omega (arith, h.most v k)) (omega arith);
-        sum = sums (bytes + g.first) (λ v w k m other. omega (arith, h.sum v w k m other))
-            (λ v k. omega (arith, h.most v k));
-      }
+      greater more = grown _ _ (inr newest)
+          (elim h.one [
+            | inl none ↦ inl none
+            | inr o ↦ inr (record {
+              first = newest;
+              second = kept g.first o;
+              different = λ e. fresh o.vector o.listed (sym e);
+            })
+          ]) (omega arith) (omega arith) (omega arith) (omega (arith, h.order)) (omega arith)
 
       between : bytes ≤ g.first → g.second < bytes
           → AreGreatest depths longer (record { first = g.first; second = bytes })
       unfolding kept newest
-      between few more = record {
-        one = grind (arith, common_steps, kept g.first);
-        two = elim h.one [
-          | inl none ↦ absurd (omega (arith, none, few))
-          | inr o ↦ inr (record { first = kept g.first o; second = newest; different = fresh o.vector o.listed })
-        ];
-        order = few;
-        most = each (λ v. added depths v ≤ g.first) h.most few;
-        sum = sums (g.first + bytes) (λ v w k m other. omega (arith, h.sum v w k m other))
-            (λ v k. omega (arith, h.most v k));
-      }
+      between few more = grown _ _ (grind (arith, kept g.first))
+          (elim h.one [
+            | inl none ↦ absurd (omega (arith, none, few))
+            | inr o ↦ inr (record { first = kept g.first o; second = newest; different = fresh o.vector o.listed })
+          ]) few (omega arith) few (omega arith) (omega arith)
 
       less : bytes ≤ g.second → AreGreatest depths longer g
-      less few = record {
-        one = grind (arith, common_steps, kept g.first);
-        two = elim h.two [
-          | inl none ↦ inl none
-          | inr t ↦ inr (kept_two g.first g.second t)
-        ];
-        order = h.order;
-        most = each (λ v. added depths v ≤ g.first) h.most (omega (arith, few, h.order));
-        sum = sums (g.first + g.second) h.sum (λ v k. omega (arith, h.most v k));
-      }
+      less few = grown g.first g.second (grind (arith, kept g.first)) (grind (arith, kept_two g.first g.second)) h.order
+          (omega arith) (omega (arith, h.order)) (omega arith) (omega arith)
 
       pub greatest_more : AreGreatest depths longer (with_bytes g bytes)
       unfolding with_bytes

@@ -7,9 +7,10 @@ use Rattle.m51_cells.proofs.Members.{contains_in, in_contains, in_filter}
 use Rattle.m51_stackbound.specs.Bounds.{IsStart}
 use Rattle.m51_stackbound.specs.Units.{root_of, unit_of}
 use Rattle.m51_stackbound.proofs.Finding.{root_found, unit_found_at}
+use Rattle.m51_stackbound.proofs.Common.{None}
 use Rattle.m51_stackbound.proofs.Inside.{interrupt_is_vector}
 use Rattle.m51_stackbound.proofs.Rooted.{first_cases, under}
-use Rattle.m51_stackbound.proofs.Stepping.{steps_to}
+use Rattle.m51_stackbound.proofs.Rooted.{steps_to}
 
 each_less : (k : ℕ) → k + 1 < length interrupts → get_or interrupts k 0 < get_or interrupts (k + 1) 0
 each_less k h = grind arith
@@ -19,13 +20,10 @@ pub handlers_rise : (l : LayoutParts) → Rises (handlers l)
 handlers_rise l = AllPairs-filter (λ (a b : ℕ). a < b) (λ vector. is_some (root_of l vector)) interrupts
     (AllPairs-from_increasing interrupts each_less)
 
--- an option that has a value
-record HasValue (o : Option ℕ) : Type 0 where
-  pub value : ℕ
-  pub is : o ≡ Some value
-
-with_value : (o : Option ℕ) → is_some o ≡ true → HasValue o
-with_value o h = grind arith
+-- the value of an option that has one
+with_value : (o : Option ℕ) → is_some o ≡ true → (u : ℕ) × (o ≡ Some u)
+with_value None h = absurd (cc h)
+with_value (Some u) h = (u, refl)
 
 module _ (l : LayoutParts) (sound : IsSound l) where
   -- a handler is a root
@@ -34,7 +32,7 @@ module _ (l : LayoutParts) (sound : IsSound l) where
       let f = in_filter (λ vector. is_some (root_of l vector)) interrupts v (in_contains (handlers l) v h) in
       let at = contains_in interrupts v f.0 in
       let u = with_value (root_of l v) f.1 in
-      (u.value, root_found l sound v u.value (rw at.2 at (interrupt_is_vector at.0 v at.1)) u.is)
+      (u.0, root_found l sound v u.0 (rw at.2 at (interrupt_is_vector at.0 v at.1)) u.1)
 
   -- a root covers its vector
   pub root_covers : (v unit : ℕ) → IsRootAt l v unit → IsUnitAt l v unit
@@ -42,7 +40,7 @@ module _ (l : LayoutParts) (sound : IsSound l) where
       grind arith
 
   covered : (address : ℕ) → is_some (unit_of l address) ≡ true → (unit : ℕ) × IsUnitAt l address unit
-  covered address h = let u = with_value (unit_of l address) h in (u.value, unit_found_at l sound address u.value u.is)
+  covered address h = let u = with_value (unit_of l address) h in (u.0, unit_found_at l sound address u.0 u.1)
 
   -- a unit covers the entry of each start
   entry_covered : (image : List ℕ) (a : ℕ) (p : Point) → p ≡ entry_at a → IsPoint l image p

@@ -1,23 +1,51 @@
--- From the tables to the answers of the bound.
-use Rattle.m51_stackbound.proofs.Common.{◌≡◌, ◌<◌, ◌≤◌, ℕ, zero, suc, Bool, true, false, List, [], ◌∷◌, ◌++◌, length}
-use Rattle.m51_stackbound.proofs.Common.{◌+◌, refl, sym, ◌∙◌, arith, inl, inr, nat_lt, Contains, contains_after}
-use Rattle.m51_stackbound.proofs.Common.{list_any, common_steps, LayoutParts, Proc, RootDepth, StackBound, Start, Reset}
-use Rattle.m51_stackbound.proofs.Common.{At, IsUnitAt, IsSound, Next, Point, IsCyclic, Keeps, depth_in, AreSettled}
-use Rattle.m51_stackbound.proofs.Common.{CallsThrough, HasHeight, IsDepth, is_noted, AreStarts, AreListed, AreNexts}
-use Rattle.m51_stackbound.proofs.Common.{AreRootRows, rank, ArePoints, IsSum, handlers, ComesTo, IsTotal, Nothing, One}
-use Rattle.std.specs.List.{Any}
-use Rattle.std.proofs.lemmas.List.Folds.{Any-from_list_any}
+-- From the tables to the answers of the bound: depths, paths, lists and the total.
+use Rattle.std.proofs.Common.{append_assoc}
+use Rattle.m51_stackbound.proofs.Common.{ap, cases_lt}
+use Rattle.std.proofs.lemmas.List.{append-nil}
+use Rattle.m51_stackbound.proofs.Common.{◌≡◌, ◌≢◌, ◌<◌, ◌≤◌, ◌+◌, ℕ, List, [], ◌∷◌, ◌++◌, refl, arith, Some, None}
+use Rattle.m51_stackbound.proofs.Common.{Contains, LayoutParts, Start, At, Next, Point, depth_in, AreSettled, CallsAt}
+use Rattle.m51_stackbound.proofs.Common.{HasHeight, IsDepth, Takes, Own, next_in, AreNexts, call_of, ArePoints, zero}
+use Rattle.m51_stackbound.proofs.Common.{suc, Bool, true, false, length, sym, ◌∙◌, inl, inr, nat_lt, contains_after}
+use Rattle.m51_stackbound.proofs.Common.{list_any, common_steps, Proc, RootDepth, StackBound, Reset, IsUnitAt, IsSound}
+use Rattle.m51_stackbound.proofs.Common.{IsCyclic, Keeps, CallsThrough, is_noted, AreStarts, AreListed, AreRootRows}
+use Rattle.m51_stackbound.proofs.Common.{rank, IsSum, handlers, ComesTo, IsTotal, Nothing, One}
+use Rattle.m51_stackbound.specs.declared.paths.Next.TheVariants.{Unknown, Ends, Calls}
 use Rattle.m51_stackbound.specs.Above.{AreLow, HasLists, IsAbove}
+use Rattle.m51_stackbound.specs.Depths.{IsPath, Call, ComesFirst}
+use Rattle.m51_stackbound.specs.Nexts.{next_by, IsNoLater, Gives, AreTables, called_next, IsPassed, Leads, Stop, Go}
+use Rattle.m51_stackbound.specs.Nexts.{IsRowAt}
+use Rattle.m51_stackbound.proofs.Raised.{entered, settled_call, settled_says, takes_most, low_not_cyclic}
+use Rattle.m51_stackbound.proofs.Ways.{calls_from, ends_from, says}
+use Rattle.std.proofs.lemmas.List.Folds.{Any-from_list_any}
 use Rattle.m51_stackbound.specs.Bounds.{AreEach, IsFirstCyclic, IsRootDepth, IsStart, IsTooDeep, KeepsHeights, Adds}
 use Rattle.m51_stackbound.specs.Bounds.{IsBound, Two}
 use Rattle.m51_stackbound.specs.Totals.{OneAdds, TwoAdd}
 use Rattle.m51_stackbound.specs.declared.judging.Rule.TheVariants.{PushesAbove}
 use Rattle.m51_stackbound.specs.Climb.{TakesDepth}
-use Rattle.m51_stackbound.specs.Nexts.{IsRowAt}
 use Rattle.m51_stackbound.proofs.Covering.{start_covered}
-use Rattle.m51_stackbound.proofs.Leading.{depth_is, path_is}
-use Rattle.m51_stackbound.proofs.Raised.{low_not_cyclic, settled_says}
 use Rattle.m51_stackbound.proofs.Rooted.{handler_height, reset_height, taken_above}
+
+calls_of_next : (n : Next) (to : ℕ) → called_next n ≡ Some to → n ≡ Calls to
+calls_of_next n to h = grind arith
+
+module _ (nexts : List Next) (first : Start) where
+  -- a path of one start
+  pub passed_none : (path : List Start) → path ≡ first ∷ [] → IsPassed nexts first first path
+  passed_none path is = grind arith
+
+  -- the path continues
+  pub passed_more : (last : Start) (path new : List Start) (to : ℕ) → IsPassed nexts first last path
+      → called_next (next_in nexts last) ≡ Some to → new ≡ path ++ At to ∷ [] → IsPassed nexts first (At to) new
+  passed_more last path new to h is new_is = record {
+    done = h.done ++ At to ∷ [];
+    path_is = cc;
+    leads = λ more rest. rw (append_assoc h.done (At to ∷ []) more) (h.leads (At to ∷ more) (Go last to more is rest));
+  }
+
+  -- the path ends
+  pub passed_all : (last : Start) (path : List Start) (h : IsPassed nexts first last path)
+      → called_next (next_in nexts last) ≡ None → Leads nexts first h.done
+  passed_all last path h none = rw (append-nil h.done) at (h.leads [] (Stop last none))
 
 -- the start with this index in a table
 start_of : (k : ℕ) → (start : Start) × (rank start ≡ k)
@@ -29,20 +57,14 @@ pub all_low : (depths : List ℕ) → list_any (λ depth. nat_lt 255 depth) dept
 all_low depths none start = grind (arith, common_steps)
 
 module _ (l : LayoutParts) (image : List ℕ) where
-  -- a depth above 255 in the table is one of a start that takes as much
-  taken_by : (points : List Point) (depths : List ℕ) (s : AreSettled l image points depths) (start : Start)
-      → 255 < depth_in depths start → TakesDepth l image start (depth_in depths start)
-  taken_by points depths s start high =
-      grind arith
-
-  -- so SP may get a value above 255
+  -- a depth above 255 in the table is one of a start that takes as much, so SP may get a value above 255
   pub depth_above : (points : List Point) (depths : List ℕ) (s : AreSettled l image points depths)
       → list_any (λ depth. nat_lt 255 depth) depths ≡ true → IsTooDeep l image
   depth_above points depths s some =
       let a = Any-from_list_any _ depths some in
       let start = start_of a.0 in
       let high : 255 < depth_in depths start.0 = grind (arith, common_steps, a.2, a.3, a.4, start.1) in
-      let t = taken_by points depths s start.0 high in
+      let t : TakesDepth l image start.0 (depth_in depths start.0) = grind (arith, high, s.are.taken start.0) in
       let above = taken_above l image start.0 t.path t.bytes t.takes in
       grind arith
 
@@ -86,14 +108,125 @@ each_more Is New vs rs on h = absurd h
 module _ (l : LayoutParts) (image : List ℕ) (points : List Point) (depths : List ℕ) (nexts : List Next)
     (are : ArePoints l image points) (s : AreSettled l image points depths) (low : AreLow depths)
     (n : AreNexts l image points depths nexts) where
+  -- the depth in the table is the depth of the start
+  pub depth_is : (start : Start) (height : ℕ) → HasHeight l image start height
+      → IsDepth l image start (depth_in depths start)
+  depth_is start height h =
+      grind (arith, settled_says _ _ _ _ are s start height h)
+
+  given_by : (start : Start) (next : Next) → next_in nexts start ≡ next → next ≢ Unknown
+      → Gives l image points depths start next
+  given_by start next e other = grind arith
+
+  earliest_by : (start : Start) (next : Next) (p : Point) (way : Next) → next_in nexts start ≡ next → Contains points p
+      → p.start ≡ start → next_by depths p (call_of l image p) ≡ way → IsNoLater next way
+  earliest_by start next p way e listed is w =
+      rw (e, w) at ((n.each start).earliest p listed is)
+
+  -- what a call gives is at most the depth
+  call_most : (start : Start) (height to bytes : ℕ) → CallsAt l image start height to → bytes ≤ depth_in depths (At to)
+      → height + 2 + bytes ≤ depth_in depths start
+  call_most start height to bytes c below =
+      omega (arith, low start, settled_call l image points depths are s start height to bytes c (omega arith))
+
+  pub called_most : (start : Start) (path : List Start) (bytes : ℕ) → Takes l image start path bytes
+      → bytes ≤ depth_in depths start
+  called_most start path bytes t =
+      omega (arith, low start, takes_most l image points depths are s start path bytes t)
+
+  -- the start goes on no later than a path that gives its depth, and what that path calls has its depth too
+  abbrev NoLaterThan : Next → List Start → Type 0
+  NoLaterThan next [] = IsNoLater next Ends
+  NoLaterThan next (Reset ∷ more) = ⊥
+  NoLaterThan next (At to ∷ more) = IsNoLater next (Calls to) × Takes l image (At to) more (depth_in depths (At to))
+
+  best : (start : Start) (path : List Start) (bytes : ℕ) → Takes l image start path bytes
+      → bytes ≡ depth_in depths start → (next : Next) → next_in nexts start ≡ next → NoLaterThan next path
+  best start _ bytes (Own _ _ h) e next is =
+      earliest_by _ _ _ Ends is (are.all h.point h.is_point) h.start_is
+      (ends_from depths h.point (call_of l image h.point) (cc))
+  best start _ _ (Call _ height to more bytes c rest) e next is =
+      let most = called_most _ _ _ rest in
+      let high = call_most start height to (depth_in depths (At to)) c (omega arith) in
+      let same : bytes ≡ depth_in depths (At to) = omega (arith, e, most, high) in
+      let sum : height + 2 + depth_in depths (At to) ≡ depth_in depths start = omega (arith, e, same) in (
+        earliest_by _ _ _ (Calls to) is (are.all c.point c.is_point) c.start_is
+            (calls_from depths c.point (call_of l image c.point) to c.calls (cc)),
+        rw same at rest,
+      )
+
+  -- a call of a path, with its point
+  record IsCall (start : Start) (to : ℕ) : Type 0 where
+    pub height : ℕ
+    pub calls : CallsAt l image start height to
+    pub sum : height + 2 + depth_in depths (At to) ≡ depth_in depths start
+
+  call_of_next : (start : Start) (to : ℕ) → called_next (next_in nexts start) ≡ Some to → IsCall start to
+  call_of_next start to e =
+      let g = given_by _ _ (calls_of_next (next_in nexts start) to e) (λ k. absurd (cc k)) in
+      let giving = says depths g.point (call_of l image g.point) (Calls to) g.next_is in
+      grind arith
+
+  -- depths fall along a path
+  pub falls : (start : Start) (to : ℕ) → called_next (next_in nexts start) ≡ Some to
+      → depth_in depths (At to) < depth_in depths start
+  falls start to h = omega (arith, call_of_next start to h)
+
+  pub tables : AreTables depths nexts
+  tables = grind (arith, falls)
+
+  -- where the path ends a point has the depth
+  ended : (start : Start) (next : Next) (path : List Start) → next_in nexts start ≡ next → called_next next ≡ None
+      → NoLaterThan next path → Takes l image start [] (depth_in depths start)
+  ended start Ends path is none b =
+      let g = given_by _ _ is (λ k. absurd (cc k)) in
+      let same = says depths g.point (call_of l image g.point) Ends g.next_is in
+      Own start (depth_in depths start) (grind arith)
+  ended start Unknown [] is none b = absurd b
+  ended start Unknown (Reset ∷ more) is none b = absurd b
+  ended start Unknown (At to ∷ more) is none b = absurd b.0
+  ended start (Calls t) path is none b = absurd (cc none)
+
+  pub leads_takes : (start : Start) (more : List Start) (height : ℕ) → Leads nexts start more
+      → HasHeight l image start height → Takes l image start more (depth_in depths start)
+  leads_takes start _ height (Stop _ none) h =
+      let d = depth_is _ _ h in
+      ended start (next_in nexts start) d.path refl none (best _ _ _ d.takes refl _ refl)
+  leads_takes start _ height (Go _ to more is rest) h =
+      let c = call_of_next start to is in
+      let call = c.calls in
+      let inside = entered l image call.point to call.is_point call.calls in
+      rw c.sum at (Call start c.height to more (depth_in depths (At to)) call (leads_takes _ _ _ rest inside))
+
+  first_by : (to : ℕ) (more other : List Start)
+      → ((path : List Start) → Takes l image (At to) path (depth_in depths (At to)) → ComesFirst more path)
+      → NoLaterThan (Calls to) other → ComesFirst (At to ∷ more) other
+  first_by to more [] on b = b
+  first_by to more (Reset ∷ path) on b = absurd b
+  first_by to more (At o ∷ path) on b = elim (cases_lt to o) [
+    | inl less ↦ inl (omega (arith, less))
+    | inr high ↦ let same : to ≡ o = omega (arith, high, b.0) in inr (ap At same, on path (rw (← same) at b.1))
+  ]
+
+  pub leads_first : (start : Start) (more : List Start) → Leads nexts start more → (other : List Start)
+      → Takes l image start other (depth_in depths start) → ComesFirst more other
+  leads_first start _ (Stop _ none) other t = tt
+  leads_first start _ (Go _ to more is rest) other t =
+      first_by to more other (leads_first (At to) more rest)
+      (best start other _ t refl (Calls to) (calls_of_next (next_in nexts start) to is))
+
+  pub path_is : (start : Start) (height : ℕ) (path more : List Start) → HasHeight l image start height
+      → path ≡ start ∷ more → Leads nexts start more → IsPath l image start path
+  path_is start height path more h is leads =
+      grind (arith, depth_is _ _ h, leads_takes _ _ _ leads h, leads_first _ _ leads)
+
   row_is : (start : Start) (vector height : ℕ) (r : RootDepth) → HasHeight l image start height
       → IsRowAt l depths nexts start vector r → IsRootDepth l image start vector r
   row_is start vector height r h row =
       grind (
         arith,
-        depth_is _ _ _ _ _ are s low n start height h,
-        path_is _ _ _ _ _ are s low n start height r.path row.row.more h row.row.path_is
-            row.row.leads,
+        depth_is start height h,
+        path_is start height r.path row.row.more h row.row.path_is row.row.leads,
       )
 
   -- a noted start is one of the program
@@ -127,7 +260,7 @@ module _ (l : LayoutParts) (image : List ℕ) (points : List Point) (depths : Li
     procs = λ p k.
         let is = listed.each p (rw procs_are at k) in
         let start = noted_start starts ss p.at is.noted in
-        grind (arith, depth_is _ _ _ _ _ are s low n (At p.at) start.0 start.1);
+        grind (arith, depth_is (At p.at) start.0 start.1);
     all = λ at k.
         let noted = start_noted starts ss at k in
         rw procs_are (listed.all at (few_addresses starts ss.len at noted) noted);

@@ -2,7 +2,6 @@
 use Rattle.m51_stackbound.proofs.Common.{◌≡◌, ◌<◌, ℕ, Bool, true, false, Option, Some, None, length, get_or, refl}
 use Rattle.m51_stackbound.proofs.Common.{arith, Contains, LayoutParts, IsUnitAt, IsRootAt}
 use Rattle.m51_stackbound.proofs.Common.{vectors, IsSound}
-use Rattle.std.proofs.Common.{◌&&◌}
 use Rattle.std.specs.Prelude.{IfSome, List, position, slice_get}
 use Rattle.std.specs.Option.{option_map_or}
 use Rattle.std.proofs.lemmas.List.Quantifiers.{position-Some}
@@ -12,20 +11,10 @@ use Rattle.m51_module.specs.declared.placed.Placed.{Placed}
 use Rattle.m51_module.specs.Plan.{IsUnit}
 use Rattle.m51_stackbound.specs.Units.{has_address, begins_at, unit_where, unit_of, root_of}
 
--- a conjunction that is true has true parts
-pub both : (a b : Bool) → (a && b) ≡ true → (a ≡ true) × (b ≡ true)
-both a b h = grind arith
-
 -- no element before the end passes a test that has no position
 position_none : {X : Type 0} (p : X → Bool) (xs : List X) (k : ℕ) (d : X) → position p xs ≡ None → k < length xs
     → p (get_or xs k d) ≡ false
 position_none p xs k d e below = grind (arith, fails_before_first)
-
--- what passes a test of an option
-record Passes {X : Type 0} (test : X → Bool) (o : Option X) : Type 0 where
-  pub value : X
-  pub is : o ≡ Some value
-  pub passes : test value ≡ true
 
 -- a unit whose extent passes the test
 pub record Tested (test : Placed → Bool) (l : LayoutParts) (unit : ℕ) : Type 0 where
@@ -47,48 +36,43 @@ unit_missed test l u p e h passes =
       get_or_from_slice_get l.units u h.segment 0 h.unit_is,
     )
 
+-- what the test finds is so, and where it finds none there is none
+record Tells (P : ℕ → Type 0) (o : Option ℕ) : Type 0 where
+  pub found : (u : ℕ) → o ≡ Some u → P u
+  pub missed : (u : ℕ) → o ≡ None → P u → ⊥
+
 -- two answers that are right and whole are the same
-same_answer : (P : ℕ → Type 0) (r o : Option ℕ) → IfSome r P → ((u : ℕ) → P u → r ≡ Some u)
-    → ((u : ℕ) → o ≡ Some u → P u) → ((u : ℕ) → o ≡ None → P u → ⊥) → r ≡ o
-same_answer P r (Some v) some only found missed = only v (found v refl)
-same_answer P r None some only found missed = grind arith
+same_answer : (P : ℕ → Type 0) (r o : Option ℕ) → IfSome r P → ((u : ℕ) → P u → r ≡ Some u) → Tells P o → r ≡ o
+same_answer P r (Some v) some only t = only v (t.found v refl)
+same_answer P r None some only t = grind (arith, t.missed)
 
 module _ (l : LayoutParts) (sound : IsSound l) where
-  covers : (address : ℕ) (u : ℕ) → Tested (has_address address) l u → IsUnitAt l address u
-  covers address u t =
-      grind arith
+  unit_tells : (address : ℕ) → Tells (λ u. IsUnitAt l address u) (unit_of l address)
+  unfolding unit_of
+  unit_tells address = record {
+    found = λ u e. let t = unit_found (has_address address) l u e in grind arith;
+    missed = λ u e h. unit_missed (has_address address) l u h.is e h.unit_is (grind arith);
+  }
 
-  covered : (address : ℕ) (u : ℕ) (h : IsUnitAt l address u) → has_address address h.is ≡ true
-  covered address u h =
-      grind arith
+  root_tells : (vector : ℕ) → Contains vectors vector → Tells (λ u. IsRootAt l vector u) (root_of l vector)
+  unfolding root_of
+  root_tells vector is = record {
+    found = λ u e. let t = unit_found (begins_at vector) l u e in grind arith;
+    missed = λ u e h. unit_missed (begins_at vector) l u h.is e h.unit_is (grind arith);
+  }
 
   pub unit_is : (address : ℕ) (r : Option ℕ) → IfSome r (λ u. IsUnitAt l address u)
       → ((u : ℕ) → IsUnitAt l address u → r ≡ Some u) → r ≡ unit_of l address
-  unfolding unit_of
-  unit_is address r some only = same_answer (λ u. IsUnitAt l address u) r (unit_of l address) some only
-      (λ u e. covers address u (unit_found (has_address address) l u e))
-      (λ u e h. unit_missed (has_address address) l u h.is e h.unit_is (covered address u h))
+  unit_is address r some only = same_answer _ r _ some only (unit_tells address)
 
   -- the unit that the test finds covers the address
   pub unit_found_at : (address u : ℕ) → unit_of l address ≡ Some u → IsUnitAt l address u
-  unfolding unit_of
-  unit_found_at address u e = covers address u (unit_found (has_address address) l u e)
-
-  begins : (vector u : ℕ) → Contains vectors vector → Tested (begins_at vector) l u → IsRootAt l vector u
-  begins vector u is t =
-      grind arith
-
-  begun : (vector u : ℕ) (h : IsRootAt l vector u) → begins_at vector h.is ≡ true
-  begun vector u h = grind arith
+  unit_found_at address = (unit_tells address).found
 
   pub root_is : (vector : ℕ) (r : Option ℕ) → Contains vectors vector → IfSome r (λ u. IsRootAt l vector u)
       → ((u : ℕ) → IsRootAt l vector u → r ≡ Some u) → r ≡ root_of l vector
-  unfolding root_of
-  root_is vector r is some only = same_answer (λ u. IsRootAt l vector u) r (root_of l vector) some only
-      (λ u e. begins vector u is (unit_found (begins_at vector) l u e))
-      (λ u e h. unit_missed (begins_at vector) l u h.is e h.unit_is (begun vector u h))
+  root_is vector r is some only = same_answer _ r _ some only (root_tells vector is)
 
   -- the unit that the test finds is the root
   pub root_found : (vector u : ℕ) → Contains vectors vector → root_of l vector ≡ Some u → IsRootAt l vector u
-  unfolding root_of
-  root_found vector u is e = begins vector u is (unit_found (begins_at vector) l u e)
+  root_found vector u is = (root_tells vector is).found u

@@ -1,5 +1,5 @@
 -- What a program with a bound keeps at each of its points.
-use Rattle.m51_stackbound.proofs.Common.{◌≡◌, ℕ, Bool, false, List, Some, arith, inl, inr, cases_Bool, Instr}
+use Rattle.m51_stackbound.proofs.Common.{◌≡◌, ℕ, false, List, Some, arith, inl, inr, cases_Bool, Instr}
 use Rattle.m51_stackbound.proofs.Common.{LayoutParts, Rule, Point, Keeps, IsPoint, reached_address}
 use Rattle.m51_stackbound.specs.declared.judging.Rule.TheVariants.{WritesSp, Computed, PopsBelow, PushesAbove}
 use Rattle.m51_stackbound.specs.Bounds.{KeepsRules}

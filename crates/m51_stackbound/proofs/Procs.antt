@@ -1,12 +1,13 @@
 -- The starts in a table by addresses, and their list.
 use Rattle.std.proofs.lemmas.Grind.{common_steps}
-use Rattle.m51_stackbound.proofs.Common.{◌≡◌, ◌<◌, ◌+◌, ℕ, zero, suc, Bool, true, false, List, [], ◌∷◌, ◌++◌, length}
-use Rattle.m51_stackbound.proofs.Common.{get_or, take, map, replicate, refl, sym, ap, ◌∙◌, arith, ◌⊎◌, inl, inr}
-use Rattle.m51_stackbound.proofs.Common.{Contains, cases_lt, get_or-set_same, get_or-set_other, length-set}
+use Rattle.m51_stackbound.proofs.Common.{◌≡◌, ◌<◌, ◌+◌, ℕ, Bool, true, false, List, [], ◌∷◌, ◌++◌, length}
+use Rattle.m51_stackbound.proofs.Common.{get_or, take, map, replicate, refl, ◌∙◌, arith, ◌⊎◌}
+use Rattle.m51_stackbound.proofs.Common.{cases_lt, get_or-set_same, get_or-set_other, length-set}
 use Rattle.m51_stackbound.proofs.Common.{length-replicate, Contains-append_left, Contains-push, Contains-push_cases}
 use Rattle.m51_stackbound.proofs.Common.{LayoutParts, Proc, Start, Reset, At, same_or_not, Point, is_noted, AreStarts}
 use Rattle.m51_stackbound.proofs.Common.{AreListed}
-use Rattle.std.proofs.lemmas.List.{map-append}
+use Rattle.m51_stackbound.proofs.Common.{Contains-get_or}
+use Rattle.std.proofs.lemmas.List.{get_or-map, length-map, map-append}
 use Rattle.std.proofs.lemmas.List.Quantifiers.{all_pairs_push}
 use Rattle.m51_stackbound.specs.Listing.{with_start, HasStart, IsListed}
 use Rattle.m51_stackbound.proofs.Leasts.{front_cases, front_kept, front_next}
@@ -39,10 +40,14 @@ module _ (points : List Point) (i : ℕ) (d : Point) (below : i < length points)
       let inside : a < length old = omega (arith, few a refl) in
       record {
         len = length-set old a true ∙ h.len;
-        only = λ at k. elim (same_or_not at a) [
-          | inl e ↦ newest at (s ∙ ap At (sym e))
-          | inr ne ↦ kept at (h.only at (sym (get_or-set_other old a at true false ne) ∙ k))
-        ];
+        only = λ at k. grind (
+          arith,
+          same_or_not at a,
+          newest at,
+          kept at,
+          h.only at,
+          get_or-set_other old a at true false,
+        );
         all = λ at k. grind (
           arith,
           common_steps,
@@ -58,14 +63,6 @@ module _ (points : List Point) (i : ℕ) (d : Point) (below : i < length points)
 abbrev at_of : Proc → ℕ
 at_of p = p.at
 
--- each address in the list is one of a procedure
-below_all : (ps : List Proc) (end : ℕ) → ((p : Proc) → Contains ps p → p.at < end) → (k d : ℕ)
-    → k < length (map at_of ps) → get_or (map at_of ps) k d < end
-below_all [] end h k d below = absurd (omega (arith, below))
-below_all (p ∷ ps) end h zero d below = h p (0, omega arith, refl)
-below_all (p ∷ ps) end h (suc k) d below =
-    below_all ps end (λ q c. h q (suc c.0, omega (arith, c.1), c.2)) k d (omega (arith, below))
-
 module _ (l : LayoutParts) (starts : List Bool) (depths : List ℕ) where
   pub listed_none : AreListed l starts depths 0 []
   listed_none = grind (arith, common_steps)
@@ -78,22 +75,23 @@ module _ (l : LayoutParts) (starts : List Bool) (depths : List ℕ) where
       record {
         rising = rw more
             (all_pairs_push (λ (one two : ℕ). one < two) (map at_of procs) p.at h.rising
-            (omega (arith, below_all procs end h.below)));
-        below = λ q k. elim (Contains-push_cases procs p q k) [
-          | inl before ↦ let less = h.below q before in omega (arith, less)
-          | inr e ↦ let same = ap at_of e in omega (arith, same, at_is)
-        ];
-        each = λ q k. elim (Contains-push_cases procs p q k) [
-          | inl before ↦ h.each q before
-          | inr e ↦ rw e at is
-        ];
+            (λ k d low. grind (
+              arith,
+              length-map procs at_of,
+              get_or-map at_of procs k p d,
+              h.below (get_or procs k p),
+              Contains-get_or procs k p,
+            )));
+        below = λ q k. grind (arith, Contains-push_cases procs p q k, h.below q);
+        each = λ q k. grind (arith, Contains-push_cases procs p q k, h.each q);
         all = λ at below k. rw more
-            (elim (cases_lt at end) [
-              | inl early ↦ Contains-append_left (map at_of procs) (p.at ∷ []) at (h.all at early k)
-              | inr late ↦
-                  let same : p.at ≡ at = omega (arith, late, below, at_is) in
-                  rw (← same) (Contains-push (map at_of procs) p.at)
-            ]);
+            (grind (
+              arith,
+              cases_lt at end,
+              h.all at,
+              Contains-append_left (map at_of procs) (p.at ∷ []) at,
+              Contains-push (map at_of procs) p.at,
+            ));
       }
 
   -- the next address is that of none

@@ -1,57 +1,64 @@
 -- The search for points finds those that are, and no others.
-use Rattle.m51_stackbound.proofs.Common.{◌≡◌, ◌≢◌, ◌<◌, ◌≤◌, ◌+◌, ℕ, List, [], ◌∷◌, ◌++◌, length, get_or, arith, ◌⊎◌}
+use Rattle.m51_stackbound.proofs.Common.{◌≡◌, ◌≢◌, ◌<◌, ◌≤◌, ◌+◌, ℕ, List, [], ◌∷◌, ◌++◌, length, get_or, arith}
 use Rattle.m51_stackbound.proofs.Common.{inl, inr, Contains, cases_lt, common_steps, Contains-append_left}
-use Rattle.m51_stackbound.proofs.Common.{Contains-get_or, Contains-push, Contains-push_cases, contains_after}
+use Rattle.m51_stackbound.proofs.Common.{Contains-get_or, Contains-push, contains_after}
 use Rattle.m51_stackbound.proofs.Common.{first_or_after, none_in_empty, Result, LayoutParts, Point, successors}
-use Rattle.m51_stackbound.proofs.Common.{IsReached, First, After, Notes, NotesAll}
+use Rattle.m51_stackbound.proofs.Common.{IsReached, First, After, NotesAll}
+use Rattle.std.proofs.Common.{append_assoc}
+use Rattle.std.proofs.lemmas.List.{append-nil}
+use Rattle.std.proofs.lemmas.List.Elements.{Contains-append_cases}
 use Rattle.std.proofs.lemmas.List.Quantifiers.{all_pairs_push}
+use Rattle.m51_cells.proofs.Small.{contains_first}
+use Rattle.m51_stackbound.proofs.Common.{sym, ◌∙◌}
 use Rattle.m51_cells.specs.declared.limits.TheConstants.{MOST_POINTS}
 use Rattle.std.specs.Prelude.{IfOk, Option}
 use Rattle.m51_cells.specs.declared.memory.NoMemory.{NoMemory}
 use Rattle.m51_stackbound.specs.Search.{AreDifferent, AreReached, AreTooMany, Finds}
 
 -- what adding points does to a list: it grows at its end by what is new
-pub record Grows (old new : List Point) (added : Point → Type 0) : Type 0 where
-  pub front : (i : ℕ) (d : Point) → i < length old → get_or new i d ≡ get_or old i d
-  pub longer : length old ≤ length new
-  pub from : (p : Point) → Contains new p → Contains old p ⊎ added p
-  pub kept : (p : Point) → Contains old p → Contains new p
-  pub all : (p : Point) → added p → Contains new p
+record Grows (old ps new : List Point) : Type 0 where
+  pub more : List Point
+  pub is : new ≡ old ++ more
+  pub from : (p : Point) → Contains more p → Contains ps p
+  pub all : (p : Point) → Contains ps p → Contains new p
   pub different : AreDifferent old → AreDifferent new
 
+grown_kept : (old ps new : List Point) → Grows old ps new → (p : Point) → Contains old p → Contains new p
+grown_kept old ps new g p k = rw g.is (Contains-append_left old g.more p k)
+
 -- a point that is not in a list differs from each that is
-pub new_differs : (old : List Point) (p : Point) → (Contains old p → ⊥) → AreDifferent old
+new_differs : (old : List Point) (p : Point) → (Contains old p → ⊥) → AreDifferent old
     → AreDifferent (old ++ p ∷ [])
 new_differs old p new h =
     all_pairs_push (λ a b. a ≢ b) old p h
     (λ k d below e. new (k, below, grind (arith, common_steps)))
 
-pub notes_grow : (ps old new : List Point) → NotesAll old ps new → Grows old new (λ q. Contains ps q)
-notes_grow [] old new same = rw same (grind arith)
+notes_grow : (ps old new : List Point) → NotesAll old ps new → Grows old ps new
+notes_grow [] old new same = rw same (record {
+  more = [];
+  is = sym (append-nil old);
+  from = λ p k. k;
+  all = λ p k. absurd (none_in_empty p k);
+  different = λ h. h;
+})
 notes_grow (p ∷ ps) old new (middle, inl (same, there), rest) =
     let g = rw same at (notes_grow ps middle new rest) in
     record {
-      front = g.front;
-      longer = g.longer;
-      from = λ q h. elim (g.from q h) [ inl before ↦ inl before | inr later ↦ inr (contains_after p ps q later) ];
-      kept = g.kept;
-      all = grind arith;
+      more = g.more;
+      is = g.is;
+      from = λ q k. contains_after p ps q (g.from q k);
+      all = λ q k. grind (arith, first_or_after p ps q k, grown_kept old ps new g q, g.all q);
       different = g.different;
     }
 notes_grow (p ∷ ps) old new (middle, inr (is, absent), rest) =
     let g = rw is at (notes_grow ps middle new rest) in
     record {
-      front = λ i d below. grind (arith, common_steps, g.front i d);
-      longer = grind (arith, common_steps, g.longer);
-      from = λ q h. elim (g.from q h) [
-        | inl before ↦ elim (Contains-push_cases old p q before) [ inl k ↦ inl k | inr e ↦ inr (0, omega arith, e) ]
-        | inr later ↦ inr (contains_after p ps q later)
-      ];
-      kept = λ q k. g.kept q (Contains-append_left old (p ∷ []) q k);
-      all = λ q h. elim (first_or_after p ps q h) [
-        | inl e ↦ g.kept q (rw (← e) (Contains-push old p))
-        | inr later ↦ g.all q later
-      ];
+      more = p ∷ g.more;
+      is = g.is ∙ append_assoc old (p ∷ []) g.more;
+      from = λ q k.
+          grind (arith, first_or_after p g.more q k, contains_first q ps, contains_after p ps q, g.from q);
+      all = λ q k.
+          grind (arith, first_or_after p ps q k, grown_kept (old ++ p ∷ []) ps new g q, Contains-push old p, g.all q);
       different = λ h. g.different (new_differs old p absent h);
     }
 
@@ -83,20 +90,21 @@ module _ (l : LayoutParts) (image : List ℕ) (firsts : List Point) where
       let at : Point = get_or old next e in
       let g = notes_grow (successors l image at) old new h in
       record {
-        only = λ p k. elim (g.from p k) [
+        only = λ p k. elim (Contains-append_cases old g.more p (rw g.is at k)) [
           | inl before ↦ s.only p before
-          | inr added ↦ After at p (s.only at (Contains-get_or old next e below)) added
+          | inr added ↦ After at p (s.only at (Contains-get_or old next e below)) (g.from p added)
         ];
-        begun = λ p k. g.kept p (s.begun p k);
-        looked = λ i d p before inside k. elim (cases_lt i next) [
-          | inl early ↦ g.kept p
-              (s.looked i d p early (omega (arith, early, below))
-              (rw (g.front i d (omega (arith, early, below))) at k))
-          | inr late ↦
-              let is : i ≡ next = omega (arith, late, before) in
-              let same : get_or new i d ≡ at = grind (arith, common_steps, g.front i d (omega (arith, is, below))) in
-              g.all p (rw same at k)
-        ];
+        begun = λ p k. grown_kept _ _ _ g p (s.begun p k);
+        looked = λ i d p before inside k.
+            let low : i < length old = omega (arith, before, below) in
+            let same : get_or new i d ≡ get_or old i d = grind (arith, common_steps, g.is) in
+            elim (cases_lt i next) [
+              | inl early ↦ grown_kept _ _ _ g p (s.looked i d p early low (rw same at k))
+              | inr late ↦
+                  let is : i ≡ next = omega (arith, late, before) in
+                  let here : get_or new i d ≡ at = grind (arith, common_steps, same) in
+                  g.all p (rw here at k)
+            ];
         different = g.different s.different;
         next_few = omega (arith, below, few);
       }
@@ -135,10 +143,7 @@ module _ (l : LayoutParts) (image : List ℕ) (firsts noted : List Point) (h : N
   on = (notes_grow firsts [] noted h).all
 
   back : (p : Point) → Contains noted p → Contains firsts p
-  back p k = elim ((notes_grow firsts [] noted h).from p k) [
-    | inl none ↦ absurd (none_in_empty p none)
-    | inr added ↦ added
-  ]
+  back p k = let g = notes_grow firsts [] noted h in g.from p (rw g.is at k)
 
   pub noted_differ : AreDifferent noted
   noted_differ = (notes_grow firsts [] noted h).different (grind arith)

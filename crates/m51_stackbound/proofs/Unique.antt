@@ -1,19 +1,21 @@
--- The answer is unique: two answers that are tied, are the same.
+-- Laws of the answer: two answers that are tied are the same, and the total is the sum of depths.
 use Rattle.std.proofs.lemmas.Map.Made.{IsDistinct-from_AllPairs, length-le_from_is_member}
-use Rattle.m51_stackbound.proofs.Common.{◌≡◌, ◌<◌, ◌≤◌, ℕ, zero, suc, List, [], ◌∷◌, length, map, refl, sym, ap, ◌∙◌}
+use Rattle.m51_stackbound.proofs.Common.{◌≡◌, ◌<◌, ◌≤◌, ℕ, zero, suc, List, [], ◌∷◌, length, map, refl, ap}
 use Rattle.m51_stackbound.proofs.Common.{arith, inl, inr, Result, Ok, Err, Contains, Contains-from_any, cases_lt}
 use Rattle.m51_stackbound.proofs.Common.{list_any-from_Contains, LayoutParts, Point, Proc, RootDepth, StackBound, Start}
 use Rattle.m51_stackbound.proofs.Common.{Reset, At, IsSound, ReachedAddress, HasTwoHeights, IsCyclic, IsTotal, Keeps}
-use Rattle.m51_stackbound.proofs.Common.{IsLeast}
+use Rattle.m51_stackbound.proofs.Common.{IsLeast, ◌+◌, Nothing, One, ComesTo, IsDepth}
 use Rattle.m51_cells.proofs.Members.{Every, In, Pairs, all_pairs, contains_in, every_in, in_contains, in_map, map_in}
 use Rattle.std.specs.Prelude.{Some}
 use Rattle.m51_module.specs.declared.stack_bound.StackError.{StackError}
 use Rattle.m51_module.specs.declared.stack_bound.StackError.TheVariants.{K1, K2, K3, K4, K5, K6, Limit, Memory}
 use Rattle.m51_module.proofs.Units.{one_root}
 use Rattle.m51_stackbound.specs.declared.judging.Rule.TheVariants.{WritesSp, Computed, PopsBelow}
-use Rattle.m51_stackbound.specs.Bounds.{AreEach, AreFew, Answers, Breaks, IsBound, IsProc, IsRootDepth, IsTooDeep}
+use Rattle.m51_stackbound.specs.Bounds.{AreEach, AreFew, Answers, Breaks, IsBound, IsProc, IsRootDepth, IsTooDeep, Adds}
+use Rattle.m51_stackbound.specs.Bounds.{Two}
 use Rattle.m51_stackbound.specs.Depths.{ComesFirst, IsPath}
-use Rattle.m51_stackbound.specs.Laws.{IsTied, AnswerIsUnique}
+use Rattle.m51_stackbound.specs.Laws.{IsTied, AnswerIsUnique, DepthsAdd, NoHandler, OneHandler, TwoHandlers}
+use Rattle.m51_stackbound.specs.Laws.{IsSumOfDepths, HaveDepths, TotalIsSumOfDepths}
 use Rattle.m51_stackbound.specs.Search.{AreDifferent}
 use Rattle.m51_stackbound.specs.contracts.point.PointEq.TheImpl.Laws.{laws-law}
 use Rattle.m51_stackbound.proofs.Noting.{same_point}
@@ -51,29 +53,11 @@ same_lists [] [] a b on back = refl
 same_lists [] (q ∷ qs) a b on back = absurd (back q (inl refl))
 same_lists (p ∷ ps) [] a b on back = absurd (on p (inl refl))
 same_lists (p ∷ ps) (q ∷ qs) a b on back =
-    let tails = same_lists ps qs a.1 b.1 on_rest back_rest in
+    let heads : p ≡ q =
+    grind (arith, on p (inl refl), back q (inl refl), above q p qs b.0, above p q ps a.0) in
+    let tails = same_lists ps qs a.1 b.1 (λ r k. grind (arith, on r (inr k), above p r ps a.0 k, heads))
+    (λ r k. grind (arith, back r (inr k), above q r qs b.0 k, heads)) in
     λ i. heads i ∷ tails i
-  where
-    heads : p ≡ q
-    heads = elim (on p (inl refl)) [
-      | inl e ↦ sym e
-      | inr h ↦ elim (back q (inl refl)) [
-        | inl e ↦ e
-        | inr k ↦ absurd (omega (arith, above q p qs b.0 h, above p q ps a.0 k))
-      ]
-    ]
-
-    on_rest : (r : Proc) → In r ps → In r qs
-    on_rest r k = elim (on r (inr k)) [
-      | inl e ↦ absurd (omega (arith, above p r ps a.0 k, ap at_of (heads ∙ e)))
-      | inr h ↦ h
-    ]
-
-    back_rest : (r : Proc) → In r qs → In r ps
-    back_rest r k = elim (back r (inr k)) [
-      | inl e ↦ absurd (omega (arith, above q r qs b.0 k, ap at_of (sym heads ∙ e)))
-      | inr h ↦ h
-    ]
 
 -- different points that are among others are not more than these
 no_more : (xs ys : List Point) → AreDifferent xs → ((p : Point) → Contains xs p → Contains ys p) → length xs ≤ length ys
@@ -134,7 +118,8 @@ module _ (l : LayoutParts) (image : List ℕ) where
     Rung (suc (suc (suc zero))) = Keeps l image PopsBelow
     Rung (suc (suc (suc (suc zero)))) = (start : Start) → IsCyclic l image start → ⊥
     Rung (suc (suc (suc (suc (suc zero))))) = (reached : ReachedAddress) → HasTwoHeights l image reached → ⊥
-    Rung (suc (suc (suc (suc (suc (suc n)))))) = IsTooDeep l image → ⊥
+    Rung (suc (suc (suc (suc (suc (suc zero)))))) = IsTooDeep l image → ⊥
+    Rung (suc (suc (suc (suc (suc (suc (suc n))))))) = ⊥
 
     -- all rungs below
     Passes : ℕ → Type 0
@@ -145,30 +130,23 @@ module _ (l : LayoutParts) (image : List ℕ) where
     too_deep b few h (inl (reached, breaks)) = h.no_push reached breaks
     too_deep b few h (inr (value, comes, high)) = omega (arith, h.total.most value comes)
 
-    passes : (r : Result StackBound StackError) → IsTied r → Answers l image r → Passes (stage r)
+    -- an answer comes where the program passes all rungs below, and not this one
+    comes_at : (r : Result StackBound StackError) → IsTied r → Answers l image r
+        → Passes (stage r) × (Rung (stage r) → ⊥)
     unfolding stage Rung Passes
-    passes (Err Limit) tied h = tt
-    passes (Err (K1 start at)) tied h = (tt, h.0)
-    passes (Err (K2 start at)) tied h = ((tt, h.0), h.1)
-    passes (Err (K3 start at)) tied h = (((tt, h.0), h.1), h.2)
-    passes (Err (K4 start)) tied h = grind arith
-    passes (Err (K5 start at)) tied h = grind arith
-    passes (Err K6) tied h = grind arith
-    passes (Ok b) tied h = grind (arith, too_deep b tied h)
-    passes (Err Memory) tied h = absurd tied
-
-    fails : (r : Result StackBound StackError) → IsTied r → Answers l image r → stage r < 7 → Rung (stage r) → ⊥
-    unfolding stage Rung
-    fails (Err Limit) tied h low k =
-        omega (arith, no_more h.points k.0 h.different (λ p m. k.1.all p (h.only p m)), h.many, k.1.few)
-    fails (Err (K1 start at)) tied h low k = k (record { start = start; address = at }) h.1.0
-    fails (Err (K2 start at)) tied h low k = k (record { start = start; address = at }) h.2.0
-    fails (Err (K3 start at)) tied h low k = k (record { start = start; address = at }) h.3.0
-    fails (Err (K4 start)) tied h low k = k start h.1.cyclic
-    fails (Err (K5 start at)) tied h low k = k (record { start = start; address = at }) h.1.0
-    fails (Err K6) tied h low k = k h.1
-    fails (Ok b) tied h low k = absurd (omega (arith, low))
-    fails (Err Memory) tied h low k = absurd tied
+    comes_at (Err Limit) tied h = (
+      tt,
+      λ k. omega (arith, no_more h.points k.0 h.different (λ p m. k.1.all p (h.only p m)), h.many, k.1.few),
+    )
+    comes_at (Err (K1 start at)) tied h = ((tt, h.0), λ k. k (record { start = start; address = at }) h.1.0)
+    comes_at (Err (K2 start at)) tied h = (((tt, h.0), h.1), λ k. k (record { start = start; address = at }) h.2.0)
+    comes_at (Err (K3 start at)) tied h =
+        ((((tt, h.0), h.1), h.2), λ k. k (record { start = start; address = at }) h.3.0)
+    comes_at (Err (K4 start)) tied h = (grind arith, λ k. k start h.1.cyclic)
+    comes_at (Err (K5 start at)) tied h = (grind arith, λ k. k (record { start = start; address = at }) h.1.0)
+    comes_at (Err K6) tied h = (grind arith, λ k. k h.1)
+    comes_at (Ok b) tied h = (grind (arith, too_deep b tied h), λ k. k)
+    comes_at (Err Memory) tied h = absurd tied
 
     rung_below : (n m : ℕ) → n < m → Passes m → Rung n
     unfolding Passes
@@ -178,16 +156,11 @@ module _ (l : LayoutParts) (image : List ℕ) where
       | inr not_less ↦ let same : m ≡ n = omega (arith, low, not_less) in rw same at h.1
     ]
 
-    few_stages : (r : Result StackBound StackError) → IsTied r → stage r ≤ 7
-    unfolding stage
-    few_stages r tied = grind arith
-
     -- an answer that comes later does not come beside one that comes earlier
     not_before : (r s : Result StackBound StackError) → IsTied r → IsTied s → Answers l image r → Answers l image s
         → stage r < stage s → ⊥
     not_before r s one two h k less =
-        let few = few_stages s two in
-        fails r one h (omega (arith, less, few)) (rung_below (stage r) (stage s) less (passes s two k))
+        (comes_at r one h).1 (rung_below (stage r) (stage s) less (comes_at s two k).0)
 
     at_place : (E : Start → ℕ → StackError) (Is : ReachedAddress → Type 0) (s t : Start) (a b : ℕ)
         → IsLeast Is (Some (record { start = s; address = a })) → IsLeast Is (Some (record { start = t; address = b }))
@@ -225,3 +198,44 @@ module _ (l : LayoutParts) (image : List ℕ) where
 
 pub answer_is_unique : AnswerIsUnique
 answer_is_unique l image sound r s one two h k = one_answer l image sound r s one two h k
+
+module _ (l : LayoutParts) (image : List ℕ) where
+  -- what depths add is added
+  added : (bytes : ℕ) → DepthsAdd l image bytes → Adds l image bytes
+  added _ NoHandler = Nothing
+  added _ (OneHandler v d h k) = One v d k.path h k.takes
+  added _ (TwoHandlers v w d e h k ne i j) = Two v w d e i.path j.path h k ne i.takes j.takes
+
+  -- a sum of depths that is at least this number
+  record AddsAbove (bytes : ℕ) : Type 0 where
+    pub sum : ℕ
+    pub adds : DepthsAdd l image sum
+    pub high : bytes ≤ sum
+
+  module _ (have : HaveDepths l image) where
+    depths_above : (bytes : ℕ) → Adds l image bytes → AddsAbove bytes
+    depths_above _ Nothing = record { sum = 0; adds = NoHandler; high = omega arith }
+    depths_above _ (One v d path h t) =
+        let k = have.handler v h in
+        grind (arith, OneHandler v k.0 h k.1)
+    depths_above _ (Two v w d e path other h k ne t u) =
+        let i = have.handler v h in
+        let j = have.handler w k in
+        grind (arith, TwoHandlers v w i.0 j.0 h k ne i.1 j.1)
+
+    comes : (reset more : ℕ) → IsDepth l image Reset reset → DepthsAdd l image more → ComesTo l image (reset + more)
+    comes reset more d a =
+        grind (arith, added)
+
+    on : (total : ℕ) → IsTotal l image total → IsSumOfDepths l image total
+    on total t =
+        let c = t.comes in
+        let r = have.reset in
+        let a = depths_above c.more c.adds in
+        grind (arith, comes r.0)
+
+    back : (total : ℕ) → IsSumOfDepths l image total → IsTotal l image total
+    back total s = grind (arith, comes s.reset s.more s.reset_is s.adds, depths_above)
+
+pub total_is_sum : TotalIsSumOfDepths
+total_is_sum l image have total = (on l image have total, back l image have total)

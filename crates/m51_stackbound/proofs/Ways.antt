@@ -71,10 +71,7 @@ module _ (l : LayoutParts) (image : List ℕ) (points : List Point) (depths : Li
     one_more : (start : Start) (old : Next) → here.start ≡ start → IsEarliest l image (take i points) depths start old
         → IsEarliest l image (take (i + 1) points) depths start (earlier old way)
     one_more start o s h = record {
-      given = elim (earlier_cases o way) [
-        | inl e ↦ rw e (elim h.given [ inl none ↦ inl none | inr g ↦ inr (kept start o g) ])
-        | inr e ↦ inr (rw e (newest start s))
-      ];
+      given = grind (arith, earlier_cases o way, kept start o, newest start s);
       earliest = λ p k q. elim (front_cases points i d p below k) [
         | inl before ↦ grind arith
         | inr is ↦ rw (← is) (earlier_second o way)

@@ -3,7 +3,7 @@ use Rattle.m51_stackbound.proofs.Common.{arith, At, AreCallRows, CallsThrough}
 use Rattle.m51_stackbound.proofs.CallRows.{rows_are}
 use Rattle.m51_stackbound.proofs.Deciding.{all_low, first_is, none_is}
 use Rattle.m51_stackbound.proofs.Raised.{low_not_cyclic}
-use Rattle.m51_stackbound.proofs.Walks.{leads_from, through_from}
+use Rattle.m51_stackbound.proofs.CallRows.{leads_from, through_from}
 use Rattle.m51_stackbound.proofs.cycling.first_cyclic.Goals as goal
 
 pub returns-then-not-is_too_deep : goal.returns-then-not-is_too_deep

@@ -1,6 +1,6 @@
 use Rattle.m51_stackbound.proofs.Common.{◌≡◌, inl, inr, length, arith, get_or, Reset, point_at, reached_address}
 use Rattle.m51_stackbound.proofs.Common.{NotesPlace}
-use Rattle.m51_stackbound.proofs.Doubled.{doubling_again, doubling_new}
+use Rattle.m51_stackbound.proofs.Leasts.{doubling_again, doubling_new}
 use Rattle.m51_stackbound.proofs.doubling.first_twice.Goals as goal
 use Rattle.m51_stackbound.proofs.doubling.first_twice.Goals.{then-branch, else-branch}
 

@@ -1,4 +1,4 @@
-use Rattle.m51_stackbound.proofs.Walks.{marks_len}
+use Rattle.m51_stackbound.proofs.CallRows.{marks_len}
 use Rattle.m51_stackbound.proofs.ordering.left_in_order.Goals as goal
 use Rattle.m51_stackbound.proofs.ordering.left_in_order.Goals.{in-Some+in_ok-follow}
 use Rattle.m51_stackbound.proofs.ordering.left_in_order.Goals.{in_default+then-first-lt-ADDRESSES+in_ok-enter}

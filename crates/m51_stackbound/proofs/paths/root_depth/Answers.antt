@@ -1,5 +1,5 @@
 use Rattle.m51_stackbound.proofs.Common.{refl}
-use Rattle.m51_stackbound.proofs.Leading.{passed_all, passed_more}
+use Rattle.m51_stackbound.proofs.Deciding.{passed_all, passed_more}
 use Rattle.m51_stackbound.proofs.paths.root_depth.Goals as goal
 
 pub loop-to-preserved : goal.loop-to-preserved

@@ -1,4 +1,4 @@
-use Rattle.m51_stackbound.proofs.Walks.{walk_finds}
+use Rattle.m51_stackbound.proofs.CallRows.{walk_finds}
 use Rattle.m51_stackbound.proofs.walking.calls_itself.Goals as goal
 
 pub returns : goal.returns

@@ -1,5 +1,6 @@
 use Rattle.m51_stackbound.proofs.Common.{arith}
-use Rattle.m51_stackbound.proofs.Walks.{alone, closed_again, same_when}
+use Rattle.std.proofs.lemmas.Bool.{eqb-true}
+use Rattle.m51_stackbound.proofs.CallRows.{alone, closed_again}
 use Rattle.m51_stackbound.proofs.walking.clear.Goals as goal
 
 pub returns : goal.returns
@@ -8,5 +9,5 @@ returns c = record {
   apart = λ e.
       alone _ _ _ _ c.in_ok-walk.ensures c.requires.closed
       (λ k. absurd (cc (c.has.ensures.1 k, c.if-has.false)))
-      (omega (arith, same_when c.len.result c.len-before.result e, c.len.ensures.value, c.len-before.ensures.value));
+      (omega (arith, eqb-true c.len.result c.len-before.result e, c.len.ensures.value, c.len-before.ensures.value));
 }

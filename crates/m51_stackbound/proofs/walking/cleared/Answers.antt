@@ -1,5 +1,5 @@
 use Rattle.m51_stackbound.proofs.Common.{arith, none_in_empty}
-use Rattle.m51_stackbound.proofs.Walks.{cleared_more, cleared_none}
+use Rattle.m51_stackbound.proofs.CallRows.{cleared_more, cleared_none}
 use Rattle.m51_stackbound.proofs.walking.cleared.Goals as goal
 
 pub loop-start-init : goal.loop-start-init

@@ -1,7 +1,7 @@
 use Rattle.std.proofs.Common.{rules}
 use Rattle.m51_module.proofs.KeptRows.{row_is}
 use Rattle.m51_stackbound.proofs.Common.{◌≡◌, ◌<◌, arith, get_or, callee_row}
-use Rattle.m51_stackbound.proofs.Walks.{walk_first, walk_step, walk_done}
+use Rattle.m51_stackbound.proofs.CallRows.{walk_first, walk_step, walk_done}
 use Rattle.m51_stackbound.proofs.walking.walk.Goals as goal
 
 pub loop-next-init : goal.loop-next-init

@@ -1,5 +1,5 @@
 use Rattle.m51_stackbound.proofs.Common.{◌-◌, ◌≤◌, length}
-use Rattle.m51_stackbound.proofs.Walks.{IsWalking}
+use Rattle.m51_stackbound.proofs.CallRows.{IsWalking}
 use Rattle.m51_stackbound.proofs.walking.walk.Given as goal
 
 abbrev pub invariant-loop-next : goal.invariant-loop-next

@@ -1,4 +1,4 @@
-use Rattle.m51_stackbound.proofs.Doubled.{notes_place}
+use Rattle.m51_stackbound.proofs.Leasts.{notes_place}
 use Rattle.m51_stackbound.proofs.doubling.ReachedAddresses.note.Goals as goal
 
 pub returns : goal.returns

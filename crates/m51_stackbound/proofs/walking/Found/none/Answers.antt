@@ -1,5 +1,5 @@
 use Rattle.m51_stackbound.proofs.Common.{arith}
-use Rattle.m51_stackbound.proofs.Walks.{marked_none}
+use Rattle.m51_stackbound.proofs.CallRows.{marked_none}
 use Rattle.m51_stackbound.proofs.walking.Found.none.Goals as goal
 
 pub invariant_of-result : goal.invariant_of-result

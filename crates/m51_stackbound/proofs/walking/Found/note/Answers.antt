@@ -1,5 +1,5 @@
 use Rattle.std.proofs.Common.{rules}
-use Rattle.m51_stackbound.proofs.Walks.{goes_nowhere, goes_one, marked_more}
+use Rattle.m51_stackbound.proofs.CallRows.{goes_nowhere, goes_one, marked_more}
 use Rattle.m51_stackbound.proofs.walking.Found.note.Goals as goal
 
 pub returns-then-has : goal.returns-then-has

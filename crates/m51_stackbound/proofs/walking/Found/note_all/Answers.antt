@@ -1,5 +1,5 @@
 use Rattle.m51_stackbound.proofs.Common.{take_more}
-use Rattle.m51_stackbound.proofs.Walks.{goes_more}
+use Rattle.m51_stackbound.proofs.CallRows.{goes_more}
 use Rattle.m51_stackbound.proofs.walking.Found.note_all.Goals as goal
 
 pub loop-start-preserved : goal.loop-start-preserved

@@ -33,8 +33,7 @@ use Rattle.m51_stackbound.proofs.Adding.{greatest_more, greatest_none}
 use Rattle.m51_stackbound.proofs.CallRows.{calls_all, calls_only}
 use Rattle.m51_stackbound.proofs.Covering.{handler_root, handlers_rise, start_covered}
 use Rattle.m51_stackbound.proofs.Deciding.{all_low, bound_is, covered_noted, depth_above, first_is, lists, none_is}
-use Rattle.m51_stackbound.proofs.Deciding.{total_above}
-use Rattle.m51_stackbound.proofs.Leading.{falls}
+use Rattle.m51_stackbound.proofs.Deciding.{falls, total_above}
 use Rattle.m51_stackbound.proofs.Leasts.{least_more, least_same}
 use Rattle.m51_stackbound.proofs.Noting.{notes_key}
 use Rattle.m51_stackbound.proofs.Procs.{listed_more, listed_none, listed_same, starts_more, starts_none}

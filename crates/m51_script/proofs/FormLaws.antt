@@ -15,8 +15,8 @@ use Rattle.m51_script.specs.Parts.{cut}
 use Rattle.m51_script.specs.Digits.{decimal, hexadecimal}
 use Rattle.m51_script.specs.Grammar.{form_by_word, fill_of, line_form, letter_p, pin_of, port_of, received_as}
 use Rattle.m51_script.specs.Grammar.{receive_of}
-use Rattle.m51_script.specs.Written.{AreBlanks, WritesForm, WritesNumber, WritesCycle, WritesDigit, Fills, Pins, Receives}
-use Rattle.m51_script.specs.Written.{ReceivesBit}
+use Rattle.m51_script.specs.Written.{AreBlanks, WritesForm, WritesNumber, WritesCycle, WritesDigit, Fills, Pins}
+use Rattle.m51_script.specs.Written.{Receives, ReceivesBit}
 use Rattle.m51_script.specs.Laws.{ReadAsWritten}
 use Rattle.std.specs.List.{prefix_len}
 use Rattle.m51_cells.specs.Blanks.{is_blank}

@@ -134,7 +134,7 @@ module _ (l : LayoutParts) (image : List ℕ) (points : List Point) (depths : Li
   called_most start path bytes t =
       omega (arith, low start, takes_most l image points depths are s start path bytes t)
 
-  -- the start goes on no later than a path that gives its depth, and what that path calls has its depth too
+  -- the start continues no later than a path that gives its depth, and what that path calls has its depth too
   abbrev NoLaterThan : Next → List Start → Type 0
   NoLaterThan next [] = IsNoLater next Ends
   NoLaterThan next (Reset ∷ more) = ⊥

@@ -1,6 +1,6 @@
 -- A text is cut at a sign where it was joined by it.
 use Rattle.std.proofs.Common.{◌≡◌, ℕ, ◌+◌, ◌<◌, ◌≤◌, Bool, true, false, not, cond, nat_lt, List, [], ◌∷◌, ◌++◌, length}
-use Rattle.std.proofs.Common.{take, drop, Some, None, refl, sym, subst, ap, ◌∙◌, arith, length-append}
+use Rattle.std.proofs.Common.{take, drop, Some, refl, sym, subst, ap, ◌∙◌, arith, length-append}
 use Rattle.std.specs.List.{list_all, position_or_len, before_first, after_first, slice_split, onto_first}
 use Rattle.std.specs.List.{join_with_byte}
 use Rattle.std.proofs.lemmas.Option.{cond_some}
@@ -63,26 +63,20 @@ cut_sound sign text parts h =
     (ltb-true (position_or_len p text) (length text) found.0) refl)
     ∙ ap (λ (c : List ℕ × List ℕ). c.0 ++ sign ∷ c.1) found.1
 
-cut_where : (sign at : ℕ) (text a b : List ℕ) → position_or_len (is_sign sign) text ≡ at → at < length text
-    → take at text ≡ a → drop (at + 1) text ≡ b → cut_at sign text ≡ Some (a, b)
-cut_where sign at text a b found inside front back =
-    ap (λ n. cond (nat_lt n (length text)) (Some (take n text, drop (n + 1) text)) None) found
-    ∙ ap (λ t. cond t (Some (take at text, drop (at + 1) text)) None) (lt-ltb at (length text) inside)
-    ∙ ap (λ l. Some (l, drop (at + 1) text)) front
-    ∙ ap (λ l. Some (a, l)) back
-
 same_sign : (sign : ℕ) → not (is_sign sign sign) ≡ false
 same_sign sign = ap not (eq-eqb sign sign refl)
 
 -- what is joined by a sign is cut at it, where the first part lacks it
 pub cut_complete : (sign : ℕ) (a b : List ℕ) → Lacks sign a → cut_at sign (a ++ sign ∷ b) ≡ Some (a, b)
 cut_complete sign a b lacks =
-    cut_where sign (length a) (a ++ sign ∷ b) a b
-    (run_len (λ c. not (is_sign sign c)) a (sign ∷ b) lacks
-    (stops_at (λ c. not (is_sign sign c)) sign b (same_sign sign)))
-    (omega (arith, length-append a (sign ∷ b)))
-    (take-append_seam a (sign ∷ b))
-    (drop-append-add a (sign ∷ b) 1)
+    let inside : length a < length (a ++ sign ∷ b) = omega (arith, length-append a (sign ∷ b)) in
+    rw (
+      run_len (λ c. not (is_sign sign c)) a (sign ∷ b) lacks
+          (stops_at (λ c. not (is_sign sign c)) sign b (same_sign sign)),
+      lt-ltb (length a) (length (a ++ sign ∷ b)) inside,
+      take-append_seam a (sign ∷ b),
+      drop-append-add a (sign ∷ b) 1,
+    ) refl
 
 split_step : (p : ℕ → Bool) (x : ℕ) (a rest : List ℕ) (parts : List (List ℕ)) (b : Bool) → not b ≡ true
     → slice_split p rest ≡ a ∷ parts → cond b ([] ∷ slice_split p rest) (onto_first x (slice_split p rest))

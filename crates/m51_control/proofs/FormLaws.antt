@@ -1,7 +1,6 @@
 -- Controls are read where they are written.
-use Rattle.std.proofs.Common.{◌≡◌, ℕ, Bool, true, false, not, ◌||◌, cond, List, [], ◌∷◌, ◌++◌, codes, Option, Some}
+use Rattle.std.proofs.Common.{◌≡◌, ℕ, Bool, true, false, not, ◌||◌, List, [], ◌∷◌, ◌++◌, codes, Some}
 use Rattle.std.proofs.Common.{None, refl, sym, ap, ◌∙◌, subst, arith}
-use Rattle.std.specs.Option.{option_and_then}
 use Rattle.std.specs.List.{list_all, list_any}
 use Rattle.std.specs.Str.{bytes_eq}
 use Rattle.std.proofs.lemmas.Slice.Eq.{bytes_eq-Decides}
@@ -25,7 +24,7 @@ use Rattle.m51_control.proofs.CutLaws.{cut_sound, cut_complete}
 use Rattle.m51_control.proofs.PartLaws.{is_field_byte, field_lacks}
 use Rattle.m51_control.proofs.NameLaws.{name_sound, name_complete, name_field, names_sound, names_complete, names_bytes}
 use Rattle.m51_control.proofs.NameLaws.{is_list_byte, word_sound, word_complete, word_field}
-use Rattle.m51_control.proofs.ReserveLaws.{WritesBounds, WritesReserve, reserve_sound, reserve_complete}
+use Rattle.m51_control.proofs.ReserveLaws.{number_complete, number_field, range_test, reserve_sound}
 
 add_says : (word inside : List ℕ) (control : Control) → word ≡ codes "OVERLAY" → add inside ≡ Some control
     → Says word inside control
@@ -118,7 +117,7 @@ none_any p [] h = refl
 none_any p (x ∷ xs) h =
     let parts : (not (p x) ≡ true) × (list_all (λ b. not (p b)) xs ≡ true) =
     and_parts (not (p x)) (list_all (λ b. not (p b)) xs) h in
-    ap (λ t. t || list_any p xs) (not-true (p x) parts.0) ∙ none_any p xs parts.1
+    rw (not-true (p x) parts.0) (none_any p xs parts.1)
 
 has_sign : (sign : ℕ) (a b : List ℕ) → list_any (is_sign sign) (a ++ sign ∷ b) ≡ true
 has_sign sign a b =
@@ -126,118 +125,75 @@ has_sign sign a b =
     ∙ or_right (list_any (is_sign sign) a) (list_any (is_sign sign) (sign ∷ b))
     (ap (λ t. t || list_any (is_sign sign) b) (eq-eqb sign sign refl))
 
--- the calls of a unit to others, made into a control
-abbrev calls : (List ℕ → List (List ℕ) → Control) → List ℕ × List ℕ → Option Control
-calls make cut =
-    option_and_then (λ from. option_and_then (λ to. Some (make from to)) (names_in role.Unit cut.1))
-    (trimmed_name role.Unit cut.0)
-
-calls_again : (make : List ℕ → List (List ℕ) → Control) (sign : ℕ) (left right from : List ℕ) (to : List (List ℕ))
-    → is_field_byte sign ≡ false → WritesName role.Unit left from → WritesNames role.Unit right to
-    → option_and_then (calls make) (cut_at sign (left ++ sign ∷ right)) ≡ Some (make from to)
-calls_again make sign left right from to other u us =
-    ap (λ o. option_and_then (calls make) o)
-    (cut_complete sign left right (field_lacks sign other left (name_field role.Unit left from u)))
-    ∙ ap (λ o. option_and_then (λ f. option_and_then (λ t. Some (make f t)) (names_in role.Unit right)) o)
-    (name_complete role.Unit left from u)
-    ∙ ap (λ o. option_and_then (λ t. Some (make from t)) o) (names_complete role.Unit right to us)
-
 not_greater : (b : ℕ) → is_list_byte b ≡ true → not (is_sign greater b) ≡ true
 not_greater b h = grind (arith, nat_tests, h)
 
 field_not_greater : (b : ℕ) → is_field_byte b ≡ true → not (is_sign greater b) ≡ true
 field_not_greater b h = grind (arith, nat_tests, h)
 
-overlay_adds : (left right from : List ℕ) (to : List (List ℕ)) → WritesName role.Unit left from
-    → WritesNames role.Unit right to → overlay (left ++ greater ∷ right) ≡ Some (Add from to)
-overlay_adds left right from to u us =
-    let inside = left ++ greater ∷ right in
-    ap (λ t. cond t (add inside) (cut inside)) (has_sign greater left right)
-    ∙ calls_again Add greater left right from to refl u us
-
-overlay_cuts : (left right from : List ℕ) (to : List (List ℕ)) → WritesName role.Unit left from
-    → WritesNames role.Unit right to → overlay (left ++ tilde ∷ right) ≡ Some (Cut from to)
-overlay_cuts left right from to u us =
-    let inside = left ++ tilde ∷ right in
-    let none : list_any (is_sign greater) inside ≡ false = none_any (is_sign greater) inside
+no_greater : (left right from : List ℕ) (to : List (List ℕ)) → WritesName role.Unit left from
+    → WritesNames role.Unit right to → list_any (is_sign greater) (left ++ tilde ∷ right) ≡ false
+no_greater left right from to u us =
+    none_any (is_sign greater) (left ++ tilde ∷ right)
     (pass_append (λ b. not (is_sign greater b)) left (tilde ∷ right)
     (weaker is_field_byte (λ b. not (is_sign greater b)) field_not_greater left (name_field role.Unit left from u))
-    (weaker is_list_byte (λ b. not (is_sign greater b)) not_greater right (names_bytes role.Unit right to us))) in
-    ap (λ t. cond t (add inside) (cut inside)) none ∙ calls_again Cut tilde left right from to refl u us
-
-order_again : (text list name : List ℕ) (class : Class) (segments : List (List ℕ)) → WritesWord text name
-    → class_named name ≡ Some class → WritesNames role.Segment list segments → order (text ++ comma ∷ list)
-    ≡ Some (Order class segments)
-order_again text list name class segments w is us =
-    ap (λ o. option_and_then
-    (λ (ordered : Class × List ℕ). option_and_then (λ s. Some (Order ordered.0 s))
-    (names_in role.Segment ordered.1))
-    (option_and_then
-    (λ (cut : List ℕ × List ℕ). option_and_then (λ word. option_and_then (λ c. Some (c, cut.1)) (class_named word))
-    (word_in cut.0)) o))
-    (cut_complete comma text list (field_lacks comma refl text (word_field text name w)))
-    ∙ ap (λ o. option_and_then
-    (λ (ordered : Class × List ℕ). option_and_then (λ s. Some (Order ordered.0 s)) (names_in role.Segment ordered.1))
-    (option_and_then (λ word. option_and_then (λ c. Some (c, list)) (class_named word)) o)) (word_complete text name w)
-    ∙ ap (λ o. option_and_then
-    (λ (ordered : Class × List ℕ). option_and_then (λ s. Some (Order ordered.0 s)) (names_in role.Segment ordered.1))
-    (option_and_then (λ c. Some (c, list)) o)) is
-    ∙ ap (λ o. option_and_then (λ s. Some (Order class s)) o) (names_complete role.Segment list segments us)
-
-by_overlay : (inside : List ℕ) → by_word (codes "OVERLAY") inside ≡ overlay inside
-unfolding by_word
-by_overlay inside = refl
-
-by_keep : (inside : List ℕ) → by_word (codes "NOOVERLAY") inside ≡ no_overlay inside
-unfolding by_word
-by_keep inside = refl
-
-by_reserve : (inside : List ℕ) → by_word (codes "RESERVE") inside ≡ reserve inside
-unfolding by_word
-by_reserve inside = refl
-
-by_order : (inside : List ℕ) → by_word (codes "ORDER") inside ≡ order inside
-unfolding by_word
-by_order inside = refl
+    (weaker is_list_byte (λ b. not (is_sign greater b)) not_greater right (names_bytes role.Unit right to us)))
 
 pub says_complete : (word inside : List ℕ) (control : Control) → Says word inside control → by_word word inside
     ≡ Some control
+unfolding by_word
 says_complete word inside control (Adds {left = left} {right = right} {from = from} {to = to} is u us joined says) =
-    ap (λ w. by_word w inside) is ∙ by_overlay inside ∙ ap overlay joined ∙ overlay_adds left right from to u us
-    ∙ ap Some (sym says)
+    rw (
+      says,
+      joined,
+      is,
+      has_sign greater left right,
+      cut_complete greater left right (field_lacks greater refl left (name_field role.Unit left from u)),
+      name_complete role.Unit left from u,
+      names_complete role.Unit right to us,
+    ) refl
 says_complete word inside control (Cuts {left = left} {right = right} {from = from} {to = to} is u us joined says) =
-    ap (λ w. by_word w inside) is ∙ by_overlay inside ∙ ap overlay joined ∙ overlay_cuts left right from to u us
-    ∙ ap Some (sym says)
+    rw (
+      says,
+      joined,
+      is,
+      no_greater left right from to u us,
+      cut_complete tilde left right (field_lacks tilde refl left (name_field role.Unit left from u)),
+      name_complete role.Unit left from u,
+      names_complete role.Unit right to us,
+    ) refl
 says_complete word inside control (Keeps {unit = unit} is u says) =
-    ap (λ w. by_word w inside) is ∙ by_keep inside
-    ∙ ap (λ o. option_and_then (λ n. Some (NoOverlay n)) o) (name_complete role.Unit inside unit u)
-    ∙ ap Some (sym says)
+    rw (says, is, name_complete role.Unit inside unit u) refl
 says_complete word inside control
     (Reserves {text = text} {memory = memory} {lo = lo} {hi = hi} {space = space} {low = low} {high = high} blanks is w
-    trimmed_name lo_is hi_is fits blank joined says) =
-    let range : WritesBounds (lo ++ hyphen ∷ hi) (low, high) =
-    record { lo = lo; hi = hi; low = lo_is; high = hi_is; is = refl } in
-    let whole : WritesReserve inside control =
-    record {
-      text = text;
-      word = memory;
-      range = lo ++ hyphen ∷ hi;
-      blanks = blanks;
-      memory = space;
-      bounds =
-          (low, high);
-      is_word = w;
-      is_memory = trimmed_name;
-      is_range = range;
-      fits = fits;
-      blank = blank;
-      is =
-          joined;
-      says = says;
-    } in
-    ap (λ w. by_word w inside) is ∙ by_reserve inside ∙ reserve_complete inside control whole
+    named lo_is hi_is fits blank joined says) =
+    let range = lo ++ hyphen ∷ hi in
+    rw (
+      says,
+      joined,
+      is,
+      cut_complete open_parenthesis text (range ++ close_parenthesis ∷ blanks)
+          (field_lacks open_parenthesis refl text (word_field text memory w)),
+      word_complete text memory w,
+      named,
+      cut_complete close_parenthesis range blanks
+          (pass_append (λ c. not (is_sign close_parenthesis c)) lo (hyphen ∷ hi)
+          (field_lacks close_parenthesis refl lo (number_field lo low lo_is))
+          (field_lacks close_parenthesis refl hi (number_field hi high hi_is))),
+      blank,
+      cut_complete hyphen lo hi (field_lacks hyphen refl lo (number_field lo low lo_is)),
+      number_complete lo low lo_is,
+      number_complete hi high hi_is,
+      range_test space low high fits,
+    ) refl
 says_complete word inside control
-    (Orders {text = text} {name = name} {list = list} {class = class} {segments = segments} is w trimmed_name us joined
-    says) =
-    ap (λ w. by_word w inside) is ∙ by_order inside ∙ ap order joined
-    ∙ order_again text list name class segments w trimmed_name us ∙ ap Some (sym says)
+    (Orders {text = text} {name = name} {list = list} {class = class} {segments = segments} is w named us joined says) =
+    rw (
+      says,
+      joined,
+      is,
+      cut_complete comma text list (field_lacks comma refl text (word_field text name w)),
+      word_complete text name w,
+      named,
+      names_complete role.Segment list segments us,
+    ) refl

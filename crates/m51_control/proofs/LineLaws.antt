@@ -47,11 +47,12 @@ last_complete sign front =
     let len : length text - 1 ≡ length front = omega (arith, length-append front (sign ∷ [])) in
     let some : nat_lt 0 (length text) ≡ true =
     lt-ltb 0 (length text) (omega (arith, length-append front (sign ∷ []))) in
-    ap (λ n. cond (nat_lt 0 (length text) && is_sign sign (slice_index text n)) (Some (take n text)) None) len
-    ∙ ap (λ t. cond (t && is_sign sign (slice_index text (length front))) (Some (take (length front) text)) None) some
-    ∙ ap (λ t. cond t (Some (take (length front) text)) None)
-    (eq-eqb (slice_index text (length front)) sign (get_or-append_seam front sign [] 0))
-    ∙ ap Some (take-append_seam front (sign ∷ []))
+    rw (
+      len,
+      some,
+      eq-eqb (slice_index text (length front)) sign (get_or-append_seam front sign [] 0),
+      take-append_seam front (sign ∷ []),
+    ) refl
 
 -- a word, and the text in the parentheses after it
 record WritesCall (line : List ℕ) (call : List ℕ × List ℕ) : Type 0 where
@@ -80,29 +81,6 @@ call_sound line call h =
     } in
     subst (λ (c : List ℕ × List ℕ). WritesCall line c) (same_Some (word.value, inside.value) call inside.goes) whole
 
-call_complete : (line : List ℕ) (call : List ℕ × List ℕ) → WritesCall line call → call_of line ≡ Some call
-call_complete line call w =
-    let front = w.part ++ w.blanks in
-    let after = call.1 ++ close_parenthesis ∷ [] in
-    let each : list_all is_part_byte w.part ≡ true = (name_part w.part call.0 w.is_word).each in
-    let lacks : Lacks open_parenthesis front =
-    field_lacks open_parenthesis refl front
-    (pass_append is_field_byte w.part w.blanks (weaker is_part_byte is_field_byte part_field w.part each)
-    (weaker is_blank is_field_byte blank_field w.blanks w.blank)) in
-    ap call_of w.is
-    ∙ ap (λ o. option_and_then
-    (λ (cut : List ℕ × List ℕ). option_and_then
-    (λ part. option_and_then
-    (λ word. option_and_then (λ inside. Some (word, inside)) (before_last close_parenthesis cut.1)) (name_of part))
-    (before_blanks cut.0)) o) (cut_complete open_parenthesis front after lacks)
-    ∙ ap (λ o. option_and_then
-    (λ part. option_and_then
-    (λ word. option_and_then (λ inside. Some (word, inside)) (before_last close_parenthesis after)) (name_of part)) o)
-    (before_complete w.part w.blanks each w.blank)
-    ∙ ap (λ o. option_and_then
-    (λ word. option_and_then (λ inside. Some (word, inside)) (before_last close_parenthesis after)) o) w.is_word
-    ∙ ap (λ o. option_and_then (λ inside. Some (call.0, inside)) o) (last_complete close_parenthesis call.1)
-
 long_or_not : (control : Control) (line : List ℕ) (t : Bool) → nat_lt MOST_LINE_BYTES (length line) ≡ t
     → cond t None (option_and_then (λ (call : List ℕ × List ℕ). by_word call.0 call.1) (call_of line)) ≡ Some control
     → SpellsLine line control
@@ -124,13 +102,21 @@ long_or_not control line false long h =
 
 line_complete : (line : List ℕ) (control : Control) → SpellsLine line control → control_of line ≡ Some control
 line_complete line control w =
-    let call : WritesCall line (w.word, w.inside) =
-    record { part = w.part; blanks = w.blanks; is_word = w.is_word; blank = w.blank; is = w.is } in
-    ap (λ t. cond t None (option_and_then (λ (call : List ℕ × List ℕ). by_word call.0 call.1) (call_of line)))
-    (le-ltb MOST_LINE_BYTES (length line) w.short)
-    ∙ ap (λ o. option_and_then (λ (call : List ℕ × List ℕ). by_word call.0 call.1) o)
-    (call_complete line (w.word, w.inside) call)
-    ∙ says_complete w.word w.inside control w.says
+    let front = w.part ++ w.blanks in
+    let each : list_all is_part_byte w.part ≡ true = (name_part w.part w.word w.is_word).each in
+    let lacks : Lacks open_parenthesis front =
+    field_lacks open_parenthesis refl front
+    (pass_append is_field_byte w.part w.blanks (weaker is_part_byte is_field_byte part_field w.part each)
+    (weaker is_blank is_field_byte blank_field w.blanks w.blank)) in
+    rw (
+      le-ltb MOST_LINE_BYTES (length line) w.short,
+      w.is,
+      cut_complete open_parenthesis front (w.inside ++ close_parenthesis ∷ []) lacks,
+      before_complete w.part w.blanks each w.blank,
+      w.is_word,
+      last_complete close_parenthesis w.inside,
+    )
+    (says_complete w.word w.inside control w.says)
 
 -- what is read of a line is what is written in it
 pub line_law : (line : List ℕ) (control : Control) → (control_of line ≡ Some control) ↔ SpellsLine line control

@@ -3,7 +3,6 @@ use Rattle.std.proofs.Common.{◌≡◌, ℕ, ◌<◌, Bool, true, false, not, �
 use Rattle.std.proofs.Common.{◌∷◌, length, map, Option, Some, None, refl, sym, ap, ◌∙◌, subst, arith}
 use Rattle.std.specs.Char.{is_ascii_digit, digit_value as value_of, to_ascii_uppercase}
 use Rattle.std.specs.List.{list_all, slice_split, join_with_byte}
-use Rattle.std.specs.Option.{option_and_then}
 use Rattle.std.proofs.lemmas.Option.{cond_some}
 use Rattle.std.proofs.lemmas.List.Splits.{join_with_byte-slice_split, length-slice_split}
 use Rattle.std.proofs.lemmas.Bool.Decides.{nat_tests}
@@ -89,9 +88,7 @@ name_sound r text name h =
     record { part = step.value; surrounds = part_sound text step.value step.found; is = step.goes }
 
 pub name_complete : (r : Role) (text name : List ℕ) → WritesName r text name → trimmed_name r text ≡ Some name
-name_complete r text name w =
-    ap (λ o. option_and_then (name_as r) o) (part_complete text w.part w.surrounds (named_part r w.part name w.is))
-    ∙ w.is
+name_complete r text name w = rw (part_complete text w.part w.surrounds (named_part r w.part name w.is)) w.is
 
 pub name_field : (r : Role) (text name : List ℕ) → WritesName r text name → list_all is_field_byte text ≡ true
 name_field r text name w = field_bytes text w.part w.surrounds (named_part r w.part name w.is)
@@ -102,8 +99,7 @@ word_sound text word h =
     record { part = step.value; surrounds = part_sound text step.value step.found; is = step.goes }
 
 pub word_complete : (text word : List ℕ) → WritesWord text word → word_in text ≡ Some word
-word_complete text word w =
-    ap (λ o. option_and_then name_of o) (part_complete text w.part w.surrounds (name_part w.part word w.is)) ∙ w.is
+word_complete text word w = rw (part_complete text w.part w.surrounds (name_part w.part word w.is)) w.is
 
 pub word_field : (text word : List ℕ) → WritesWord text word → list_all is_field_byte text ≡ true
 word_field text word w = field_bytes text w.part w.surrounds (name_part w.part word w.is)
@@ -131,9 +127,7 @@ all_complete r [] [] h = refl
 all_complete r [] (name ∷ names) h = absurd h
 all_complete r (text ∷ texts) [] h = absurd h
 all_complete r (text ∷ texts) (name ∷ names) h =
-    ap (λ o. option_and_then (λ n. option_and_then (λ ns. Some (n ∷ ns)) (all_named r texts)) o)
-    (name_complete r text name h.0)
-    ∙ ap (λ o. option_and_then (λ ns. Some (name ∷ ns)) o) (all_complete r texts names h.1)
+    rw (name_complete r text name h.0, all_complete r texts names h.1) refl
 
 pub names_sound : (r : Role) (text : List ℕ) (names : List (List ℕ)) → names_in r text ≡ Some names
     → WritesNames r text names

@@ -1,6 +1,6 @@
 -- The part of a text, with blanks before and after it.
-use Rattle.std.proofs.Common.{◌≡◌, ℕ, ◌<◌, Bool, true, false, not, ◌||◌, ◌==◌, cond, List, [], ◌∷◌, ◌++◌, length, take}
-use Rattle.std.proofs.Common.{drop, Some, None, refl, sym, ap, ◌∙◌, arith}
+use Rattle.std.proofs.Common.{◌≡◌, ℕ, ◌<◌, Bool, true, false, not, ◌||◌, ◌==◌, List, [], ◌∷◌, ◌++◌, length, take}
+use Rattle.std.proofs.Common.{drop, Some, refl, sym, ap, ◌∙◌, arith}
 use Rattle.std.specs.List.{list_all, prefix_len, position_or_len}
 use Rattle.std.proofs.lemmas.Option.{cond_some}
 use Rattle.std.proofs.Math.Seq.{take-append_seam, drop-append_seam}
@@ -67,13 +67,13 @@ stops_blank (b ∷ blanks) all =
 pub before_complete : (part blanks : List ℕ) → list_all is_part_byte part ≡ true → AreBlanks blanks
     → before_blanks (part ++ blanks) ≡ Some part
 before_complete part blanks each blank =
-    let text = part ++ blanks in
-    ap (λ n. cond (list_all is_blank (drop n text)) (Some (take n text)) None)
-    (run_len (λ b. not (is_blank b)) part blanks (weaker is_part_byte (λ b. not (is_blank b)) not_blank part each)
-    (stops_blank blanks blank))
-    ∙ ap (λ l. cond (list_all is_blank l) (Some (take (length part) text)) None) (drop-append_seam part blanks)
-    ∙ ap (λ t. cond t (Some (take (length part) text)) None) blank
-    ∙ ap Some (take-append_seam part blanks)
+    rw (
+      run_len (λ b. not (is_blank b)) part blanks (weaker is_part_byte (λ b. not (is_blank b)) not_blank part each)
+          (stops_blank blanks blank),
+      drop-append_seam part blanks,
+      blank,
+      take-append_seam part blanks,
+    ) refl
 
 stops_part : (part rest : List ℕ) → IsPart part → prefix_len is_blank (part ++ rest) ≡ 0
 stops_part [] rest h = absurd (omega (arith, h.some))
@@ -84,11 +84,8 @@ stops_part (b ∷ part) rest h =
 pub part_complete : (text part : List ℕ) → Surrounds part text → IsPart part → single_part text ≡ Some part
 part_complete text part s h =
     let rest = part ++ s.after in
-    ap single_part s.is
-    ∙ ap (λ n. before_blanks (drop n (s.before ++ rest)))
-    (run_len is_blank s.before rest s.blank_before (stops_part part s.after h))
-    ∙ ap before_blanks (drop-append_seam s.before rest)
-    ∙ before_complete part s.after h.each s.blank_after
+    rw (s.is, run_len is_blank s.before rest s.blank_before (stops_part part s.after h), drop-append_seam s.before rest)
+    (before_complete part s.after h.each s.blank_after)
 
 pub blank_field : (b : ℕ) → is_blank b ≡ true → is_field_byte b ≡ true
 blank_field b h = ap (λ t. t || is_part_byte b) h

@@ -1,27 +1,24 @@
 -- Reserves are read where they are written.
-use Rattle.std.proofs.Common.{◌≡◌, ℕ, ◌-◌, true, not, cond, nat_lt, nat_le, ◌&&◌, List, [], ◌∷◌, ◌++◌, Some, None, refl}
+use Rattle.std.proofs.Common.{◌≡◌, ℕ, true, List, [], ◌∷◌, ◌++◌, Some}
 use Rattle.std.proofs.Common.{sym, ap, ◌∙◌, subst, arith}
 use Rattle.std.specs.Char.{is_ascii_alphanumeric}
-use Rattle.std.specs.Option.{option_and_then}
 use Rattle.std.specs.List.{list_all}
 use Rattle.std.proofs.lemmas.Option.{cond_some, same_Some}
 use Rattle.std.proofs.lemmas.Bool.Decides.{nat_tests}
-use Rattle.std.proofs.lemmas.Bool.{and_from, and_parts, le-leb, leb-true, lt-ltb, ltb-true}
 use Rattle.m51_cells.specs.declared.cell.Space.{Space}
 use Rattle.m51_cells.specs.declared.cell.Space.TheVariants as space
 use Rattle.m51_lex.specs.Tokens.{tokens_of}
-use Rattle.m51_cells.proofs.Passing.{goes_on, guarded, pass_append, weaker}
+use Rattle.m51_cells.proofs.Passing.{goes_on, guarded, weaker}
 use Rattle.m51_control.specs.declared.control.Control.{Control}
 use Rattle.m51_control.specs.declared.control.Control.TheVariants.{Reserve}
 use Rattle.m51_cells.specs.Blanks.{is_blank}
-use Rattle.m51_control.specs.Parts.{open_parenthesis, close_parenthesis, hyphen, is_sign, cut_at, single_part, word_in}
+use Rattle.m51_control.specs.Parts.{open_parenthesis, close_parenthesis, hyphen, cut_at, single_part, word_in}
 use Rattle.m51_control.specs.Reserve.{number_of_tokens, assembler_number, trimmed_number, bounds_of, space_of, is_range}
-use Rattle.m51_control.specs.Reserve.{IsRange, reserve_of, until_closing, reserved_memory, reserve}
+use Rattle.m51_control.specs.Reserve.{IsRange, until_closing, reserved_memory, reserve}
 use Rattle.m51_control.specs.Written.{AreBlanks, WritesWord, WritesNumber}
-use Rattle.m51_control.proofs.CutLaws.{Lacks, cut_sound, cut_complete}
+use Rattle.m51_control.proofs.CutLaws.{cut_sound}
 use Rattle.m51_control.proofs.PartLaws.{is_part_byte, is_field_byte, IsPart, part_sound, part_complete, field_bytes}
-use Rattle.m51_control.proofs.PartLaws.{field_lacks}
-use Rattle.m51_control.proofs.NameLaws.{word_sound, word_complete, word_field}
+use Rattle.m51_control.proofs.NameLaws.{word_sound}
 
 digit_byte : (b : ℕ) → is_ascii_alphanumeric b ≡ true → is_part_byte b ≡ true
 digit_byte b h = grind (arith, nat_tests, h)
@@ -37,12 +34,11 @@ number_sound text number h =
     let step = goes_on assembler_number (single_part text) number h in
     record { part = step.value; surrounds = part_sound text step.value step.found; is = step.goes }
 
-number_complete : (text : List ℕ) (number : ℕ) → WritesNumber text number → trimmed_number text ≡ Some number
+pub number_complete : (text : List ℕ) (number : ℕ) → WritesNumber text number → trimmed_number text ≡ Some number
 number_complete text number w =
-    ap (λ o. option_and_then assembler_number o)
-    (part_complete text w.part w.surrounds (number_part w.part number w.is)) ∙ w.is
+    rw (part_complete text w.part w.surrounds (number_part w.part number w.is)) w.is
 
-number_field : (text : List ℕ) (number : ℕ) → WritesNumber text number → list_all is_field_byte text ≡ true
+pub number_field : (text : List ℕ) (number : ℕ) → WritesNumber text number → list_all is_field_byte text ≡ true
 number_field text number w = field_bytes text w.part w.surrounds (number_part w.part number w.is)
 
 -- two numbers with a hyphen between them
@@ -67,27 +63,6 @@ bounds_sound text bounds h =
     } in
     subst (λ (b : ℕ × ℕ). WritesBounds text b) (same_Some (low.value, high.value) bounds high.goes) whole
 
-pub bounds_complete : (text : List ℕ) (bounds : ℕ × ℕ) → WritesBounds text bounds → bounds_of text ≡ Some bounds
-bounds_complete text bounds w =
-    ap bounds_of w.is
-    ∙ ap (λ o. option_and_then
-    (λ (cut : List ℕ × List ℕ). option_and_then
-    (λ low. option_and_then (λ high. Some (low, high)) (trimmed_number cut.1)) (trimmed_number cut.0)) o)
-    (cut_complete hyphen w.lo w.hi (field_lacks hyphen refl w.lo (number_field w.lo bounds.0 w.low)))
-    ∙ ap (λ o. option_and_then (λ low. option_and_then (λ high. Some (low, high)) (trimmed_number w.hi)) o)
-    (number_complete w.lo bounds.0 w.low)
-    ∙ ap (λ o. option_and_then (λ high. Some (bounds.0, high)) o) (number_complete w.hi bounds.1 w.high)
-
-lacks_append : (sign : ℕ) (a b : List ℕ) → Lacks sign a → Lacks sign b → Lacks sign (a ++ b)
-lacks_append sign a b h k = pass_append (λ c. not (is_sign sign c)) a b h k
-
-bounds_lack : (text : List ℕ) (bounds : ℕ × ℕ) → WritesBounds text bounds → Lacks close_parenthesis text
-bounds_lack text bounds w =
-    ap (list_all (λ c. not (is_sign close_parenthesis c))) w.is
-    ∙ lacks_append close_parenthesis w.lo (hyphen ∷ w.hi)
-    (field_lacks close_parenthesis refl w.lo (number_field w.lo bounds.0 w.low))
-    (field_lacks close_parenthesis refl w.hi (number_field w.hi bounds.1 w.high))
-
 pub closed_sound : (text inside : List ℕ) → until_closing text ≡ Some inside → (blanks : List ℕ) × AreBlanks blanks
     × (text ≡ inside ++ close_parenthesis ∷ blanks)
 closed_sound text inside h =
@@ -99,29 +74,15 @@ closed_sound text inside h =
           ∙ ap (λ l. l ++ close_parenthesis ∷ cut.value.1) tests.1,
     )
 
-pub closed_complete : (inside blanks : List ℕ) → Lacks close_parenthesis inside → AreBlanks blanks
-    → until_closing (inside ++ close_parenthesis ∷ blanks) ≡ Some inside
-closed_complete inside blanks lacks blank =
-    ap (λ o. option_and_then (λ (cut : List ℕ × List ℕ). cond (list_all is_blank cut.1) (Some cut.0) None) o)
-    (cut_complete close_parenthesis inside blanks lacks)
-    ∙ ap (λ t. cond t (Some inside) None) blank
-
 range_fact : (memory : Space) (low high : ℕ) → is_range memory low high ≡ true → IsRange memory low high
-range_fact space.Ram low high h =
-    let tests = and_parts (nat_le low high) (nat_le high 0xFF) h in
-    (leb-true low high tests.0, leb-true high 0xFF tests.1)
+range_fact space.Ram low high h = (grind (arith, nat_tests, h), grind (arith, nat_tests, h))
 range_fact space.Xram low high h =
-    let tests = and_parts (nat_le low high) (nat_le high 0xFFFF && nat_lt (high - low) 65535) h in
-    let ends = and_parts (nat_le high 0xFFFF) (nat_lt (high - low) 65535) tests.1 in
-    (leb-true low high tests.0, leb-true high 0xFFFF ends.0, ltb-true (high - low) 65535 ends.1)
+    (grind (arith, nat_tests, h), grind (arith, nat_tests, h), grind (arith, nat_tests, h))
 range_fact space.Code low high h = absurd (cc)
 
-range_test : (memory : Space) (low high : ℕ) → IsRange memory low high → is_range memory low high ≡ true
-range_test space.Ram low high h =
-    and_from (nat_le low high) (nat_le high 0xFF) (le-leb low high h.0) (le-leb high 0xFF h.1)
-range_test space.Xram low high h =
-    and_from (nat_le low high) (nat_le high 0xFFFF && nat_lt (high - low) 65535) (le-leb low high h.0)
-    (and_from (nat_le high 0xFFFF) (nat_lt (high - low) 65535) (le-leb high 0xFFFF h.1) (lt-ltb (high - low) 65535 h.2))
+pub range_test : (memory : Space) (low high : ℕ) → IsRange memory low high → is_range memory low high ≡ true
+range_test space.Ram low high h = grind (arith, nat_tests, h.0, h.1)
+range_test space.Xram low high h = grind (arith, nat_tests, h.0, h.1, h.2)
 range_test space.Code low high h = absurd h
 
 -- what a reserve is written of
@@ -193,41 +154,3 @@ reserve_sound inside control h =
       is = written.is;
       says = sym tests.1;
     }
-
-memory_complete : (inside : List ℕ) (memory : Space × List ℕ) → Lacks close_parenthesis memory.1
-    → WritesMemory inside memory → reserved_memory inside ≡ Some memory
-memory_complete inside memory lacks w =
-    let after = memory.1 ++ close_parenthesis ∷ w.blanks in
-    ap reserved_memory w.is
-    ∙ ap (λ o. option_and_then
-    (λ (cut : List ℕ × List ℕ). option_and_then
-    (λ word. option_and_then (λ m. option_and_then (λ i. Some (m, i)) (until_closing cut.1)) (space_of word))
-    (word_in cut.0)) o)
-    (cut_complete open_parenthesis w.text after
-    (field_lacks open_parenthesis refl w.text (word_field w.text w.word w.is_word)))
-    ∙ ap (λ o. option_and_then
-    (λ word. option_and_then (λ m. option_and_then (λ i. Some (m, i)) (until_closing after)) (space_of word)) o)
-    (word_complete w.text w.word w.is_word)
-    ∙ ap (λ o. option_and_then (λ m. option_and_then (λ i. Some (m, i)) (until_closing after)) o) w.is_memory
-    ∙ ap (λ o. option_and_then (λ i. Some (memory.0, i)) o) (closed_complete memory.1 w.blanks lacks w.blank)
-
-pub reserve_complete : (inside : List ℕ) (control : Control) → WritesReserve inside control → reserve inside
-    ≡ Some control
-reserve_complete inside control w =
-    let parts : WritesMemory inside (w.memory, w.range) =
-    record {
-      text = w.text;
-      word = w.word;
-      blanks = w.blanks;
-      is_word = w.is_word;
-      is_memory = w.is_memory;
-      blank =
-          w.blank;
-      is = w.is;
-    } in
-    ap (λ o. option_and_then (λ (m : Space × List ℕ). option_and_then (reserve_of m.0) (bounds_of m.1)) o)
-    (memory_complete inside (w.memory, w.range) (bounds_lack w.range w.bounds w.is_range) parts)
-    ∙ ap (λ o. option_and_then (reserve_of w.memory) o) (bounds_complete w.range w.bounds w.is_range)
-    ∙ ap (λ t. cond t (Some (Reserve w.memory w.bounds.0 w.bounds.1)) None)
-    (range_test w.memory w.bounds.0 w.bounds.1 w.fits)
-    ∙ ap Some (sym w.says)

@@ -3,23 +3,18 @@
 use Rattle.m51_asm.proofs
 use Rattle.m51_asm.specs
 use proofs.Common.{◌≡◌, ℕ, zero, suc, ◌+◌, ◌<◌, ◌≤◌, List, [], ◌∷◌, length, Option, Some, None, refl, ap, slice_get}
-use proofs.Common.{arith, LineTree, Assignment, content_faults, Faults, first_fault, content_or_faults, AreFree}
-use proofs.Common.{IsFirstFault, Lines, map, get_or, line_tree, LinePlace, IsPlaceOf, ArePlaces, ◌==◌, false, take}
-use proofs.Common.{length-take, Fault, Row, SourceFile, rows, IsGivenTo, IsText}
-use specs.PlacedFaults.{placed_fault}
-use specs.ContentFaults.{fault_of_line}
-use specs.Answer.{answer_of_lines, Gives}
-use Rattle.m51_text.specs.Answer.{TextTree, Faults as TextFaults, statements_of}
+use proofs.Common.{arith, LineTree, Assignment, content_faults, AreFree, IsFirstFault, map, get_or, line_tree}
+use proofs.Common.{LinePlace, IsPlaceOf, ArePlaces, ◌==◌, false, take, length-take, Fault, Row, SourceFile, IsGivenTo}
+use proofs.Common.{IsText, placed_fault, fault_of_line, append-nil, ModuleParts, Contents, parts}
+use specs.Answer.{Faults, first_fault, content_or_faults, answer_of_lines, Gives}
+use Rattle.m51_text.specs.Answer.{Lines, TextTree, Faults as TextFaults, statements_of}
+use specs.AnswerRows.{rows}
 use specs.AnswerLaws.{HasOneAnswer}
 use proofs.AnAssignment.{same, fitting, fits}
 use Rattle.std.proofs.lemmas.Option.{slice_get-map, slice_get_read, slice_get-get_or}
 use Rattle.m51_text.specs.declared.text.Line.{Line}
 use Rattle.std.proofs.Math.Seq.{drop-length}
-use Rattle.std.proofs.lemmas.List.{append-nil}
-use Rattle.m51_module.specs.declared.parts.ModuleParts.{ModuleParts}
 use Rattle.m51_text.specs.Text.{file_lines, text_lines, TextLine}
-use specs.declared.contents.Contents.{Contents}
-use specs.Parts.{parts}
 
 -- a number further on
 pub moved : (n k : ℕ) → suc n + k ≡ n + suc k

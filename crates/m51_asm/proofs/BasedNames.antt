@@ -1,26 +1,258 @@
--- What holds of the bases that names and the place of a statement have, and of the numbers of their bits, holds of the
--- value of each expression. So the names of a text count only from segments of the text and externals that it declares.
+-- Values do not depend on the numbers of segments: under a renumbering that keeps which segments are absolute, which
+-- have bits with addresses, and which relocatable ones differ, an expression has the same value, with its base
+-- renumbered. On the way, what holds of the bases and the parts of all names holds of those of each expression.
 use Rattle.m51_asm.proofs
 use Rattle.m51_asm.specs
-use proofs.Common.{◌≡◌, ℕ, ◌==◌, List, Option, Some, None, Ok, refl, ap, subst, arith, ltb-false, Base, Value, Tree}
-use proofs.Common.{Valued, Meanings, zero, suc, ◌+◌, ◌<◌, ◌≤◌, nat_lt, Bool, true, false, cond, [], ◌∷◌, ◌++◌, length}
-use proofs.Common.{option_map, Err, sym, ltb-true, Kind, BodyTree, LineTree, Definition, Label, SegmentOf, EquOf, SetOf}
-use proofs.Common.{AddressOf, ExternOf, label_defined, defined_by, externals_from, found_in, or_later, definition_from}
-use proofs.Common.{Assignment, body_at, here_at, if_before, set_by, register_or_predefined, externals_in, value_by}
-use proofs.Common.{named_value, Fits, TextSegment, segment_of, declared_or, bytes_eq, ◌∙◌}
+use proofs.Common.{◌≡◌, ℕ, ◌+◌, ◌/◌, ◌%◌, ◌==◌, nat_lt, Bool, true, false, not, ◌&&◌, ◌||◌, cond, List, Option, Some}
+use proofs.Common.{None, Ok, Err, refl, ap, sym, subst, Base, Kind, Part, Whole, High, Low, Value, Tree, Meanings}
+use proofs.Common.{arith, Bit, ltb-false, zero, suc, ◌<◌, ◌≤◌, [], ◌∷◌, ◌++◌, length, option_map, ltb-true, BodyTree}
+use proofs.Common.{LineTree, Assignment, body_at, here_at, Fits, TextSegment, bytes_eq, ◌∙◌, below_more}
+use Rattle.m51_expr.specs.Value.{Valued, plain, is_whole, fault, whole, part_value, bit_address}
+use Rattle.m51_cells.specs.Outcome.{and_then}
+use Rattle.m51_expr.specs.declared.fault.ExprError.{ExprError}
+use Rattle.m51_expr.specs.declared.tree.Unary.{Unary}
+use Rattle.m51_expr.specs.declared.tree.Binary.{Binary}
+use Rattle.m51_expr.specs.Tree.{Number, Here, Name, One, Two}
+use Rattle.m51_expr.specs.Meanings.{is_absolute_base, is_unplaced, as_number}
+use Rattle.m51_expr.specs.Operators.{or_number, kept_under, settled, beside, same_base, arithmetic, class_of, unary}
+use Rattle.m51_expr.specs.Operators.{on_base, of_wholes, of_settled}
+use Rattle.m51_expr.specs.Bits.{has_bits, placed_bit, dotted_bit}
+use Rattle.m51_expr.specs.Evaluation.{is_dot, or_unknown, value_of, applied}
+use Rattle.m51_isa.specs.declared.generics.Verb.{Verb}
+use Rattle.m51_encode.specs.JumpForm.{is_own, jump_form_of}
+use specs.Renumbering.{SameBase, SameValue, SameValued, IsRenumbering, IsUnchanged}
+use specs.Definitions.{Definition, Label, SegmentOf, EquOf, SetOf, AddressOf, ExternOf, label_defined, defined_by}
+use specs.Definitions.{externals_from, found_in, or_later, definition_from, definition_of}
+use specs.Assignment.{if_before, above, value_or_none}
+use specs.Fitting.{set_by, register_or_predefined, externals_in, value_by, named_value, last_set, undefined_value}
+use specs.Fitting.{externals_before, with_class}
+use specs.ObjectSegments.{segment_of, declared_or}
 use proofs.KnownSegments.{Declares, known, two_more}
-use Rattle.m51_expr.specs.Evaluation.{or_unknown, value_of}
 use Rattle.m51_encode.specs.FieldLaws.{IsBitOf}
-use proofs.RenumberedValues.{Tied, none, segment, external, Like, like, Both, ok, err, AreTied, value_like}
-use borrow.Author.Count.{below_more}
-use Rattle.m51_expr.specs.Value.{whole}
-use Rattle.m51_predefined.specs.Predefined.{register_or_bit}
-use Rattle.m51_sfr.specs.Registers.{address_in, bits, registers}
-use specs.Definitions.{definition_of}
-use specs.Assignment.{above, value_or_none}
-use specs.Fitting.{last_set, undefined_value, externals_before, with_class}
+use Rattle.m51_sfr.specs.Registers.{bits}
 use Rattle.m51_cells.specs.declared.kind.Base.TheVariants as base
+use Rattle.m51_expr.specs.declared.tree.Unary.TheVariants as op1
+use Rattle.m51_expr.specs.declared.tree.Binary.TheVariants as op2
 use Rattle.m51_stmt.specs.Statement as body
+
+-- a number of a class, with a base and a part
+abbrev at : ℕ → Kind → Base → Part → Value
+at n c b p = record { number = n; class = c; base = b; part = p }
+
+-- bases that are one but for the number of the segment, where the first is such a base
+pub data Tied (Linked : ℕ → ℕ → Type 0) (G : Base → Type 0) : Base → Base → Type 0 where
+  none : Tied Linked G base.None base.None
+  segment : {s t : ℕ} → Linked s t → G (base.Segment s) → Tied Linked G (base.Segment s) (base.Segment t)
+  external : {m : ℕ} → G (base.External m) → Tied Linked G (base.External m) (base.External m)
+
+-- values that are one but for the number of the segment, of such a base and under such an operator
+pub data Like (Linked : ℕ → ℕ → Type 0) (G : Base → Type 0) (B : Part → Type 0) : Value → Value → Type 0 where
+  like : {n : ℕ} {c : Kind} {a b : Base} {p : Part} → Tied Linked G a b → B p
+      → Like Linked G B (at n c a p) (at n c b p)
+
+-- the same of values or faults
+pub data Both (R : Value → Value → Type 0) : Valued Value → Valued Value → Type 0 where
+  ok : {v w : Value} → R v w → Both R (Ok v) (Ok w)
+  err : {e : ExprError} → Both R (Err e) (Err e)
+
+-- values that are under no operator
+data Plain (Linked : ℕ → ℕ → Type 0) (G : Base → Type 0) : Value → Value → Type 0 where
+  flat : {n : ℕ} {c : Kind} {a b : Base} → Tied Linked G a b → Plain Linked G (whole n c a) (whole n c b)
+
+-- two choices by one test
+choose : {X : Type 0} (R : X → X → Type 0) {b d : Bool} {v w x y : X} → b ≡ d → R v w → R x y
+    → R (cond b v x) (cond d w y)
+choose R {b = true} {d = true} e s t = s
+choose R {b = false} {d = false} e s t = t
+choose R {b = true} {d = false} e s t = absurd (cc e)
+choose R {b = false} {d = true} e s t = absurd (cc e)
+
+by_test : {X : Type 0} (R : X → X → Type 0) (b : Bool) {v w x y : X} → (b ≡ true → R v w) → (b ≡ false → R x y)
+    → R (cond b v x) (cond b w y)
+by_test b c s t = grind arith
+
+-- what holds of the names, of linked segments, of bases and of parts
+pub record AreTied (names short : Meanings) (Linked : ℕ → ℕ → Type 0) (G : Base → Type 0) (B : Part → Type 0) : Type 0
+  where
+    pub fixed : {s t : ℕ} → Linked s t → names.fixed s ≡ short.fixed t
+    pub bits : {s t : ℕ} → Linked s t → names.bitaddressable s ≡ short.bitaddressable t
+    pub apart : {s t u v : ℕ} → Linked s t → Linked u v → (names.fixed s && names.fixed u) ≡ false
+        → (s == u) ≡ (t == v)
+    pub named : (name : List ℕ)
+        → Both (Like Linked G B) (or_unknown (names.value name)) (or_unknown (short.value name))
+    pub here : Like Linked G B names.here short.here
+    pub whole : B Whole
+    pub high : B High
+    pub low : B Low
+    pub bit : {k : ℕ} → nat_lt 7 k ≡ false → B (Bit k)
+
+module _ {names short : Meanings} {Linked : ℕ → ℕ → Type 0} {G : Base → Type 0} {B : Part → Type 0}
+    (r : AreTied names short Linked G B) where
+  abbrev Bases : Base → Base → Type 0
+  Bases = Tied Linked G
+
+  abbrev Values : Value → Value → Type 0
+  Values = Like Linked G B
+
+  abbrev Results : Valued Value → Valued Value → Type 0
+  Results = Both Values
+
+  unplaced : {a b : Base} → Bases a b → is_unplaced names a ≡ is_unplaced short b
+  unplaced b = grind arith
+
+  absolute : {a b : Base} → Bases a b → is_absolute_base names a ≡ is_absolute_base short b
+  absolute b = grind arith
+
+  with_bits : {a b : Base} (c : Kind) → Bases a b → has_bits names a c ≡ has_bits short b c
+  with_bits c b = grind arith
+
+  has_base : {a b : Base} → Bases a b → same_base a base.None ≡ same_base b base.None
+  has_base b = grind arith
+
+  plainly : {n : ℕ} {c : Kind} → Values (plain n c) (plain n c)
+  plainly = like none r.whole
+
+  number : (n : ℕ) (p : Part) {a b : Base} → Bases a b
+      → cond (is_unplaced names a) (fault 8) (Ok (part_value n p))
+      ≡ cond (is_unplaced short b) (fault 8) (Ok (part_value n p))
+  number n p t = cc (unplaced t)
+
+  -- what follows from one number
+  from : {m n : Valued ℕ} {f g : ℕ → Valued Value} → m ≡ n → ((k : ℕ) → Results (f k) (g k))
+      → Results (and_then m f) (and_then n g)
+  from {m} {f = f} {g = g} e h = subst (λ n. Results (and_then m f) (and_then n g)) e (itself m)
+    where
+      itself : (m : Valued ℕ) → Results (and_then m f) (and_then m g)
+      itself (Ok k) = h k
+      itself (Err k) = err
+
+  high_low : (part : Part) → B part → (f : ℕ → ℕ) (n : ℕ) (c : Kind) {a b : Base} → Bases a b → (p : Part) → B p
+      → Results (or_number (kept_under part (at n c a p)) (as_number names (at n c a p)) f)
+      (or_number (kept_under part (at n c b p)) (as_number short (at n c b p)) f)
+  high_low part h f n c t p q = grind (arith, ok, plainly, like, segment, external, err, from, number)
+
+  under_one : (op : Unary) {v w : Value} → Values v w → Results (unary names op v) (unary short op w)
+  under_one op1.High (like {n} {c} {p = p} t q) = high_low High r.high (λ n. n / 256) n c t p q
+  under_one op1.Low (like {n} {c} {p = p} t q) = high_low Low r.low (λ n. n % 256) n c t p q
+  under_one op (like {n} {p = p} t q) = from (number n p t) (λ k. ok plainly)
+
+  -- an absolute base falls away beside a relocatable or external one
+  both_beside : {o p a b : Base} (n : ℕ) (c : Kind) → Bases o p → Bases a b
+      → Plain Linked G (beside names o (whole n c a)) (beside short p (whole n c b))
+  both_beside n c t s = choose (Plain Linked G) (λ i. unplaced t i && absolute s i) (flat none) (flat s)
+
+  -- a difference in which the bases fall away by the tests, or count as numbers
+  drops : (class : Kind) (a m n : Valued ℕ) (b d : Bool) → cond b a m ≡ cond d a n
+      → Results (on_base class (cond b (Some base.None) None) a m) (on_base class (cond d (Some base.None) None) a n)
+  drops class a m n b d e = grind (arith, from, ok, plainly)
+
+  wholes : (op : Binary) (class : Kind) {v w x y : Value} → Plain Linked G v w → Plain Linked G x y
+      → Results (of_wholes names op class v x) (of_wholes short op class w y)
+  wholes op2.Add class (flat t) (flat none) = ok (like t r.whole)
+  wholes op2.Add class (flat none) (flat s) = ok (like s r.whole)
+  wholes op2.Sub class (flat t) (flat none) = ok (like t r.whole)
+  wholes op2.Sub class (flat {n} (segment {s} {t} h g)) (flat {n = m} (segment {s = u} {t = v} k f)) =
+      grind (arith, drops)
+  wholes op2.Sub class (flat (external {m = s} g)) (flat (external {m = u} f)) =
+      drops class _ _ _ (s == u) (s == u) refl
+  wholes op class (flat {n} t) (flat {n = m} s) =
+      from {f = λ k. Ok (plain k class)} {g = λ k. Ok (plain k class)}
+      (λ i. and_then (number n Whole t i) (λ a. and_then (number m Whole s i) (λ b. arithmetic op a b)))
+      (λ k. ok plainly)
+
+  both_settled : {v w : Value} → Values v w → Values (settled names v) (settled short w)
+  both_settled (like {p = p} t q) = choose Values (λ i. unplaced t i || is_whole p) (like t q) plainly
+
+  of_settled_same : (op : Binary) (class : Kind) {v w x y : Value} → Values v w → Values x y
+      → Results (of_settled names op class v x) (of_settled short op class w y)
+  of_settled_same op class (like {n} {c} {p = Whole} t q) (like {n = m} {c = d} {p = Whole} s z) =
+      wholes op class (both_beside n c s t) (both_beside m d t s)
+  of_settled_same op class (like t q) (like s z) = err
+
+  -- a bit, which keeps its base or has an address
+  placed : {v w : Value} (k : ℕ) (o : Option ℕ) → nat_lt 7 k ≡ false → Values v w
+      → Results (placed_bit v k o) (placed_bit w k o)
+  placed k b h l = grind (arith, err, ok, choose, has_base, like, plainly)
+
+  dotted : {v w : Value} (k : ℕ) → Values v w → Results (dotted_bit names v k) (dotted_bit short w k)
+  dotted k (like {n} {c} {p = p} t q) =
+      by_test Results (nat_lt 7 k) (λ h. err)
+      (λ h. choose Results (unplaced t) (choose Results (with_bits c t) (ok (like t (r.bit h))) err)
+      (placed k (bit_address (part_value n p) k) h (like {c = c} t q)))
+
+  both_applied : (op : Binary) {v w x y : Value} → Values v w → Values x y
+      → Results (applied names op v x) (applied short op w y)
+  both_applied op (like {c = c} {p = p} t q) (like {n = m} {c = d} {p = z} s y) =
+      choose Results {b = is_dot op} refl
+      (choose Results (λ i. unplaced t i && not (is_whole p)) err (from (number m z s) (λ k. dotted k (like t q))))
+      (of_settled_same op (class_of op c d) (both_settled (like t q)) (both_settled (like s y)))
+
+  follow : {m n : Valued Value} {f g : Value → Valued Value} → Results m n → ((v w : Value) → Values v w
+      → Results (f v) (g w))
+      → Results (and_then m f) (and_then n g)
+  follow b h = grind arith
+
+  -- the value of an expression
+  pub value_like : (tree : Tree) → Results (value_of names tree) (value_of short tree)
+  unfolding value_of
+  value_like (Number n) = ok plainly
+  value_like Here = ok r.here
+  value_like (Name name) = r.named name
+  value_like (One op e) = follow (value_like e) (λ v w l. under_one op l)
+  value_like (Two op e f) = follow (value_like e) (λ v w l. follow (value_like f) (λ x y m. both_applied op l m))
+
+-- a renumbering says nothing of bases and parts
+abbrev Any : {X : Type 0} → X → Type 0
+Any x = Unit {0}
+
+module _ (names short : Meanings) (Linked : ℕ → ℕ → Type 0) (r : IsRenumbering names short Linked) where
+  tied_any : (a b : Base) → SameBase Linked a b → Tied Linked Any a b
+  tied_any a b h = grind (arith, none, segment, external)
+
+  same_base_of : {a b : Base} → Tied Linked Any a b → SameBase Linked a b
+  same_base_of b = grind arith
+
+  alike : {v w : Value} → SameValue Linked v w → Like Linked Any Any v w
+  alike {v} {w} s = subst (Like Linked Any Any v) (sym s.is) (like (tied_any v.base w.base s.base) tt)
+
+  given : (m n : Valued Value) → SameValued Linked m n → Both (Like Linked Any Any) m n
+  given m n s = grind (arith, ok, alike, err)
+
+  back : {m n : Valued Value} → Both (Like Linked Any Any) m n → SameValued Linked m n
+  back b = grind (arith, same_base_of)
+
+  all_tied : AreTied names short Linked Any Any
+  all_tied = record {
+    fixed = λ h. r.fixed _ _ h;
+    bits = λ h. r.bits _ _ h;
+    apart = λ h k e. r.apart _ _ _ _ h k e;
+    named = λ name. given (or_unknown (names.value name)) (or_unknown (short.value name)) (r.named name);
+    here = alike r.here;
+    whole = tt;
+    high = tt;
+    low = tt;
+    bit = λ h. tt;
+  }
+
+  own : {a b : Base} → Tied Linked Any a b → is_own names a ≡ is_own short b
+  own b = grind arith
+
+  form_same : (verb : Verb) {m n : Valued Value} → Both (Like Linked Any Any) m n
+      → jump_form_of names verb m ≡ jump_form_of short verb n
+  unfolding jump_form_of
+  form_same verb (ok (like {n} {p = p} t q)) =
+      let next : (names.here.number + 2) % 65536 ≡ (short.here.number + 2) % 65536 = ap (λ (v : Value). (v.number + 2)
+      % 65536) (sym r.here.is) in cc (own t, own none)
+  form_same verb err = refl
+
+  pub unchanged : (tree : Tree) → IsUnchanged names short Linked tree
+  unchanged tree = record {
+    value = back (value_like all_tied tree);
+    form = λ verb. form_same verb (value_like all_tied tree);
+  }
+
+-- What holds of the bases that names and the place of a statement have, and of the numbers of their bits, holds of the
+-- value of each expression. So the names of a text count only from segments of the text and externals that it declares.
 
 -- a value of such a base, under no bit above 7
 pub record IsBased (G : Base → Type 0) (v : Value) : Type 0 where
@@ -28,12 +260,14 @@ pub record IsBased (G : Base → Type 0) (v : Value) : Type 0 where
   pub bit_is : IsBitOf v.part
 
 -- the value of a result, if there is one
-pub record IfBased (G : Base → Type 0) (r : Valued Value) : Type 0 where
-  pub holds : (v : Value) → r ≡ Ok v → IsBased G v
+abbrev pub IfBased : (Base → Type 0) → Valued Value → Type 0
+IfBased G (Ok v) = IsBased G v
+IfBased G (Err e) = Unit {0}
 
 -- the value of an option, if there is one
-pub record IfSomeBased (G : Base → Type 0) (o : Option Value) : Type 0 where
-  pub holds : (v : Value) → o ≡ Some v → IsBased G v
+abbrev pub IfSomeBased : (Base → Type 0) → Option Value → Type 0
+IfSomeBased G None = Unit {0}
+IfSomeBased G (Some v) = IsBased G v
 
 -- names and the place of a statement have such values
 pub record AreBased (G : Base → Type 0) (names : Meanings) : Type 0 where
@@ -58,16 +292,12 @@ module _ (G : Base → Type 0) (no_base : G base.None) where
   base_of (external g) = g
 
   based : {r q : Valued Value} → Both Stays r q → IfBased G r
-  based (ok (like {n} {c} {a} {p = p} t h)) = record {
-    holds = λ v e.
-        let same : record { number = n; class = c; base = a; part = p } ≡ v = cc e in
-        subst (IsBased G) same (record { base_is = base_of t; bit_is = h });
-  }
-  based err = record { holds = λ v e. absurd (cc e) }
+  based (ok (like t h)) = record { base_is = base_of t; bit_is = h }
+  based err = tt
 
   named : (o : Option Value) → IfSomeBased G o → Both Stays (or_unknown o) (or_unknown o)
   named None h = err
-  named (Some v) h = ok (stays (h.holds v refl))
+  named (Some v) h = ok (stays h)
 
   -- the value of an expression
   pub value_based : (names : Meanings) → AreBased G names → (e : Tree) → IfBased G (value_of names e)
@@ -113,11 +343,8 @@ body_from (body.Segment t kind type overlayable) name =
     let declares : Declares (body.Segment t kind type overlayable) kind =
     record { name = t; type = type; overlayable = overlayable; is = refl } in
     if_found (body.Segment t kind type overlayable) (bytes_eq name t) (SegmentOf kind) None declares tt
-body_from (body.Equ t e) name = if_found (body.Equ t e) _ _ None tt tt
-body_from (body.Set t e) name = if_found (body.Set t e) _ _ None tt tt
-body_from (body.Address t kind e) name = if_found (body.Address t kind e) _ _ None tt tt
 body_from (body.Extrn xs) name = externals_below (body.Extrn xs) xs 0 name (omega arith)
-body_from b name = tt
+body_from b name = grind (arith, if_found)
 
 line_from : (label : Option (List ℕ)) (b : BodyTree) (name : List ℕ)
     → IfFrom b (found_in (label_defined label ++ defined_by b) name)
@@ -167,8 +394,7 @@ module _ (lines : List LineTree) (a : Assignment) (f : Fits lines a) where
   D = IsDeclaredBase lines a
 
   abbrev Good : Option Value → Type 0
-  Good None = Unit {0}
-  Good (Some v) = IsBased D v
+  Good = IfSomeBased D
 
   good : {n : ℕ} {k : Kind} {b : Base} → D b → IsBased D (whole n k b)
   good d = record { base_is = d; bit_is = λ i e. absurd (cc e) }
@@ -186,12 +412,11 @@ module _ (lines : List LineTree) (a : Assignment) (f : Fits lines a) where
   tree_good k e are = if_ok (value_of (above lines a k) e) (value_based D tt (above lines a k) are e)
     where
       if_ok : (r : Valued Value) → IfBased D r → Good (value_or_none r)
-      if_ok (Ok v) h = h.holds v refl
+      if_ok (Ok v) h = h
       if_ok (Err e) h = tt
 
   classed : (kind : Kind) (o : Option Value) → Good o → Good (option_map (with_class kind) o)
-  classed kind None h = tt
-  classed kind (Some v) h = record { base_is = h.base_is; bit_is = h.bit_is }
+  classed kind o h = grind arith
 
   -- names above each line have such values
   abbrev AllAbove : ℕ → Type 0
@@ -227,15 +452,8 @@ module _ (lines : List LineTree) (a : Assignment) (f : Fits lines a) where
       let same = ap (externals_before lines) at in
       good (omega arith, omega (arith, up, below, same))
 
-  predefined_good : (o p : Option ℕ) → Good (register_or_bit o p)
-  predefined_good (Some n) p = good tt
-  predefined_good None (Some n) = good tt
-  predefined_good None None = tt
-
   register_good : (on : Bool) (bank : ℕ) (name : List ℕ) (o : Option ℕ) → Good (register_or_predefined on bank name o)
-  register_good on bank name (Some n) = good tt
-  register_good true bank name None = predefined_good (address_in registers name) (address_in bits name)
-  register_good false bank name None = tt
+  register_good on bank name o = grind (arith, good)
 
   undefined_good : (k : ℕ) (name : List ℕ) → Good (undefined_value lines a k name)
   unfolding undefined_value
@@ -251,15 +469,11 @@ module _ (lines : List LineTree) (a : Assignment) (f : Fits lines a) where
       if_true o true g = g refl
       if_true o false g = tt
 
-  holds : (o : Option Value) → Good o → IfSomeBased D o
-  holds None h = record { holds = λ w e. absurd (cc e) }
-  holds (Some v) h = record { holds = λ w e. let same : v ≡ w = cc e in subst (IsBased D) same h }
-
   above_good : (k : ℕ) → AllAbove k → AreBased D (above lines a k)
   unfolding above definition_of
   above_good k all = record {
-    value = λ name. holds _ (subst (λ v. Good (if_before k v (definition_of lines name))) (sym (f.values k name))
-        (before_good k name (definition_of lines name) (in_lines lines 0 name) all));
+    value = λ name. subst (λ v. Good (if_before k v (definition_of lines name))) (sym (f.values k name))
+        (before_good k name (definition_of lines name) (in_lines lines 0 name) all);
     here = place_good k;
   }
 
@@ -277,5 +491,4 @@ module _ (lines : List LineTree) (a : Assignment) (f : Fits lines a) where
   pub name_good : (k : ℕ) (name : List ℕ) → IfSomeBased (IsDeclaredBase lines a) (a.value k name)
   unfolding definition_of
   name_good k name =
-      holds _
-      (subst Good (sym (f.values k name)) (named_good k name (definition_of lines name) (in_lines lines 0 name)))
+      subst Good (sym (f.values k name)) (named_good k name (definition_of lines name) (in_lines lines 0 name))

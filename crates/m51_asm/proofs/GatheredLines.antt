@@ -1,34 +1,210 @@
--- What lines give to the segments of a module: line by line it grows to the pieces and fixups of the definitions.
+-- Pass 2: what PUBLIC makes of names by what is kept, what a line gives, and what lines give to the segments of a
+-- module are what the definitions say.
 use Rattle.m51_asm.proofs
 use Rattle.m51_asm.specs
-use proofs.Common.{◌≡◌, ◌≢◌, inl, inr, ℕ, zero, suc, ◌+◌, ◌<◌, ◌≤◌, ◌==◌, ◌-◌, Bool, cond, List, [], ◌∷◌, ◌++◌, map}
-use proofs.Common.{length, Option, Some, None, option_map, Result, refl, ap, sym, ◌∙◌, slice_get, get_or, arith, eq-eqb}
-use proofs.Common.{eqb-true, ne_eqb, length-map, Fixup, Piece, Segment, LineTree, with_line, Assignment, Kept}
-use proofs.Common.{object_segments, from_one, index_in, segment_number, if_bytes, offset_at, pieces, fixups}
-use proofs.Common.{nothing_gathered, gathered_before, IsText, IsAssignedText, PlacedText}
-use Rattle.std.proofs.Common.{append_assoc, OnOk}
-use Rattle.std.specs.Prelude.{slice_set}
-use Rattle.std.proofs.lemmas.List.{append-nil}
+use proofs.Common.{◌≡◌, ℕ, List, [], ◌∷◌, map, Option, Some, None, option_map, refl, ◌∙◌, Base, Value}
+use proofs.Common.{LineTree, arith, Assignment, first_definition, number_at, Valuation, Located, PublicSegment}
+use proofs.Common.{names_at, segment_in, zero, suc, ◌++◌, drop, ◌<◌, slice_get, Meanings, Fault, Row, BodyTree, here_at}
+use proofs.Common.{body_at, if_fault, IsGivenTo, EmittedContent, Contents, nothing_given, ◌≢◌, inl, inr}
+use proofs.Common.{◌+◌, ◌≤◌, ◌==◌, ◌-◌, Bool, cond, length, Result, ap, sym, get_or, eq-eqb, eqb-true}
+use proofs.Common.{length-map, Fixup, Piece, Segment, with_line, nothing_gathered, gathered_before, IsText, slice_set}
+use proofs.Common.{append-nil, LieInside, changed_element}
+use Rattle.m51_emit.specs.Outcomes.{or_next, leftmost_fault, made_with, made_with_all}
+use specs.declared.numbering.PlacedText.{PlacedText}
+use specs.Definitions.{Definition, definition_of}
+use specs.ObjectSegments.{segment_number, segment_of, final, Kept, object_segments, from_one, index_in, kept, number_in}
+use specs.PlacedText.{IsAssignedText}
+use specs.Publishing.{fault_among, definer_of, published_by, fault_of_public, publics_among}
+use Rattle.m51_emit.specs.PublicNames.{Published, public_by, public_outcome}
+use specs.PublicNames.{definer_by, numbered_as, base_segment, counted_from, published, publics_of}
+use proofs.BasedNames.{IfSomeBased, IsDeclaredBase, name_good}
+use proofs.ToldLines.{names_of}
+use proofs.KnownSegments.{segment_is, few_segments, of_cond, ids, Ascend, AreKept, all_kept, room, known}
+use specs.ContentFaults.{faults_from, line_outcomes_by, line_outcomes, made_before, content_fault}
+use specs.AnswerRows.{rows_from, rows, place_of, listing_row}
+use specs.ValuesAt.{IsSetAt}
+use specs.Repeats.{publics_in}
+use Rattle.std.proofs.Common.{append_assoc, below_more, OnOk}
+use Rattle.m51_emit.specs.Content.{outcomes_by, content_by}
+use specs.Pieces.{content_at, if_bytes, offset_at, pieces, fixups, runs_from, line_fixups, fixups_from}
+use specs.Parts.{publics_by, publics_before}
+use specs.Fitting.{last_set}
+use Rattle.m51_emit.specs.Rows.{place_in, row_in}
 use Rattle.std.proofs.lemmas.List.Folds.{flat_map-map}
-use Rattle.m51_emit.specs.Within.{LieInside}
-use Rattle.m51_emit.specs.Gathering.{Gathered, run_of, runs_of, fixups_of, gathered_of, all_pieces, all_fixups}
-use Rattle.m51_emit.specs.declared.content.EmittedContent.{EmittedContent}
+use Rattle.m51_emit.specs.Gathering.{Gathered, run_of, runs_of, fixups_of, all_pieces, all_fixups}
 use Rattle.m51_emit.specs.declared.gathering.ModuleContent.{ModuleContent}
 use Rattle.m51_emit.proofs.GrownRuns.{gathered_grows}
 use Rattle.m51_emit.proofs.LyingContent.{references_lie}
-use specs.ObjectSegments.{kept, number_in}
-use specs.Pieces.{content_at, runs_from, line_fixups, fixups_from}
-use specs.Gathering.{nothing_in, changed_at, changed_element, placed_at, placed_before, gathered_in}
-use specs.ContentFaults.{content_fault}
-use proofs.FewSegments.{few_segments}
-use Rattle.m51_cells.proofs.Members.{In, every_in, got_in, in_first, in_later}
+use specs.Gathering.{nothing_in, changed_at, placed_at, placed_before, gathered_in}
+use Rattle.m51_cells.proofs.Members.{In, every_in, in_first, in_later}
 use proofs.AnsweredLines.{moved}
-use proofs.GivenContents.{given_at}
+use proofs.ContentFields.{given_at}
 use proofs.GoodLines.{IsFreeText, free_where}
-use proofs.SegmentsAt.{of_cond}
-use proofs.KeptSegments.{ids, Ascend, AreKept, all_kept, room}
-use proofs.KnownSegments.{known}
-use proofs.ValidPieces.{ends_by}
+use proofs.ValidParts.{ends_by}
+use Rattle.m51_cells.specs.declared.kind.Base.TheVariants as base
+use proofs.KnownSegments.{index_is}
+
+-- what defines a name, by its first definition
+definer_is : (o : Option (ℕ × Definition)) → definer_of (option_map first_definition o) ≡ definer_by o
+definer_is b = grind arith
+
+module _ (lines : List LineTree) (a : Assignment) (t : PlacedText) (h : IsAssignedText lines a t)
+    (numbers : List ℕ) (each : (id : ℕ) → number_at numbers id ≡ segment_number lines a id) where
+  abbrev segments : ℕ → PublicSegment
+  segments id = numbered_as (segment_of lines a id) (segment_number lines a id)
+
+  abbrev kept_segments : ℕ → PublicSegment
+  kept_segments id = numbered_as (segment_in t.end.now.segments.table id) (number_at numbers id)
+
+  counted_is : (o : Option Value) → IfSomeBased (IsDeclaredBase lines a) o
+      → counted_from kept_segments o ≡ counted_from segments o
+  counted_is None based = refl
+  counted_is (Some v) based = from v.base based.base_is
+    where
+      from : (b : Base) → IsDeclaredBase lines a b → base_segment kept_segments b ≡ base_segment segments b
+      from (base.Segment id) is =
+          λ i. numbered_as (segment_is lines a h.fits _ h.placed.at.segments.table id is i) (each id i)
+      from base.None is = refl
+      from (base.External external) is = refl
+
+  -- what PUBLIC makes of a name
+  pub published_is : (k : ℕ) (set : Valuation) (bank : ℕ) (here : Located ℕ)
+      → names_at (names_of t set bank here numbers) ≡ final lines a k → (name : List ℕ)
+      → published_by (names_of t set bank here numbers) name ≡ published lines a k name
+  unfolding published final
+  published_is k set bank here means name =
+      (λ i. public_by name (definer_of (h.names name i)) (counted_from kept_segments ((means i).value name))
+      ((means i).value name))
+      ∙ λ i. public_by name (definer_is (definition_of lines name) i)
+      (counted_is (a.value k name) (name_good lines a h.fits k name) i) (a.value k name)
+
+module _ (lines : List LineTree) (a : Assignment) (k made : ℕ) where
+  one_fault : (p : Published) (names : List (List ℕ))
+      → fault_among (published lines a k) names
+      ≡ leftmost_fault made (map (λ name. public_outcome (published lines a k name)) names)
+      → or_next (fault_of_public p) (fault_among (published lines a k) names)
+      ≡ leftmost_fault made (public_outcome p ∷ map (λ name. public_outcome (published lines a k name)) names)
+  one_fault p names h = grind arith
+
+  -- the first fault among the names of a PUBLIC
+  pub publics_fault : (names : List (List ℕ))
+      → fault_among (published lines a k) names
+      ≡ leftmost_fault made (map (λ name. public_outcome (published lines a k name)) names)
+  publics_fault [] = refl
+  publics_fault (name ∷ names) = one_fault (published lines a k name) names (publics_fault names)
+
+-- Pass 2 line by line: what is kept grows with a line as the definitions say.
+
+-- the items from one on are that one and those after it
+pub drop_at : {T : Type 0} (xs : List T) (k : ℕ) (x : T) → slice_get xs k ≡ Some x → drop k xs ≡ x ∷ drop (suc k) xs
+drop_at [] k x e = absurd (cc e)
+drop_at (y ∷ xs) zero x e = cc
+drop_at (y ∷ xs) (suc k) x e = drop_at xs k x e
+
+module _ (lines : List LineTree) (a : Assignment) (k made : ℕ) where
+  public_made : (p : Published) → made_with made (public_outcome p) ≡ made
+  public_made b = grind arith
+
+  publics_made : (names : List (List ℕ))
+      → made_with_all made (map (λ name. public_outcome (published lines a k name)) names) ≡ made
+  publics_made [] = refl
+  publics_made (name ∷ names) = cc (public_made (published lines a k name), publics_made names)
+
+  made_is : (body : BodyTree) → made_with_all made (outcomes_by (final lines a k) (a.form k) body)
+      ≡ made_with_all made (line_outcomes_by lines a k body)
+  made_is body = grind (arith, publics_made)
+
+  fault_is : (body : BodyTree)
+      → or_next (leftmost_fault made (outcomes_by (final lines a k) (a.form k) body))
+      (fault_among (published lines a k) (publics_in body))
+      ≡ leftmost_fault made (line_outcomes_by lines a k body)
+  fault_is body = grind (arith, publics_fault)
+
+same_publics : (lines : List LineTree) (a : Assignment) (k : ℕ) (names : List (List ℕ))
+    → publics_among (published lines a k) names ≡ publics_of lines a k names
+same_publics lines a k [] = refl
+same_publics lines a k (name ∷ names) = grind arith
+
+publics_are : (lines : List LineTree) (a : Assignment) (k : ℕ) (body : BodyTree)
+    → publics_among (published lines a k) (publics_in body) ≡ publics_by lines a k body
+publics_are lines a k body = grind (arith, same_publics)
+
+fault_before : (line : LineTree) (fault : Option ℕ) (more : List Fault)
+    → if_fault line fault [] ++ more ≡ if_fault line fault more
+fault_before line b more = grind arith
+
+-- what a line gives by its names is its content
+pub content_is : (lines : List LineTree) (a : Assignment) (k : ℕ) (line : LineTree) → slice_get lines k ≡ Some line
+    → (names : Meanings) → names ≡ final lines a k → (c : EmittedContent)
+    → c ≡ content_by names (a.form k) line.stmt.body → c ≡ content_at lines a k
+unfolding content_at
+content_is lines a k line is names same c e = cc
+
+-- where there is no fault after a line, there was none before it, and the line has none
+pub unfaulted : (line : LineTree) (fault : Option ℕ) (before : List Fault) → before ++ if_fault line fault [] ≡ []
+    → (before ≡ []) × (fault ≡ None)
+unfaulted line b [] e = grind arith
+unfaulted line fault (x ∷ xs) e = absurd (cc e)
+
+module _ (lines : List LineTree) (a : Assignment) (k : ℕ) (line : LineTree) (is : slice_get lines k ≡ Some line)
+    (before after : Contents)
+    (h : IsGivenTo lines a k before) (names : Meanings) (same : names ≡ final lines a k)
+    (of : List ℕ → Published) (publish : of ≡ published lines a k) where
+  -- the fault of the line
+  abbrev fault : Option ℕ
+  fault = or_next (leftmost_fault before.made (outcomes_by names (a.form k) line.stmt.body))
+      (fault_among of (publics_in line.stmt.body))
+
+  pub next_given : (row : Row) (c : EmittedContent) → IsSetAt lines a (suc k) after.set
+      → after.made ≡ made_with_all before.made (outcomes_by names (a.form k) line.stmt.body)
+      → after.publics ≡ before.publics ++ publics_among of (publics_in line.stmt.body)
+      → after.faults ≡ before.faults ++ if_fault line fault []
+      → after.rows ≡ before.rows ++ row ∷ [] → row ≡ listing_row line (place_of a k line) c
+      → c ≡ content_by names (a.form k) line.stmt.body → IsGivenTo lines a (suc k) after
+  unfolding made_before line_outcomes content_fault publics_before
+  next_given row c sets made publics faults rows row_is content =
+      let here : fault ≡ content_fault lines a k = cc (fault_is lines a k (made_before lines a k) (body_at lines k)) in
+      let of_line = content_is lines a k line is names same c content in
+      let below = faults_from (content_fault lines a) (suc k) (drop (suc k) lines) in
+      record {
+        sets = sets;
+        made = cc (made_is lines a k (made_before lines a k) (body_at lines k));
+        publics = cc (publics_are lines a k (body_at lines k));
+        faults = cc (
+          here,
+          append_assoc before.faults (if_fault line (content_fault lines a k) []) below,
+          fault_before line (content_fault lines a k) below,
+          drop_at lines k line is,
+          h.faults,
+        );
+        rows = cc (
+          of_line,
+          append_assoc before.rows (row ∷ []) (rows_from lines a (suc k) (drop (suc k) lines)),
+          drop_at lines k line is,
+          h.rows,
+        );
+        clean = λ none. grind (arith, unfaulted, below_more, here);
+      }
+
+-- the row of a line, by the number of its place
+pub row_is : (a : Assignment) (k : ℕ) (line : LineTree) (c : EmittedContent) (number : ℕ)
+    → number ≡ (here_at a k).number
+    → row_in line.file line.line (place_in line.stmt number) c ≡ listing_row line (place_of a k line) c
+row_is a k line c number is = grind arith
+
+-- before the first line
+pub first_given : (lines : List LineTree) (a : Assignment) → IsGivenTo lines a 0 nothing_given
+unfolding last_set made_before publics_before
+first_given lines a = record {
+  sets = λ name. refl;
+  made = refl;
+  publics = refl;
+  faults = refl;
+  rows = refl;
+  clean = λ e j below. absurd (omega (arith, below));
+}
+
+-- What lines give to the segments of a module: line by line it grows to the pieces and fixups of the definitions.
 
 -- a write to an element is a change of it
 written : {A : Type 0} (change : A → A) (xs : List A) (i : ℕ) (d : A) → i < length xs
@@ -151,13 +327,6 @@ module _ (lines : List LineTree) (a : Assignment) where
       → content_of (all_pieces gathered) (all_fixups gathered) ≡ content_of (pieces lines a) (fixups lines a)
   whole gathered e = cc (e, pieces_are, fixups_all)
 
-  -- what is gathered in a segment, by whether line k gives to it
-  abbrev gathered_if : ℕ → Kept → Bool → Gathered
-  gathered_if k s here =
-      let before = placed_before lines a s.id k in
-      gathered_of (object_segments lines a) (segment_number lines a s.id)
-      (cond here (before ++ placed_at lines a k ∷ []) before)
-
   -- the segment of line k with that line added
   here_grows : (k : ℕ) (s : Kept) → s.id ≡ (a.segment k).id
       → with_line (object_segments lines a) (gathered_in lines a k s) (placed_at lines a k)
@@ -193,17 +362,6 @@ nothing_and n (suc m) =
       append_assoc (nothing_gathered n) (nothing_in (suc n) ∷ []) (nothing_from (suc n) m),
       nothing_and (suc n) m,
       moved n m,
-    )
-
--- the number of a segment is its index, counted from 1
-index_is : (xs : List Kept) → Ascend xs → (j : ℕ) (s : Kept) → slice_get xs j ≡ Some s → index_in (ids xs) s.id ≡ Some j
-index_is [] order j s e = absurd (cc e)
-index_is (x ∷ xs) order zero s e = grind arith
-index_is (x ∷ xs) order (suc j) s e =
-    let less = every_in (λ t. x.id < t.id) xs s order.0 (got_in xs j s e) in cc (
-      ne_eqb x.id s.id (omega (arith, less)),
-      index_is xs
-          order.1 j s e,
     )
 
 nothing_by : (f : Kept → ℕ) (n : ℕ) (xs : List Kept)

@@ -2,34 +2,32 @@
 use Rattle.m51_asm.proofs
 use Rattle.m51_asm.specs
 use proofs.Common.{above, ◌≡◌, ◌≢◌, ℕ, zero, suc, ◌+◌, ◌<◌, Bool, true, false, cond, List, [], ◌∷◌, length, Option}
-use proofs.Common.{Some, None, Result, Ok, Err, refl, subst, arith, and_parts, Kind, Reloc, IsWritten, Fault}
-use proofs.Common.{SourceFile, BodyTree, StmtTree, Each, LineTree, Lines, text_of, Assignment, body_at, Fits}
-use proofs.Common.{is_misplaced, operand_fault, if_fault, faults_from, content_faults, AreFree, first_fault}
-use Rattle.std.specs.List.{AllByRecursion, list_all}
+use proofs.Common.{Some, None, Result, Ok, Err, refl, subst, arith, and_parts, Kind, Reloc, Fault, SourceFile, BodyTree}
+use proofs.Common.{StmtTree, Each, LineTree, Assignment, body_at, Fits, is_misplaced, if_fault, content_faults, AreFree}
+use proofs.Common.{AllByRecursion, list_all, some_each, IsItem}
+use Rattle.m51_cells.specs.Name.{IsWritten}
+use Rattle.m51_text.specs.Answer.{Lines, text_of, faults_or_lines, statements_of, with_statement}
+use specs.PlacedFaults.{operand_fault, is_past, is_too_many, placed_fault}
+use specs.ContentFaults.{faults_from, content_fault}
+use specs.Answer.{first_fault, fault_or}
 use Rattle.std.proofs.lemmas.List.Elements.{All-from_recursion}
-use Rattle.m51_cells.specs.declared.kind.Kind.TheVariants as kind
-use Rattle.m51_cells.specs.declared.kind.Reloc.TheVariants as reloc
 use Rattle.m51_expr.specs.Looks.{has_form}
-use Rattle.m51_stmt.specs.Statement as body
 use Rattle.m51_stmt.specs.Kinds.{reloc_of}
 use Rattle.m51_stmt.specs.Definitions.{is_allowed}
 use Rattle.m51_stmt.specs.Directives.{select_of, directive_of}
 use Rattle.m51_stmt.specs.Lines.{any_line}
 use Rattle.m51_stmt.specs.Printing.{reloc_word}
 use Rattle.m51_stmt.specs.Laws.{IsByte}
-use Rattle.m51_stmt.proofs.ListWords.{some_each}
-use Rattle.m51_stmt.proofs.PrintedLists.{IsItem}
 use Rattle.m51_stmt.proofs.PrintedBodies.{IsBody}
 use Rattle.m51_stmt.proofs.PrintedStatements.{IsLine}
 use Rattle.m51_stmt.proofs.ReadStatements.{written_is_good}
 use Rattle.m51_text.specs.Said.{is_character, said}
 use Rattle.m51_text.specs.Text.{TextLine}
-use Rattle.m51_text.specs.Answer.{faults_or_lines, statements_of, with_statement}
 use specs.Repeats.{is_repeated}
-use specs.PlacedFaults.{is_past, is_too_many, placed_fault}
-use specs.ContentFaults.{content_fault}
-use specs.Answer.{fault_or}
 use specs.ValidTexts.{IsFaultless}
+use Rattle.m51_cells.specs.declared.kind.Kind.TheVariants as kind
+use Rattle.m51_cells.specs.declared.kind.Reloc.TheVariants as reloc
+use Rattle.m51_stmt.specs.Statement as body
 
 -- a segment that can be declared
 pub record IsDeclared (name : List ℕ) (k : Kind) (r : Reloc) (overlayable : Bool) : Type 0 where

@@ -1,8 +1,7 @@
 -- What holds of elements of lists for the reason that they are in them (the rest is in m51_cells, Members).
 use Rattle.m51_asm.proofs
-use proofs.Common.{◌++◌, ◌∷◌, List, [], inl, inr, refl}
+use proofs.Common.{◌++◌, ◌∷◌, List, [], inl, inr, refl, All}
 use Rattle.m51_cells.proofs.Members.{In, Pairs, every_all, every_in, every_of, in_cases}
-use Rattle.std.specs.List.{All}
 
 pub in_both : {A : Type 0} (P : A → Type 0) (xs ys : List A) → ((x : A) → In x xs → P x) → ((x : A) → In x ys → P x)
     → (x : A) → In x (xs ++ ys) → P x

@@ -3,39 +3,45 @@
 use Rattle.m51_asm.proofs
 use Rattle.m51_asm.specs
 use proofs.Common.{◌≡◌, ℕ, suc, ◌||◌, Bool, List, refl, ap, ◌∙◌, Meanings, BodyTree, LineTree, Assignment, body_at}
-use proofs.Common.{bank_by, arith, is_some, nat_lt, true, false, cond, Option, Some, None, ◌+◌, option_map, Kind}
-use proofs.Common.{Definition, SegmentOf, TextSegment, first_definition, Value, operand_fault, ◌%◌, sym, subst}
-use proofs.Common.{slice_get, Whole, PassOneState, Located, body_of, here_at, mod51, form_by, Fits, Table, first_in}
-use proofs.Common.{Jump, located_value, size_in, expression_given, IsAt, AreLineFacts, here_of, [], ◌∷◌, ◌++◌, length}
-use proofs.Common.{Defined, list_any, is_set, or_parts, take_all, bytes_eq-Decides, bytes_eq, Tree, LinePlace, Label}
-use proofs.Common.{SetOf, externals_from, defined_by, label_defined, found_in, set_by, named_value, defined_value}
-use proofs.Common.{Valuation, value_in, IsPlaceOf, IsSetAt, PlacedText, IsAssignedText, number_at, segment_number}
+use proofs.Common.{arith, is_some, nat_lt, true, false, cond, Option, Some, None, ◌+◌, option_map, Kind, TextSegment}
+use proofs.Common.{first_definition, Value, ◌%◌, sym, subst, slice_get, Whole, Located, body_of, here_at, Fits, Table}
+use proofs.Common.{first_in, Jump, located_value, size_in, here_of, [], ◌∷◌, ◌++◌, length, list_any, or_parts, take_all}
+use proofs.Common.{bytes_eq-Decides, bytes_eq, Tree, LinePlace, Valuation, value_in, IsPlaceOf, number_at, SegmentEntry}
+use proofs.Common.{current_in, segment_in, kept_meanings, with_label, names_at, value_of, is_absolute, slice_get_within}
+use proofs.Common.{◌<◌, length-append, AreFree, IsFirstFault, ArePlaces, IsPassedTo, leb-false, leb-true, ◌-◌}
+use proofs.Common.{◌≤◌, ◌==◌, min, map, ltb-false, Giving, is_misplaced, brief, text_segment, ◌^◌}
+use specs.Fitting.{bank_by, mod51, form_by, set_by, named_value, bank_before, last_absolute, declared, declared_by}
+use specs.Fitting.{segment_behind, size_at, filled, last_set, undefined_value, externals_before}
+use specs.Definitions.{Definition, SegmentOf, Defined, Label, SetOf, externals_from, defined_by, label_defined}
+use specs.Definitions.{found_in, definition_of, definitions_in}
+use specs.PlacedFaults.{operand_fault, placed_fault, kind_end, is_past, is_numbered_by, segments_before, is_too_many}
+use specs.declared.placing.PassOneState.{PassOneState}
+use specs.GivenValues.{expression_given, given_or}
+use specs.Placing.{IsAt, AreLineFacts, IsTableOf, AreFactsFrom, AreSegmentsAt, IsCounted, AreCounts, AreSmall}
+use specs.Placing.{numbers_one, exceeds_end, are_too_many, fault_by}
+use specs.Repeats.{is_set, is_repeated, IsFirstRepeat}
+use specs.ValuesAbove.{defined_value, value_above}
+use specs.ValuesAt.{IsSetAt, value_by_first, value_at, if_put, PutsIf, set_in, IsKnownAt}
+use specs.declared.numbering.PlacedText.{PlacedText}
+use specs.PlacedText.{IsAssignedText}
+use specs.ObjectSegments.{segment_number, final}
 use specs.Assignment.{above, value_or_none, is_bitaddressable}
-use specs.Fitting.{bank_before, last_absolute, declared, declared_by, segment_behind, size_at, filled, last_set}
-use specs.Fitting.{undefined_value}
 use specs.Parts.{is_selected}
 use specs.Banks.{selects}
-use specs.Definitions.{definition_of}
 use specs.LineFaults.{operand_fault_by}
-use specs.declared.segment_table.SegmentEntry.{SegmentEntry}
-use specs.OpenSegments.{declared_first, open_behind, named_by, current_in, last_in}
-use specs.SegmentTable.{HasDeclared, segment_in}
-use proofs.KnownSegments.{declares}
-use Rattle.m51_cells.specs.declared.kind.Base.TheVariants as base
+use specs.OpenSegments.{declared_first, open_behind, named_by, last_in, last_with, last_id}
+use specs.SegmentTable.{HasDeclared, saturated, with_entry}
+use proofs.KnownSegments.{declares, current_is, latest_is, more_segments}
 use specs.declared.line_facts.LineFacts.{LineFacts}
-use specs.Repeats.{is_repeated}
-use specs.NamesAt.{kept_meanings, with_label, names_at}
-use specs.Operands.{operand_number, IsOperand}
-use specs.Placing.{IsTableOf, AreFactsFrom}
-use proofs.NamesAt.{means, form_told}
-use proofs.SegmentsAt.{current_is, latest_is}
-use Rattle.m51_expr.specs.Evaluation.{value_of}
-use specs.ValuesAbove.{value_above}
-use specs.ValuesAt.{value_by_first, value_at, if_put, PutsIf, set_in, IsKnownAt}
+use specs.Operands.{operand_number, IsOperand, evaluated_fault, given_in, bank_in}
+use proofs.DefinedLines.{means, form_told, grown, given}
 use specs.declared.names_at.NamesAt.{NamesAt}
-use specs.ObjectSegments.{final}
-use Rattle.m51_cells.specs.Kinds.{is_absolute}
-use Rattle.std.proofs.lemmas.Option.{slice_get_within}
+use Rattle.m51_cells.specs.declared.fault.TheConstants.{DEFINED_TWICE}
+use specs.Passing.{is_reached}
+use specs.declared.counts.Counts.{Counts}
+use proofs.GoodLines.{IsFaultFree, test_none}
+use Rattle.m51_cells.specs.declared.kind.Base.TheVariants as base
+use Rattle.m51_cells.specs.declared.kind.Kind.TheVariants as kind
 
 -- whether a bank is selected, with one more line
 pub selected_more : (lines : List LineTree) (a : Assignment) (k bank after : ℕ) (body : BodyTree) (before : Bool)
@@ -262,3 +268,211 @@ names_mean lines a k t h set sets p stands here at numbers each =
     value : (name : List ℕ)
         → value_at t.text.names.now t.end.now.values set t.text.mod51 p.bank name ≡ a.value k name
     value = grind (arith, value_is)
+
+-- Pass 1 line by line: where it stops, and how one more line is passed.
+
+repeat_is_fault : (lines : List LineTree) (a : Assignment) (k : ℕ) → is_repeated lines k ≡ true
+    → placed_fault lines a k ≡ Some DEFINED_TWICE
+unfolding placed_fault
+repeat_is_fault lines a k h = rw h refl
+
+-- a line above the first one that repeats does not
+pub not_reached : (lines : List LineTree) (repeated : Option ℕ) (k : ℕ) → IsFirstRepeat lines repeated
+    → k < length lines → is_reached repeated k ≡ false → is_repeated lines k ≡ false
+not_reached lines None k h b e = h k b
+not_reached lines (Some first) k h b e = h.1 k (leb-false first k e)
+
+-- where no line above has a fault, a line that is not above the first one that repeats is that one
+pub reached : (lines : List LineTree) (a : Assignment) (repeated : Option ℕ) (k : ℕ) → IsFirstRepeat lines repeated
+    → AreFree lines a k
+    → is_reached repeated k ≡ true → IsFirstFault lines a k DEFINED_TWICE
+reached lines a None k h free e = absurd (cc e)
+reached lines a (Some first) k h free e =
+    let not_below : first < k → ⊥ = λ b. free_repeats (repeat_is_fault lines a first h.0.1) (free first b) in
+    let same : first ≡ k = omega (arith, leb-true first k e, not_below) in
+    record {
+      within = subst (λ n. n < length lines) same h.0.0;
+      found = repeat_is_fault lines a k (subst (λ n. is_repeated lines n ≡ true) same h.0.1);
+      earlier = free;
+    }
+  where
+    free_repeats : {x : Option ℕ} → x ≡ Some DEFINED_TWICE → x ≡ None → ⊥
+    free_repeats p q = cc (p, q)
+
+-- what holds of each item of a list, and of one more
+pub pushed_each : {T : Type 0} (P : ℕ → T → Type 0) (xs : List T) (y : T)
+    → ((j : ℕ) (x : T) → slice_get xs j ≡ Some x → P j x)
+    → P (length xs) y → (j : ℕ) (x : T) → slice_get (xs ++ y ∷ []) j ≡ Some x → P j x
+pushed_each P (z ∷ xs) y h here (suc j) x e = pushed_each (λ j. P (suc j)) xs y (λ j x e. h (suc j) x e) here j x e
+pushed_each P xs y h here j x e = grind arith
+
+-- no line is placed yet
+pub no_places : (lines : List LineTree) (a : Assignment) → ArePlaces lines a []
+no_places lines a b p e = grind arith
+
+-- one more line is passed
+pub passed_more : (lines : List LineTree) (a : Assignment) (k : ℕ) (places more : List LinePlace) (p : LinePlace)
+    (before end : PassOneState)
+    → IsPassedTo lines a k places before → more ≡ places ++ p ∷ [] → placed_fault lines a k ≡ None
+    → IsAt lines a (suc k) end
+    → IsPlaceOf lines a k p → IsPassedTo lines a (suc k) more end
+passed_more lines a k places more p before end h e free at place = record {
+  free = free_more;
+  counted = ap length e ∙ omega (arith, length-append places (p ∷ []), h.counted);
+  each = subst (λ ps. (j : ℕ) (x : LinePlace) → slice_get ps j ≡ Some x → IsPlaceOf lines a j x) (sym e)
+      (pushed_each (IsPlaceOf lines a) places p h.each (subst (λ n. IsPlaceOf lines a n p) (sym h.counted) place));
+  at = at;
+}
+  where
+    free_more : AreFree lines a (suc k)
+    free_more = grind arith
+
+-- What is kept grows with a line as the definitions say, and the fault of the line follows from what is counted.
+
+-- a size past 64 bits is over each limit, as the exact one is
+small_sum : (a n most : ℕ) → min (a + min n most) most ≡ min (a + n) most
+small_sum a n most = omega arith
+
+small_zero : (n most : ℕ) → 0 < most → (min n most == 0) ≡ (n == 0)
+small_zero n most h = grind (arith, h)
+
+small_over : (limit n most : ℕ) → limit < most → nat_lt limit (min n most) ≡ nat_lt limit n
+small_over limit n most h = grind (arith, h)
+
+small_end : (limit base n most : ℕ) → limit < most → nat_lt limit (base + min n most) ≡ nat_lt limit (base + n)
+small_end limit base n most h = grind (arith, h)
+
+small_is : (n most : ℕ) → most < 2 ^ 64 - 1 → saturated n ≤ most → saturated n ≡ n
+small_is n most h less = omega (arith, h, less)
+
+given_sum : (b : Bool) (before n : ℕ) → saturated (before + cond b (saturated n) 0) ≡ saturated (before + cond b n 0)
+given_sum b before n = grind (arith, small_sum)
+
+end_most : (k : Kind) → kind_end k ≤ 65536
+end_most k = grind arith
+
+passes_same : (s : TextSegment) (n : ℕ) → exceeds_end s (saturated n) ≡ exceeds_end s n
+passes_same s n =
+    let less : kind_end s.kind < 2 ^ 64 - 1 = omega (arith, end_most s.kind) in
+    λ i. small_end (kind_end s.kind) s.base n (2 ^ 64 - 1) less i || small_over 65535 n (2 ^ 64 - 1) (omega arith) i
+
+numbers_same : (lines : List LineTree) (a : Assignment) (k : ℕ) (body : BodyTree)
+    → numbers_one (a.segment k) (filled lines a (a.segment k).id k) (saturated (size_at lines a k)) body
+    ≡ is_numbered_by lines a k body
+numbers_same lines a k body = grind (arith, small_zero (size_at lines a k) (2 ^ 64 - 1))
+
+-- the counts after a line without a fault are within their limits
+pub small_counts : (s : TextSegment) (c : Counts) (misplaced : Bool) (operand : Option ℕ)
+    → fault_by (exceeds_end s c.next) misplaced (are_too_many c.segments c.externals) operand ≡ None → AreSmall c
+small_counts s c misplaced operand h = grind (arith, test_none, or_parts, ltb-false)
+
+-- the externals of a line that are not too many by their count are not too many
+pub small_sum_is : (above here counted : ℕ) → counted ≡ saturated (above + here) → counted ≤ 255 → above + here ≤ 255
+small_sum_is above here counted h less = omega (arith, h, less)
+
+module _ {lines : List LineTree} {a : Assignment} {k : ℕ} {s : PassOneState} {t : LineFacts} (at : IsAt lines a k s)
+    (told : AreLineFacts lines a k t) where
+  -- what is counted
+  pub counted : {c : Counts} {segment : TextSegment} {body : BodyTree} → segment ≡ a.segment k → body ≡ body_at lines k
+      → AreCounts (size_in s.segments.table) s.numbered s.externals segment (text_segment t.next) t.size body c
+      → IsCounted lines a k c
+  unfolding filled segments_before externals_before
+  counted {c = c} own is counts =
+      let h : AreCounts (λ id. filled lines a id k) (segments_before lines a k) (externals_before lines k) (a.segment k)
+      (a.segment (suc k)) (saturated (size_at lines a k)) (body_at lines k) c =
+      coe 0 1 (i. AreCounts (λ id. at.segments.table.sizes id i) (at.numbered i) (at.declared i)
+      (own i) (told.next i) (told.size i) (is i) c) counts in
+      record {
+        next =
+            h.next ∙ given_sum ((a.segment k).id == (a.segment (suc k)).id) (filled lines a (a.segment (suc k)).id k)
+            (size_at lines a k);
+        segments = cc (h.segments, numbers_same lines a k (body_at lines k));
+        externals = h.externals;
+      }
+
+  -- the fault of a line that repeats nothing
+  pub fault_told : {c : Counts} {segment : TextSegment} {body : BodyTree} → Fits lines a → segment ≡ a.segment k
+      → body ≡ body_at lines k → is_repeated lines k ≡ false → IsCounted lines a k c
+      → fault_by (exceeds_end (text_segment t.next) c.next) (is_misplaced segment body)
+      (are_too_many c.segments c.externals) (evaluated_fault t.operand)
+      ≡ placed_fault lines a k
+  unfolding placed_fault
+  fault_told {c = c} f own is once counts =
+      let past : exceeds_end (text_segment t.next) c.next ≡ is_past lines a k =
+      (λ i. exceeds_end (told.next i) (counts.next i))
+      ∙ cc (passes_same (a.segment (suc k)) (filled lines a (a.segment (suc k)).id (suc k)), f.places (suc k)) in
+      let many : are_too_many c.segments c.externals ≡ is_too_many lines a k =
+      cc (
+        counts.segments,
+        counts.externals,
+        small_over 255 (externals_before lines (suc k)) (2 ^ 64 - 1) (omega arith),
+      ) in
+      (λ i. fault_by (past i) (is_misplaced (own i) (is i)) (many i) (told.operand.fault_is i))
+      ∙ sym (rw once refl)
+
+  -- the bank after a line without a fault
+  pub bank_after : IsFaultFree lines a k → bank_in s.bank t.operand ≡ bank_before lines a (suc k)
+  unfolding bank_before
+  bank_after free = cc (told.operand.bank_is free.operand s.bank, at.selected)
+
+module _ {lines : List LineTree} {a : Assignment} {k : ℕ} {s : PassOneState} {t : LineFacts} {c : Counts}
+    (f : Fits lines a) (line : LineTree) (is : slice_get lines k ≡ Some line) (free : IsFaultFree lines a k)
+    (at : IsAt lines a k s) (told : AreLineFacts lines a k t) (counts : IsCounted lines a k c) (small : AreSmall c)
+    (g : Giving) (here : g.here ≡ t.here)
+    (expression : option_map located_value g.expression ≡ given_in t.operand) (number : g.line ≡ k)
+    (externals : g.externals ≡ s.externals) (n : PassOneState) where
+  known_next : ((name : List ℕ)
+      → value_in n.values name ≡ given_or g (map brief (definitions_in line.stmt)) name (value_in s.values name))
+      → (name : List ℕ) → option_map located_value (value_in n.values name) ≡ value_above lines a (suc k) name
+  known_next h name =
+      let gives = expression ∙ told.operand.given_is free.operand
+      ∙ ap (λ l. expression_given (above lines a k) (body_of l)) is in
+      cc (
+        h name,
+        given lines a k g (ap located_value here ∙ told.here) number (externals ∙ at.declared) name
+            (value_in s.values name) line.stmt gives,
+        at.known name,
+        is,
+        grown lines a k name line is free.once,
+      )
+
+  -- the state after a line
+  pub at_next : ((name : List ℕ)
+      → value_in n.values name ≡ given_or g (map brief (definitions_in line.stmt)) name (value_in s.values name))
+      → n.segments.table ≡ with_entry s.segments.table (text_segment t.next) c.next → n.segments.current ≡ t.next.id
+      → ((kind : Kind) → last_id n.segments.last kind ≡ last_with (text_segment t.next) (last_id s.segments.last) kind)
+      → n.bank ≡ bank_in s.bank t.operand → n.numbered ≡ c.segments → n.externals ≡ c.externals
+      → IsAt lines a (suc k) n
+  at_next values table current latest selected numbered declared = record {
+    known = known_next values;
+    segments =
+        more_segments lines a f k (slice_get_within lines k line is) s.segments n.segments t.next c.next at.segments
+        told.next
+        (counts.next ∙ small_is (filled lines a (a.segment (suc k)).id (suc k)) 65535 (omega arith)
+        (subst (λ x. x ≤ 65535) counts.next small.next))
+        table current latest;
+    selected = selected ∙ bank_after at told free;
+    numbered = numbered ∙ counts.segments;
+    declared =
+        declared ∙ counts.externals
+        ∙ small_is (externals_before lines (suc k)) 255 (omega arith)
+        (subst (λ x. x ≤ 255) counts.externals small.externals);
+  }
+
+nothing_above : (lines : List LineTree) (a : Assignment) (name : List ℕ) → value_above lines a 0 name ≡ None
+unfolding value_above definition_of
+nothing_above [] a name = refl
+nothing_above (l ∷ lines) a name = refl
+
+-- before the first line nothing is kept
+pub at_start : (lines : List LineTree) (a : Assignment) (s : PassOneState)
+    → ((name : List ℕ) → value_in s.values name ≡ None) → AreSegmentsAt lines a 0 s.segments
+    → s.bank ≡ 0 → s.numbered ≡ 0 → s.externals ≡ 0 → IsAt lines a 0 s
+unfolding bank_before segments_before externals_before
+at_start lines a s values segments bank numbered externals = record {
+  known = λ name. ap (option_map located_value) (values name) ∙ sym (nothing_above lines a name);
+  segments = segments;
+  selected = bank;
+  numbered = numbered;
+  declared = externals;
+}

@@ -1,8 +1,8 @@
 use Rattle.m51_asm.proofs
 use proofs.Common.{◌≡◌, map, length, [], sym, subst, ◌∙◌, IsValid, line_tree, IsGivenTo, content_faults, arith}
+use proofs.Common.{is_nothing}
 use proofs.AnAssignment.{fitting, fits}
 use proofs.ValidParts.{valid_where}
-use Rattle.m51_text.proofs.Telling.{is_nothing}
 use proofs.AnsweredLines.{all_faults, all_rows, faults_answer, module_answer}
 use proofs.GatheredLines.{whole}
 use proofs.answering.answer_placed.Goals as goal

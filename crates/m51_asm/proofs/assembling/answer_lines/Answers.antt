@@ -1,6 +1,5 @@
 use Rattle.m51_asm.proofs
-use proofs.Common.{map, length, ap, subst, ◌∙◌, arith, length-map, line_tree, IsFirstFault}
-use Rattle.m51_asm.specs.Passing.{IsPlaced, IsPassed}
+use proofs.Common.{map, length, ap, subst, ◌∙◌, arith, length-map, line_tree, IsFirstFault, IsPlaced, IsPassed}
 use proofs.AnAssignment.{fitting, fits}
 use proofs.AnsweredLines.{fault_answer, line_at}
 use proofs.assembling.answer_lines.Goals as goal

@@ -1,6 +1,5 @@
 use Rattle.m51_asm.proofs
-use proofs.Common.{◌≡◌, map, line_tree, Assignment, ArePlaces}
-use Rattle.m51_asm.specs.Parts.{is_selected}
+use proofs.Common.{◌≡◌, map, line_tree, Assignment, ArePlaces, is_selected}
 use proofs.banks.is_selected.Given as goal
 
 -- whether one of the lines so far selects it

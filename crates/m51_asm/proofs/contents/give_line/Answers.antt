@@ -1,14 +1,12 @@
 use Rattle.m51_asm.proofs
-use Rattle.m51_asm.specs
-use proofs.Common.{◌≡◌, ◌++◌, [], ap, ◌∙◌, line_tree, located_value, here_at, here_of, or_next, body_of, if_fault}
-use proofs.Common.{fault_among, arith, number_at, segment_number, ℕ}
+use proofs.Common.{◌≡◌, ◌++◌, [], ap, ◌∙◌, line_tree, located_value, here_at, here_of, body_of, if_fault, arith}
+use proofs.Common.{number_at, ℕ, names_at}
+use Rattle.m51_emit.specs.Outcomes.{or_next}
+use Rattle.m51_asm.specs.Publishing.{fault_among, published_by, publics_among}
+use Rattle.m51_asm.specs.ObjectSegments.{segment_number, final}
 use Rattle.m51_emit.specs.Lines.{row_by}
-use specs.NamesAt.{names_at}
-use specs.ObjectSegments.{final}
-use specs.Publishing.{published_by, publics_among}
 use proofs.ToldLines.{place_is, names_of, names_mean}
-use proofs.PublishedNames.{published_is}
-use proofs.GivenLines.{next_given, content_is, unfaulted}
+use proofs.GatheredLines.{published_is, next_given, content_is, unfaulted}
 use proofs.contents.give_line.Goals as goal
 
 pub returns-clause-given : goal.returns-clause-given

@@ -1,14 +1,9 @@
 use Rattle.m51_asm.proofs
 use proofs.Common.{◌≤◌, ◌≡◌, ◌==◌, map, length, ap, sym, subst, ◌∙◌, add-one, arith, length-map, line_tree, IsGivenTo}
-use proofs.Common.{nothing_gathered, number_at}
-use Rattle.m51_text.proofs.Telling.{is_nothing}
-use Rattle.m51_emit.specs.Within.{LieInside}
-use Rattle.m51_emit.specs.declared.content.EmittedContent.{EmittedContent}
+use proofs.Common.{nothing_gathered, number_at, is_nothing, LieInside, EmittedContent, slice_get_within}
 use proofs.AnAssignment.{fitting, fits}
-use Rattle.std.proofs.lemmas.Option.{slice_get_within}
 use proofs.AnsweredLines.{read_at}
-use proofs.GivenLines.{first_given}
-use proofs.GatheredLines.{placed_text, segments_few, first_gathered, next_gathered, given_fits, line_lies}
+use proofs.GatheredLines.{first_given, placed_text, segments_few, first_gathered, next_gathered, given_fits, line_lies}
 use proofs.contents.give_lines.Goals as goal
 
 pub nothing_gathered-requires : goal.nothing_gathered-requires

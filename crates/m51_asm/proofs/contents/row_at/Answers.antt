@@ -1,6 +1,6 @@
 use Rattle.m51_asm.proofs
 use proofs.Common.{arith}
-use proofs.GivenLines.{row_is}
+use proofs.GatheredLines.{row_is}
 use proofs.contents.row_at.Goals as goal
 
 pub returns : goal.returns

@@ -1,6 +1,5 @@
 use Rattle.m51_asm.proofs
-use proofs.Common.{◌∙◌, ap, with_line, number_at}
-use Rattle.m51_asm.specs.Gathering.{changed_element}
+use proofs.Common.{◌∙◌, ap, with_line, number_at, changed_element}
 use proofs.GatheredLines.{on_ok}
 use proofs.gathering.gather_line.Goals as goal
 

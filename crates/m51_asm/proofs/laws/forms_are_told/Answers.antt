@@ -1,5 +1,5 @@
 use Rattle.m51_asm.proofs
-use proofs.NamesAt.{form_told}
+use proofs.DefinedLines.{form_told}
 use proofs.laws.forms_are_told.Goals as goal
 
 pub returns : goal.returns

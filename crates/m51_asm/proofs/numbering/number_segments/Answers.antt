@@ -1,15 +1,12 @@
 use Rattle.m51_asm.proofs
-use Rattle.m51_asm.specs
 use proofs.Common.{◌<◌, suc, ◌++◌, ◌∷◌, [], map, length, ap, sym, ◌∙◌, add-one, arith, length-map, line_tree, body_of}
-use proofs.Common.{opening}
-use specs.ObjectSegments.{kept}
-use Rattle.m51_stmt.specs.Statement.{body_tree}
-use specs.Numbering.{segment_filled, segment_added}
+use proofs.Common.{opening, body_tree}
+use Rattle.m51_asm.specs.ObjectSegments.{kept}
+use Rattle.m51_asm.specs.Numbering.{segment_filled, segment_added}
 use proofs.AnAssignment.{fitting, fits}
-use proofs.FewSegments.{kept_most}
+use proofs.KnownSegments.{kept_most, none_numbered, numbered_more, few_first, few_more, kept_first, kept_more}
 use proofs.GoodLines.{free_where}
 use proofs.AnsweredLines.{line_at}
-use proofs.NumberedSegments.{none_numbered, numbered_more, few_first, few_more, kept_first, kept_more}
 use proofs.numbering.number_segments.Goals as goal
 
 pub add-requires : goal.add-requires

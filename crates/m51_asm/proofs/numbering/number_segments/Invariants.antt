@@ -1,8 +1,6 @@
 use Rattle.m51_asm.proofs
-use Rattle.m51_asm.specs
-use proofs.Common.{◌+◌, map, line_tree, Assignment, Fits}
-use specs.ObjectSegments.{kept_before}
-use specs.Numbering.{AreNumbered}
+use proofs.Common.{◌+◌, map, line_tree, Assignment, Fits, AreNumbered}
+use Rattle.m51_asm.specs.ObjectSegments.{kept_before}
 use proofs.numbering.number_segments.Given as goal
 
 -- the lines so far are numbered

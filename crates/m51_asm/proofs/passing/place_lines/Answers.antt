@@ -1,8 +1,7 @@
 use Rattle.m51_asm.proofs
-use proofs.Common.{◌≡◌, map, length, sym, subst, ◌∙◌, add-one, arith, length-map, line_tree, IsPassedTo}
-use Rattle.m51_asm.specs.Placing.{IsLineOutcome}
+use proofs.Common.{◌≡◌, map, length, sym, subst, ◌∙◌, add-one, arith, length-map, line_tree, IsPassedTo, IsLineOutcome}
 use proofs.AnsweredLines.{line_at}
-use proofs.PassedLines.{not_reached, reached, no_places, passed_more}
+use proofs.ToldLines.{not_reached, reached, no_places, passed_more}
 use proofs.passing.place_lines.Goals as goal
 
 pub loop-k-init : goal.loop-k-init

@@ -1,8 +1,5 @@
 use Rattle.m51_asm.proofs
-use Rattle.m51_asm.specs
-use proofs.Common.{◌≡◌, ◌∙◌, map, line_tree, located_value, size_in, here_of}
-use specs.NamesAt.{kept_meanings}
-use specs.OpenSegments.{current_in}
+use proofs.Common.{◌≡◌, ◌∙◌, map, line_tree, located_value, size_in, here_of, kept_meanings, current_in}
 use proofs.ToldLines.{names_are, told_line}
 use proofs.placing.facts_of.Goals as goal
 

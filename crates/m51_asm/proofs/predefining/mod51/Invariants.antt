@@ -1,6 +1,6 @@
 use Rattle.m51_asm.proofs
-use proofs.Common.{◌≡◌, drop, map, line_tree, mod51}
-use Rattle.m51_asm.specs.Fitting.{mod51_after}
+use proofs.Common.{◌≡◌, drop, map, line_tree}
+use Rattle.m51_asm.specs.Fitting.{mod51, mod51_after}
 use proofs.predefining.mod51.Given as goal
 
 -- what the lines that are left make of it is what all make of it

@@ -1,12 +1,9 @@
 use Rattle.m51_asm.proofs
-use Rattle.m51_asm.specs
-use proofs.Common.{◌≡◌, ap, map, sym, ◌∙◌, None, line_tree, body_of, externals_in, text_segment}
-use Rattle.m51_stmt.specs.Statement.{body_tree}
-use specs.Fitting.{filled}
-use specs.PlacedFaults.{placed_fault}
+use proofs.Common.{◌≡◌, ap, map, sym, ◌∙◌, None, line_tree, body_of, text_segment, body_tree, placed_fault}
+use Rattle.m51_asm.specs.Fitting.{externals_in, filled}
 use proofs.GoodLines.{free}
-use proofs.SegmentsAt.{current_is}
-use proofs.PlacedLines.{counted, fault_told, small_counts, small_sum_is, bank_after}
+use proofs.KnownSegments.{current_is}
+use proofs.ToldLines.{counted, fault_told, small_counts, small_sum_is, bank_after}
 use proofs.stepping.step.Goals as goal
 
 pub returns-in-Some : goal.returns-in-Some

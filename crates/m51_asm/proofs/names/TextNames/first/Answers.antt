@@ -1,6 +1,6 @@
 use Rattle.m51_asm.proofs
 use proofs.Common.{ap, ◌∙◌, ℕ, Vec, lookup, bytes_eq, first_in}
-use proofs.PublicKeys.{lookup_is}
+use proofs.DefinedLines.{lookup_is}
 use proofs.names.TextNames.first.Goals as goal
 
 pub returns : goal.returns

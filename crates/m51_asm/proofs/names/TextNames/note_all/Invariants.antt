@@ -1,6 +1,5 @@
 use Rattle.m51_asm.proofs
-use proofs.Common.{◌≡◌, ◌||◌, drop}
-use Rattle.m51_asm.specs.Table.{all_noted, any_clash}
+use proofs.Common.{◌≡◌, ◌||◌, drop, all_noted, any_clash}
 use proofs.names.TextNames.note_all.Given as goal
 
 -- what is found and noted, with what the definitions that are left give, is the whole

@@ -1,7 +1,6 @@
 use Rattle.m51_asm.proofs
-use proofs.Common.{◌≡◌, ◌++◌, ◌∷◌, [], ap, ◌∙◌, None, first_in}
-use Rattle.m51_asm.specs.Table.{entries_of}
-use proofs.PublicKeys.{put_last}
+use proofs.Common.{◌≡◌, ◌++◌, ◌∷◌, [], ap, ◌∙◌, None, first_in, entries_of}
+use proofs.DefinedLines.{put_last}
 use proofs.names.TextNames.put.Goals as goal
 
 pub returns : goal.returns

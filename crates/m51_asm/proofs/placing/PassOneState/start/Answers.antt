@@ -1,7 +1,7 @@
 use Rattle.m51_asm.proofs
 use proofs.Common.{map, line_tree, ap, refl, value_in}
-use proofs.SegmentsAt.{start_segments}
-use proofs.PlacedLines.{at_start}
+use proofs.KnownSegments.{start_segments}
+use proofs.ToldLines.{at_start}
 use proofs.placing.PassOneState.start.Goals as goal
 
 pub returns : goal.returns

@@ -1,10 +1,10 @@
 use Rattle.m51_asm.proofs
-use proofs.Common.{◌≡◌, ap, map, refl, ◌∙◌, line_tree, Giving, definitions_in, brief, value_in, given_or}
-use Rattle.std.proofs.Common.{rules}
-use Rattle.m51_stmt.specs.Statement.{stmt_tree}
-use proofs.GivenValues.{have_numbers}
+use proofs.Common.{◌≡◌, ap, map, refl, ◌∙◌, line_tree, Giving, brief, value_in, rules, stmt_tree}
+use Rattle.m51_asm.specs.Definitions.{definitions_in}
+use Rattle.m51_asm.specs.GivenValues.{given_or}
+use proofs.DefinedLines.{have_numbers}
 use proofs.GoodLines.{free}
-use proofs.PlacedLines.{at_next}
+use proofs.ToldLines.{at_next}
 use proofs.placing.PassOneState.take_in.Goals as goal
 
 pub take_in-requires-clause-numbers : goal.take_in-requires-clause-numbers

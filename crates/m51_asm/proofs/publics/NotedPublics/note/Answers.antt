@@ -1,6 +1,6 @@
 use Rattle.m51_asm.proofs
 use proofs.Common.{◌≡◌, ℕ, not, map, ap, ◌∙◌, Vec, list_any, bytes_eq, made_public}
-use proofs.PublicKeys.{keys_any, twice, key_put}
+use proofs.DefinedLines.{keys_any, twice, key_put}
 use proofs.publics.NotedPublics.note.Goals as goal
 
 pub returns-clause-again : goal.returns-clause-again

@@ -1,6 +1,5 @@
 use Rattle.m51_asm.proofs
-use proofs.Common.{◌≡◌, ◌||◌, drop}
-use Rattle.m51_asm.specs.Table.{all_public, any_public}
+use proofs.Common.{◌≡◌, ◌||◌, drop, all_public, any_public}
 use proofs.publics.NotedPublics.note_all.Given as goal
 
 -- what is found and noted, with what the names that are left give, is the whole

@@ -1,7 +1,6 @@
 use Rattle.m51_asm.proofs
-use proofs.Common.{ap, ◌∙◌, ℕ, Vec, lookup, bytes_eq, value_in}
-use Rattle.m51_asm.specs.Values.{known}
-use proofs.GivenValues.{lookup_value}
+use proofs.Common.{ap, ◌∙◌, ℕ, Vec, lookup, bytes_eq, value_in, known}
+use proofs.DefinedLines.{lookup_value}
 use proofs.valuation.Values.get.Goals as goal
 
 pub returns : goal.returns

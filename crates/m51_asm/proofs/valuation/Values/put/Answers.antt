@@ -1,7 +1,6 @@
 use Rattle.m51_asm.proofs
-use proofs.Common.{◌≡◌, cond, ap, ◌∙◌, bytes_eq, value_in}
-use Rattle.m51_asm.specs.Values.{valuation_of}
-use proofs.GivenValues.{put_value}
+use proofs.Common.{◌≡◌, cond, ap, ◌∙◌, bytes_eq, value_in, valuation_of}
+use proofs.DefinedLines.{put_value}
 use proofs.valuation.Values.put.Goals as goal
 
 pub returns : goal.returns

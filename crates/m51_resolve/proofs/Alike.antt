@@ -1,6 +1,6 @@
 -- Segments that are parts of one.
 use Rattle.std.proofs.Common.{arith}
-use Rattle.m51_resolve.proofs.Common.{◌≡◌, Bool, true, false, cond, ◌&&◌, ◌||◌, List, [], ◌∷◌, ◌++◌, refl, ap, ◌∙◌}
+use Rattle.m51_resolve.proofs.Common.{◌≡◌, Bool, true, false, ◌&&◌, ◌||◌, List, [], ◌∷◌, ◌++◌, refl, ◌∙◌}
 use Rattle.m51_resolve.proofs.Common.{filter, list_any, bytes_eq, list_any-append, bytes_eq-Decides, Segment}
 use Rattle.m51_resolve.proofs.Common.{are_parts, is_relocatable}
 use Rattle.std.proofs.lemmas.Bool.{and_parts}

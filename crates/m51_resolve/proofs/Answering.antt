@@ -1,11 +1,11 @@
 -- From the steps of the work to the answer.
-use Rattle.m51_resolve.proofs.Common.{◌≡◌, ℕ, ◌≤◌, Bool, false, List, [], ◌∷◌, length, map, get_or, refl, sym, ap}
+use Rattle.m51_resolve.proofs.Common.{◌≡◌, ℕ, ◌≤◌, Bool, false, List, [], ◌∷◌, length, map, get_or, refl, sym}
 use Rattle.m51_resolve.proofs.Common.{◌∙◌, arith, Option, Some, None, length-map, slice_get-get_or, filter}
 use Rattle.m51_resolve.proofs.Common.{option_or, All, find, option_map, map_none, ModuleParts, Segment}
 use Rattle.m51_resolve.proofs.Common.{External, all_segments, joined_of, segments_of, all_externals}
 use Rattle.m51_resolve.proofs.Common.{public_definition, unless_refused, all_growing, AreDefinitions}
 use Rattle.m51_resolve.proofs.Common.{definition_in, Growing}
-use Rattle.std.specs.Prelude.{IsErrAnd, Result, Err}
+use Rattle.std.specs.Prelude.{IsErrAnd, Result}
 use Rattle.std.proofs.lemmas.Bool.Decides.{nat_tests}
 use Rattle.m51_cells.specs.Outcome.{Gives, RefusesWith}
 use Rattle.m51_cells.specs.Kinds.{is_code}

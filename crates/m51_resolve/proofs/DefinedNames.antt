@@ -1,18 +1,26 @@
 -- The table of the names that modules define.
+-- The names of modules in their tables, module by module.
+-- Publics that two modules define.
 use Rattle.m51_resolve.proofs.Common.{◌≡◌, ℕ, ◌+◌, ◌<◌, Bool, true, false, cond, not, ◌&&◌, ◌||◌, List, [], ◌∷◌, ◌++◌}
 use Rattle.m51_resolve.proofs.Common.{length, drop, get_or, refl, sym, ap, ◌∙◌, arith, Option, Some, None, is_some}
 use Rattle.m51_resolve.proofs.Common.{zero-add, list_any-append, bytes_eq-Decides, list_any, option_or, option_map}
 use Rattle.m51_resolve.proofs.Common.{position, bytes_eq, defines, has_public, ModuleParts, Public, definition_among}
-use Rattle.m51_resolve.proofs.Common.{definition_from, public_definition, defining_module, AreAskedFor, AreDefinitions}
-use Rattle.m51_resolve.proofs.Common.{definition_in, entry_by_name, shared_in, wanted_in, Defined, Definition}
+use Rattle.m51_resolve.proofs.Common.{definition_from, public_definition, defining_module, AreAskedFor}
+use Rattle.m51_resolve.proofs.Common.{AreDefinitions, definition_in, entry_by_name, shared_in, wanted_in, Defined}
+use Rattle.m51_resolve.proofs.Common.{Definition, map, take, append_assoc, length-map, take_more, External, wants}
+use Rattle.m51_resolve.proofs.Common.{AreNamed, AreWanted, Wants, slice_get-get_or, find}
 use Rattle.std.specs.Prelude.{◌==◌}
-use Rattle.std.proofs.lemmas.List.{at_drop_more}
+use Rattle.std.proofs.lemmas.List.{at_drop_more, get_or-map, length-take-le}
 use Rattle.std.specs.List.{position_from}
 use Rattle.std.proofs.lemmas.Iterator.Adapters.{position_from-zero}
-use Rattle.m51_resolve.specs.WorkNames.{NotesAsked, again, defined_by}
-use Rattle.m51_resolve.specs.WorkNames.{definition_at, is_shared, noted, Notes}
+use Rattle.m51_resolve.specs.WorkNames.{NotesAsked, again, defined_by, definition_at, is_shared, noted, Notes}
 use Rattle.m51_resolve.specs.WorkNames.{two_define}
 use Rattle.m51_resolve.proofs.Entries.{definition_number}
+use Rattle.std.proofs.lemmas.Grind.{common_steps}
+use Rattle.m51_module.proofs.NotedNames.{or_last}
+use Rattle.std.proofs.Common.{add-one}
+use Rattle.m51_resolve.specs.Rules.{shared_after}
+use Rattle.m51_resolve.proofs.Lookups.{around}
 
 -- what a table holds
 abbrev pub Table : Type 0
@@ -183,3 +191,106 @@ puts_nothing asked name table d none other some = by (bytes_eq name other) refl
         ≡ cond b (Some (again (entry_by_name table name) d)) (entry_by_name table other)
     by false e = refl
     by true e = absurd (cc (none, some, (bytes_eq-Decides name other).0 e))
+
+-- an item of the borrowed list
+pub lent_is : {X : Type 0} (f : X → ModuleParts) (xs : List X) (i : ℕ) (x : X) → i < length xs → x ≡ get_or xs i x → f x
+    ≡ get_or (map f xs) i (f x)
+lent_is f xs i x below is = grind (arith, get_or-map)
+
+lent_more : {X : Type 0} (f : X → ModuleParts) (xs : List X) (i : ℕ) (x : X) → i < length xs → x ≡ get_or xs i x
+    → take (i + 1) (map f xs) ≡ take i (map f xs) ++ f x ∷ []
+lent_more f xs i x below is = grind (arith, common_steps, length-map xs f, map f xs, f x, lent_is f xs i x below is)
+
+-- the set has the externals of one more module
+wanted_push : (ms : List ModuleParts) (m : ModuleParts) (old new : List (List ℕ)) (es : List External)
+    → AreWanted ms old → Wants old es new → es ≡ m.externals → AreWanted (ms ++ m ∷ []) new
+wanted_push ms m old new es are want es_are = grind (arith, or_last, wants, list_any-append)
+
+-- the tables of no module are empty
+pub none_named : AreNamed [] [] []
+none_named = grind arith
+
+-- the tables with the names of one more module
+module _ (m : ModuleParts) (old new : Table) (names names' : List (List ℕ)) (ps : List Public)
+    (es : List External) where
+  pub named_push : (ms : List ModuleParts) (number : ℕ) → AreNamed ms old names → number ≡ length ms
+      → Notes old number ps new → ps ≡ m.publics → Wants names es names' → es ≡ m.externals
+      → AreNamed (ms ++ m ∷ []) new names'
+  named_push ms number are number_is notes ps_are want es_are = grind (arith, definitions_push, wanted_push)
+
+  pub named_more : (modules : List ModuleParts) (count : ℕ) → AreNamed (take count modules) old names
+      → count < length modules → m ≡ get_or modules count m → Notes old count ps new → ps ≡ m.publics
+      → Wants names es names' → es ≡ m.externals → AreNamed (take (count + 1) modules) new names'
+  named_more modules count are below is notes ps_are want es_are =
+      let few : count ≡ length (take count modules) = grind (arith, length-take-le) in
+      rw (take_more modules count m below, ← is)
+      (named_push (take count modules) count are few notes ps_are want es_are)
+
+-- the definitions of one more module, of those that are borrowed
+pub definitions_more : {X : Type 0} (asked : List (List ℕ)) (f : X → ModuleParts) (xs : List X) (count : ℕ) (x : X)
+    (old new : Table) (ps : List Public) → AreAskedFor asked (take count (map f xs)) old → count < length xs
+    → x ≡ get_or xs count x → NotesAsked asked old count ps new → ps ≡ (f x).publics
+    → AreAskedFor asked (take (count + 1) (map f xs)) new
+definitions_more asked f xs count x old new ps are below is notes ps_are =
+    let few : count ≡ length (take count (map f xs)) =
+    sym (length-take-le count (map f xs) (omega (arith, length-map xs f))) in
+    rw (lent_more f xs count x below is)
+    (grind (arith, asked_push))
+
+-- the names that modules need, with one more of the borrowed modules
+pub wanted_more : {X : Type 0} (f : X → ModuleParts) (before : List ModuleParts) (xs : List X) (count : ℕ) (x : X)
+    (old new : List (List ℕ)) (es : List External) → AreWanted (before ++ take count (map f xs)) old
+    → count < length xs → x ≡ get_or xs count x → Wants old es new → es ≡ (f x).externals
+    → AreWanted (before ++ take (count + 1) (map f xs)) new
+wanted_more f before xs count x old new es are below is want es_are =
+    rw (lent_more f xs count x below is, ← append_assoc before (take count (map f xs)) (f x ∷ []))
+    (grind (arith, wanted_push))
+
+-- what one module shares with the others
+abbrev pub shared_with : List ModuleParts → ℕ → List Public → Option (List ℕ)
+shared_with modules number publics =
+    option_map (λ p. p.name) (find (λ p. defines (take number modules ++ drop (number + 1) modules) p.name) publics)
+
+abbrev pub shared_at : List ModuleParts → ℕ → ModuleParts → Option (List ℕ)
+shared_at modules number m = shared_with modules number m.publics
+
+-- a name that a module defines is defined by two where another of the modules defines it
+two_around : (name : List ℕ) (before after : List ModuleParts) (m : ModuleParts) → has_public name m ≡ true
+    → two_define (before ++ m ∷ after) name ≡ defines (before ++ after) name
+two_around name [] after m h = rw h
+two_around name (x ∷ before) after m h = grind (arith, list_any-append, two_around name before after m h)
+
+-- two tests that agree at the names of these publics find the same
+find_same : (f g : Public → Bool) (xs : List Public)
+    → ((p : Public) → list_any (λ q. bytes_eq q.name p.name) xs ≡ true → f p ≡ g p) → find f xs ≡ find g xs
+find_same f g [] h = refl
+find_same f g (x ∷ xs) h =
+    rw (
+      h x (rw ((bytes_eq-Decides x.name x.name).1 refl)),
+      find_same f g xs (grind arith),
+    )
+
+-- the table says which of a module's publics others share
+table_shared : (modules : List ModuleParts) (table : List (List ℕ × Defined)) (number : ℕ) (m : ModuleParts)
+    → AreDefinitions modules table → number < length modules
+    → m ≡ get_or modules number m → option_map (λ p. p.name) (find (λ p. shared_in table p.name) m.publics)
+    ≡ shared_at modules number m
+table_shared modules table number m are below is =
+    let before = take number modules in
+    let after = drop (number + 1) modules in
+    let whole : modules ≡ before ++ m ∷ after =
+    rw add-one (around modules number m (slice_get-get_or modules number m below ∙ ap Some (sym is))) in
+    ap (option_map (λ (p : Public). p.name))
+    (find_same (λ p. shared_in table p.name) (λ p. defines (before ++ after) p.name) m.publics
+    (λ p has. shared_is modules table are p.name ∙ ap (λ ms. two_define ms p.name) whole
+    ∙ two_around p.name before after m has))
+
+-- one module further
+pub shared_step : {modules : List ModuleParts} {table : Table} (number : ℕ) {m : ModuleParts} {ps : List Public}
+    → AreDefinitions modules table → number < length modules → m ≡ get_or modules number m
+    → ps ≡ m.publics → shared_after (take number modules) (drop number modules)
+    ≡ option_or (option_map (λ p. p.name) (find (λ p. shared_in table p.name) ps))
+    (shared_after (take (number + 1) modules) (drop (number + 1) modules))
+shared_step {modules = modules} {table = table} number {m = m} are below is ps_are =
+    at_drop_more (shared_after (take number modules)) modules number m below
+    ∙ rw (take_more modules number m below, ← is, ps_are, table_shared modules table number m are below is)

@@ -1,24 +1,30 @@
 -- Joining one more segment.
+-- Joining segments one by one.
+-- The numbers of joined segments by their names.
 use Rattle.m51_resolve.proofs.Common.{◌≡◌, ℕ, zero, suc, ◌+◌, Bool, true, false, cond, not, ◌||◌, List, [], ◌∷◌, ◌++◌}
 use Rattle.m51_resolve.proofs.Common.{map, refl, sym, ap, ◌∙◌, arith, Option, Some, None, append_assoc, zero-add}
 use Rattle.m51_resolve.proofs.Common.{append-nil, length-map, list_any_at, position-Some, slice_get-get_or, filter}
 use Rattle.m51_resolve.proofs.Common.{list_any, position, slice_get, Segment, are_parts, firsts, is_relocatable}
-use Rattle.m51_resolve.proofs.Common.{part_after, parts_after, all_growing, Growing, SegmentPart}
-use Rattle.std.specs.Prelude.{slice_set}
-use Rattle.std.specs.List.{list_all, prefix_len, slice_index_or}
+use Rattle.m51_resolve.proofs.Common.{part_after, parts_after, all_growing, Growing, SegmentPart, ◌*◌, ◌<◌, ◌≤◌}
+use Rattle.m51_resolve.proofs.Common.{length, take, get_or, subst, All, take_more, bytes_eq, entry_by_name}
+use Rattle.std.specs.Prelude.{slice_set, IfSome}
+use Rattle.std.specs.List.{list_all, prefix_len, slice_index_or, position_from}
 use Rattle.std.proofs.lemmas.List.{map-append}
 use Rattle.std.proofs.lemmas.List.Elements.{filter-append}
 use Rattle.std.proofs.lemmas.List.Folds.{list_all-append}
 use Rattle.std.proofs.lemmas.Option.{slice_get-map}
 use Rattle.m51_cells.specs.declared.kind.Reloc.{Reloc}
 use Rattle.m51_cells.proofs.KindLaws.{kind_again, reloc_again}
-use Rattle.m51_resolve.specs.WorkJoining.{begun, growing_of, grown, joined_with, Joins, JoinsAt}
+use Rattle.m51_resolve.specs.WorkJoining.{begun, growing_of, grown, joined_with, Joins, JoinsAt, numbers_from}
 use Rattle.m51_resolve.specs.Joining.{end_after, parts_with, start_after}
 use Rattle.m51_resolve.specs.Rules.{parts_agree, same_mark}
 use Rattle.m51_resolve.proofs.Alike.{apart_back, filter_none, filter_same, none_of, part_self, parts_back, parts_have}
 use Rattle.m51_resolve.proofs.Alike.{same_parts, any_same, not_true}
 use Rattle.m51_resolve.proofs.Positions.{none_found}
 use Rattle.m51_resolve.proofs.FirstSight.{any_firsts, AreApart, firsts_apart, firsts_append}
+use Rattle.std.proofs.Common.{◌^◌, add-zero}
+use Rattle.indexmap.specs.IndexMap.{insert_entry}
+use Rattle.std.proofs.lemmas.Iterator.Adapters.{position_from-zero}
 
 -- a joined segment of these parts
 abbrev growing_from : Segment → List Segment → Growing
@@ -167,3 +173,93 @@ pub parts_push : (before xs : List Segment) (s : Segment) → parts_after before
     ≡ parts_after before xs ++ part_after (before ++ xs) s ∷ []
 parts_push before [] s = rw (append-nil before)
 parts_push before (x ∷ xs) s = rw (parts_push (before ++ x ∷ []) xs s, append_assoc before (x ∷ []) xs)
+
+-- the first `count` segments are joined
+pub record AreJoined (segments : List Segment) (count : ℕ) (growing : List Growing)
+    (parts : List SegmentPart) : Type 0 where
+  pub grown : growing ≡ all_growing (take count segments)
+  pub placed : parts ≡ parts_after [] (take count segments)
+  pub ends : All (λ g. g.end ≤ 65790 * count) growing
+
+pub joined_more : {segments : List Segment} {count : ℕ} {growing new : List Growing} {parts : List SegmentPart}
+    {s : Segment} (part : SegmentPart)
+    → AreJoined segments count growing parts → count < length segments → s ≡ get_or segments count s
+    → Joins growing s part new
+    → All (λ g. g.end ≤ 65790 * count + 65790) new → AreJoined segments (count + 1) new (parts ++ part ∷ [])
+joined_more {segments = segments} {count = count} {new = new} {s = s} part h below is j ends =
+    let before = take count segments in
+    let step = joins before s part new (subst (λ g. Joins g s part new) h.grown j) in
+    let more : take (count + 1) segments ≡ before ++ s ∷ [] = take_more segments count s below
+    ∙ ap (λ x. before ++ x ∷ []) (sym is) in
+    record {
+      grown = step.1 ∙ ap all_growing (sym more);
+      placed = ap (λ ps. ps ++ part ∷ []) h.placed ∙ ap (λ p. parts_after [] before ++ p ∷ []) step.0
+          ∙ sym (parts_push [] before s) ∙ ap (parts_after []) (sym more);
+      ends = subst (λ (n : ℕ). All (λ g. g.end ≤ n) new) (omega arith) ends;
+    }
+
+-- every end is below what fits
+pub ends_fit : {segments : List Segment} {count : ℕ} {growing : List Growing} {parts : List SegmentPart}
+    → AreJoined segments count growing parts → count ≤ 2 ^ 20
+    → All (λ g. g.end < 2 ^ 40) growing
+ends_fit h few = grind arith
+
+-- a name's number is the index of the joined segment that a segment of the name is a part of
+number_from : (number : ℕ) (growing : List Growing) (s : Segment) → is_relocatable s.reloc ≡ true
+    → entry_by_name (numbers_from number growing) s.name ≡ position_from (λ g. are_parts s g.first) number growing
+number_from number [] s h = refl
+number_from number (g ∷ more) s h = grind (arith, number_from (number + 1) more s h)
+
+pub number_is : (growing : List Growing) (s : Segment) → is_relocatable s.reloc ≡ true
+    → entry_by_name (numbers_from 0 growing) s.name ≡ joined_with growing s
+number_is growing s h = number_from 0 growing s h
+    ∙ sym (position_from-zero (λ (g : Growing). are_parts s g.first) growing)
+
+absolute_from : (number : ℕ) (growing : List Growing) (s : Segment) → is_relocatable s.reloc ≡ false
+    → position_from (λ g. are_parts s g.first) number growing ≡ None
+absolute_from number [] s h = refl
+absolute_from number (g ∷ more) s h = cc (absolute_from (number + 1) more s h)
+
+-- an absolute segment is a part of none
+pub absolute_is : (growing : List Growing) (s : Segment) → is_relocatable s.reloc ≡ false → None ≡ joined_with growing s
+absolute_is growing s h =
+    sym (position_from-zero (λ (g : Growing). are_parts s g.first) growing ∙ absolute_from 0 growing s h)
+
+-- one more joined segment
+pub numbers_push : (number : ℕ) (growing : List Growing) (g : Growing)
+    → numbers_from number (growing ++ g ∷ [])
+    ≡ numbers_from number growing ++ cond (is_relocatable g.first.reloc)
+    ((g.first.name, number + length growing) ∷ []) []
+numbers_push number [] g = rw (add-zero number)
+numbers_push number (x ∷ growing) g =
+    rw (numbers_push (number + 1) growing g, next number (length growing)) (grind arith)
+  where
+    next : (n l : ℕ) → n + 1 + l ≡ n + suc l
+    next n l = omega arith
+
+-- one that grows keeps its name
+pub numbers_set : (number : ℕ) (growing : List Growing) (i : ℕ) (g new : Growing) → slice_get growing i ≡ Some g
+    → new.first ≡ g.first
+    → numbers_from number (slice_set growing i new) ≡ numbers_from number growing
+numbers_set number [] i g new is same = absurd (cc is)
+numbers_set number (x ∷ growing) zero g new is same = cc
+numbers_set number (x ∷ growing) (suc i) g new is same = cc (numbers_set (number + 1) growing i g new is same)
+
+pub joined_within : (growing : List Growing) (s : Segment) (o : Option ℕ) → o ≡ joined_with growing s
+    → IfSome o (λ number. number < length growing)
+joined_within growing s o h = grind arith
+
+-- a segment that is seen first has the next number, where it has a name
+pub numbers_named : (growing : List Growing) (s : Segment) → is_relocatable s.reloc ≡ true
+    → numbers_from 0 growing ++ (s.name, length growing) ∷ [] ≡ numbers_from 0 (growing ++ begun s ∷ [])
+numbers_named growing s h = grind (arith, numbers_push)
+
+pub numbers_absolute : (growing : List Growing) (s : Segment) → is_relocatable s.reloc ≡ false → numbers_from 0 growing
+    ≡ numbers_from 0 (growing ++ begun s ∷ [])
+numbers_absolute growing s h = grind (arith, numbers_push, append-nil)
+
+-- a new name goes last
+pub put_last : (es : List (List ℕ × ℕ)) (name : List ℕ) (number : ℕ) → entry_by_name es name ≡ None
+    → insert_entry bytes_eq es name number ≡ es ++ (name, number) ∷ []
+put_last [] name number h = refl
+put_last (e ∷ es) name number h = grind (arith, put_last es name number)

@@ -1,7 +1,7 @@
 -- Parts lie inside their joined segments.
 use Rattle.std.proofs.lemmas.Grind.{common_steps}
 use Rattle.m51_resolve.proofs.Common.{◌≡◌, ℕ, ◌+◌, ◌<◌, ◌≤◌, Bool, true, false, cond, List, [], ◌∷◌, ◌++◌, length, map}
-use Rattle.m51_resolve.proofs.Common.{refl, sym, ap, ◌∙◌, arith, Option, Some, None, length-append}
+use Rattle.m51_resolve.proofs.Common.{refl, sym, ◌∙◌, arith, Option, Some, None, length-append}
 use Rattle.m51_resolve.proofs.Common.{list_any-append, slice_get-get_or, filter, list_any, find}
 use Rattle.m51_resolve.proofs.Common.{position, slice_get, unwrap_or, ModuleParts, Segment, all_segments}
 use Rattle.m51_resolve.proofs.Common.{are_parts, firsts, is_relocatable, joined_of, part_after, segments_of}

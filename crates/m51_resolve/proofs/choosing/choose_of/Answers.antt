@@ -2,9 +2,9 @@ use Rattle.m51_resolve.proofs.Common.{◌≡◌, ◌<◌, ◌≤◌, List, None,
 use Rattle.m51_resolve.proofs.Common.{◌∙◌, length-map, MOST_MODULES, ModuleParts, IsNext}
 use Rattle.std.proofs.Common.{Bor}
 use Rattle.m51_resolve.specs.WorkChoice.{IsNextAt}
-use Rattle.m51_resolve.proofs.NamedModules.{lent_is}
-use Rattle.m51_resolve.proofs.Skipping.{asked_more, asked_start, choosing_more, choosing_start}
-use Rattle.m51_resolve.proofs.Stopping.{few_is, stopped}
+use Rattle.m51_resolve.proofs.DefinedNames.{lent_is}
+use Rattle.m51_resolve.proofs.Choices.{asked_more, asked_start, choosing_more, choosing_start}
+use Rattle.m51_resolve.proofs.Choices.{few_is, stopped}
 use Rattle.m51_resolve.proofs.choosing.choose_of.Goals as goal
 
 -- the borrowed members

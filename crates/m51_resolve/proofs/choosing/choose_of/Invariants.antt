@@ -1,6 +1,6 @@
 use Rattle.m51_resolve.proofs.Common.{◌+◌, length, map, MOST_MODULES}
 use Rattle.std.proofs.Common.{◌-◌}
-use Rattle.m51_resolve.proofs.Skipping.{AreAsked, IsChoosing}
+use Rattle.m51_resolve.proofs.Choices.{AreAsked, IsChoosing}
 use Rattle.m51_resolve.proofs.choosing.choose_of.Given as goal
 
 abbrev pub invariant-loop-index : goal.invariant-loop-index

@@ -3,7 +3,7 @@ use Rattle.m51_resolve.proofs.Common.{MOST_MODULES, ModuleParts, Definition, IsW
 use Rattle.m51_resolve.proofs.Common.{definition_in, public_definition, defines}
 use Rattle.std.proofs.lemmas.Grind.{common_steps}
 use Rattle.m51_resolve.proofs.DefinedNames.{asked_at}
-use Rattle.m51_resolve.proofs.Earliest.{earliest_gives, next_is}
+use Rattle.m51_resolve.proofs.Choices.{earliest_gives, next_is}
 use Rattle.m51_resolve.proofs.choosing.next_needed.Goals as goal
 
 pub returns : goal.returns

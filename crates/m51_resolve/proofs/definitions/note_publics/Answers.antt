@@ -1,4 +1,4 @@
-use Rattle.m51_resolve.proofs.Common.{◌<◌, length, arith}
+use Rattle.m51_resolve.proofs.Common.{arith}
 use Rattle.m51_resolve.proofs.DefinedNames.{note_more}
 use Rattle.m51_resolve.proofs.definitions.note_publics.Goals as goal
 

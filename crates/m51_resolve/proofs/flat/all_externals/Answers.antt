@@ -1,5 +1,5 @@
 use Rattle.m51_resolve.proofs.Common.{arith, ◌<◌, ◌≡◌, length}
-use Rattle.m51_resolve.proofs.Starts.{flat_all, flat_more, flat_start}
+use Rattle.m51_resolve.proofs.Lookups.{flat_all, flat_more, flat_start}
 use Rattle.m51_resolve.proofs.flat.all_externals.Goals as goal
 
 pub loop-module-init : goal.loop-module-init
@@ -11,14 +11,10 @@ loop-module-preserved c =
     let there : c.loop-module.module-index < length c.args.modules.now = omega arith in
     let start : c.len.result ≡ length c.loop-module.items.items = omega arith in
     rw (c.in_ok-extend_from_slice.ensures.items, c.externals.ensures.list, c.in_ok-push.ensures.items)
-    (flat_more
-    (λ m. m.externals)
-    c.args.modules.now c.loop-module.module-index c.loop-module.items.items c.loop-module.starts.items
-    c.module-item.result c.len.result
-    c.loop-module.invariant there c.module-item.is start)
+    (flat_more c.loop-module.invariant there c.module-item.is start)
 
 pub returns-clause-all : goal.returns-clause-all
-returns-clause-all c = (flat_all _ _ _ _ _ c.loop-module.invariant c.loop-module-test.false).0
+returns-clause-all c = (flat_all c.loop-module.invariant c.loop-module-test.false).0
 
 pub returns-clause-starts : goal.returns-clause-starts
-returns-clause-starts c = (flat_all _ _ _ _ _ c.loop-module.invariant c.loop-module-test.false).1
+returns-clause-starts c = (flat_all c.loop-module.invariant c.loop-module-test.false).1

@@ -1,4 +1,4 @@
-use Rattle.m51_resolve.proofs.Starts.{AreFlat}
+use Rattle.m51_resolve.proofs.Lookups.{AreFlat}
 use Rattle.m51_resolve.proofs.flat.all_externals.Given as goal
 
 abbrev pub invariant-loop-module : goal.invariant-loop-module

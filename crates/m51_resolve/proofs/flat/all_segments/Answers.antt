@@ -1,6 +1,6 @@
 use Rattle.m51_resolve.proofs.Common.{arith, ◌<◌, ◌≤◌, ◌≡◌, ◌*◌, ◌+◌, ◌++◌, length, length-append}
 use Rattle.m51_cells.specs.declared.limits.TheConstants.{MOST_MODULE_SEGMENTS}
-use Rattle.m51_resolve.proofs.Starts.{flat_all, flat_more, flat_start, valid_more}
+use Rattle.m51_resolve.proofs.Lookups.{flat_all, flat_more, flat_start, valid_more}
 use Rattle.m51_resolve.proofs.flat.all_segments.Goals as goal
 
 pub loop-module-init : goal.loop-module-init
@@ -27,21 +27,17 @@ loop-module-preserved c =
     ) in
     rw (c.in_ok-extend_from_slice.ensures.items, c.segments.ensures.list, c.in_ok-push.ensures.items)
     (record {
-      are = flat_more
-          (λ m. m.segments)
-          c.args.modules.now c.loop-module.module-index c.loop-module.items.items c.loop-module.starts.items
-          c.module-item.result c.len.result
-          c.loop-module.invariant.are there c.module-item.is start;
+      are = flat_more c.loop-module.invariant.are there c.module-item.is start;
       most = most;
       valid = valid_more c.args.modules.now c.loop-module.module-index c.module-item.result
           c.loop-module.invariant.valid there c.module-item.is c.segments.ensures.valid;
     })
 
 pub returns-clause-all : goal.returns-clause-all
-returns-clause-all c = (flat_all _ _ _ _ _ c.loop-module.invariant.are c.loop-module-test.false).0
+returns-clause-all c = (flat_all c.loop-module.invariant.are c.loop-module-test.false).0
 
 pub returns-clause-starts : goal.returns-clause-starts
-returns-clause-starts c = (flat_all _ _ _ _ _ c.loop-module.invariant.are c.loop-module-test.false).1
+returns-clause-starts c = (flat_all c.loop-module.invariant.are c.loop-module-test.false).1
 
 pub returns-clause-few : goal.returns-clause-few
 returns-clause-few c = omega (arith, c.loop-module.invariant.most, c.loop-module.invariant.are.few)

@@ -1,4 +1,4 @@
-use Rattle.m51_resolve.proofs.Starts.{AreSegmentsOf}
+use Rattle.m51_resolve.proofs.Lookups.{AreSegmentsOf}
 use Rattle.m51_resolve.proofs.flat.all_segments.Given as goal
 
 abbrev pub invariant-loop-module : goal.invariant-loop-module

@@ -1,6 +1,6 @@
 use Rattle.m51_resolve.proofs.Common.{◌+◌, ◌≤◌, sym, ap, ◌∙◌, arith, Some, slice_get-get_or, Growing}
 use Rattle.std.proofs.lemmas.List.Elements.{All-set}
-use Rattle.m51_resolve.proofs.Tables.{numbers_set}
+use Rattle.m51_resolve.proofs.JoinSteps.{numbers_set}
 use Rattle.m51_resolve.proofs.joining.join.Goals as goal
 
 pub returns-in-Some-clause-grows : goal.returns-in-Some-clause-grows

@@ -1,18 +1,16 @@
 use Rattle.m51_resolve.proofs.Common.{arith, ◌<◌, ◌*◌, length}
-use Rattle.m51_resolve.proofs.JoinLoop.{ends_fit, joined_more}
+use Rattle.m51_resolve.proofs.JoinSteps.{ends_fit, joined_more}
 use Rattle.m51_resolve.proofs.joining.join_all.Goals as goal
 
 pub join-requires : goal.join-requires
 join-requires c =
-    record { ends = ends_fit _ _ _ _ c.loop-segment.invariant.0 (omega arith); numbers = c.loop-segment.invariant.1 }
+    record { ends = ends_fit c.loop-segment.invariant.0 (omega arith); numbers = c.loop-segment.invariant.1 }
 
 pub loop-segment-preserved : goal.loop-segment-preserved
 loop-segment-preserved c =
     let there : c.loop-segment.segment-index < length c.args.segments.now = omega arith in (
       rw c.in_ok-push.ensures.items
-          (joined_more c.args.segments.now c.loop-segment.segment-index c.loop-segment.growing.items
-          c.join.new.growing.items c.loop-segment.parts.items c.segment-item.result
-          c.in_ok-join.field-0 c.loop-segment.invariant.0 there c.segment-item.is c.in_ok-join.ensures.joins
+          (joined_more _ c.loop-segment.invariant.0 there c.segment-item.is c.in_ok-join.ensures.joins
           (c.in_ok-join.ensures.grows (65790 * c.loop-segment.segment-index) c.loop-segment.invariant.0.ends)),
       c.in_ok-join.ensures.numbers,
     )

@@ -1,6 +1,6 @@
 use Rattle.m51_resolve.proofs.Common.{◌≡◌}
 use Rattle.m51_resolve.specs.WorkJoining.{numbers_from}
-use Rattle.m51_resolve.proofs.JoinLoop.{AreJoined}
+use Rattle.m51_resolve.proofs.JoinSteps.{AreJoined}
 use Rattle.m51_resolve.proofs.joining.join_all.Given as goal
 
 abbrev pub invariant-loop-segment : goal.invariant-loop-segment

@@ -1,5 +1,5 @@
 use Rattle.m51_resolve.proofs.Common.{ap, sym, ◌∙◌, entry_by_name}
-use Rattle.m51_resolve.proofs.Tables.{absolute_is, joined_within, number_is}
+use Rattle.m51_resolve.proofs.JoinSteps.{absolute_is, joined_within, number_is}
 use Rattle.m51_resolve.proofs.joining.joined_with.Goals as goal
 
 pub returns-then-is_relocatable-clause-index : goal.returns-then-is_relocatable-clause-index

@@ -1,5 +1,5 @@
 use Rattle.m51_resolve.proofs.Common.{◌≡◌, ap, sym, ◌∙◌, ◌++◌, ◌∷◌, [], length, None, entry_by_name}
-use Rattle.m51_resolve.proofs.Tables.{number_is, numbers_absolute, numbers_named, put_last}
+use Rattle.m51_resolve.proofs.JoinSteps.{number_is, numbers_absolute, numbers_named, put_last}
 use Rattle.m51_resolve.proofs.joining.number_next.Goals as goal
 
 pub returns-in_ok-insert : goal.returns-in_ok-insert

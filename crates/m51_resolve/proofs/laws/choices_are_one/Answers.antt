@@ -1,4 +1,4 @@
-use Rattle.m51_resolve.proofs.Outcomes.{one_choice}
+use Rattle.m51_resolve.proofs.Choices.{one_choice}
 use Rattle.m51_resolve.proofs.laws.choices_are_one.Goals as goal
 
 pub returns : goal.returns

@@ -1,4 +1,4 @@
-use Rattle.m51_resolve.proofs.Common.{◌≡◌, false, sym, ap, ◌∙◌, subst, map, None, [], all_segments, AreStarts}
+use Rattle.m51_resolve.proofs.Common.{◌≡◌, false, sym, ap, ◌∙◌, subst, map, [], all_segments, AreStarts}
 use Rattle.m51_resolve.proofs.Common.{parts_after, all_externals, public_definition, unless_refused, all_growing}
 use Rattle.std.proofs.Common.{All}
 use Rattle.m51_module.specs.Validity.{IsValid}

@@ -1,19 +1,17 @@
-use Rattle.m51_resolve.proofs.Common.{◌<◌, length, arith}
-use Rattle.m51_resolve.proofs.Sharing.{shared_step}
+use Rattle.m51_resolve.proofs.Common.{arith}
+use Rattle.m51_resolve.proofs.DefinedNames.{shared_step}
 use Rattle.m51_resolve.proofs.rules.shared_public.Goals as goal
 
 pub returns-in-Some : goal.returns-in-Some
 returns-in-Some c = rw (
   ← c.loop-module.invariant,
-  shared_step c.args.modules.now c.args.definitions.now.entries c.loop-module.module-index c.module-item.result
-      c.publics.result.now c.requires (omega arith) c.module-item.is c.publics.ensures.list,
+  shared_step c.loop-module.module-index c.requires (omega arith) c.module-item.is c.publics.ensures.list,
   ← c.in-Some.ensures,
 )
 
 pub loop-module-preserved : goal.loop-module-preserved
 loop-module-preserved c = rw (
   ← c.loop-module.invariant,
-  shared_step c.args.modules.now c.args.definitions.now.entries c.loop-module.module-index c.module-item.result
-      c.publics.result.now c.requires (omega arith) c.module-item.is c.publics.ensures.list,
+  shared_step c.loop-module.module-index c.requires (omega arith) c.module-item.is c.publics.ensures.list,
   ← c.in_default.ensures,
 )

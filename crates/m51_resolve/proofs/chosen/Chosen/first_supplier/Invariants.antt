@@ -1,6 +1,6 @@
 use Rattle.m51_resolve.proofs.Common.{◌≡◌, drop, supplier, definition_in}
 use Rattle.m51_resolve.specs.WorkChoice.{lesser_number}
-use Rattle.m51_resolve.proofs.Earliest.{least_of}
+use Rattle.m51_resolve.proofs.Choices.{least_of}
 use Rattle.m51_resolve.proofs.chosen.Chosen.first_supplier.Given as goal
 
 abbrev pub invariant-loop-name : goal.invariant-loop-name

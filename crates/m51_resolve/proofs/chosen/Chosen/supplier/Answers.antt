@@ -1,5 +1,5 @@
 use Rattle.m51_resolve.proofs.Common.{definition_in}
-use Rattle.m51_resolve.proofs.Earliest.{supplied}
+use Rattle.m51_resolve.proofs.Choices.{supplied}
 use Rattle.m51_resolve.proofs.chosen.Chosen.supplier.Goals as goal
 
 pub returns-in-Some : goal.returns-in-Some

@@ -1,5 +1,5 @@
 use Rattle.m51_resolve.proofs.Common.{◌≡◌, length, arith, subst, sym, AreNamed}
-use Rattle.m51_resolve.proofs.NamedModules.{named_push}
+use Rattle.m51_resolve.proofs.DefinedNames.{named_push}
 use Rattle.m51_resolve.proofs.chosen.Chosen.with.Goals as goal
 
 pub invariant_of-result : goal.invariant_of-result

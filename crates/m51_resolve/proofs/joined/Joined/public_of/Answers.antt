@@ -4,17 +4,15 @@ use Rattle.m51_resolve.proofs.joined.Joined.public_of.Goals as goal
 
 pub index-start-requires : goal.index-start-requires
 index-start-requires c =
-    let e = public_entry _ _ _ _ _ _ c.args.module c.args.external c.self.invariant
-    (rw (← c.self.view_is) at c.requires) in
+    let e = public_entry c.self.invariant c.self.view_is c.args.module c.args.external c.requires in
     omega (arith, e.entry.inside, c.from.ensures)
 
 pub overflow_add-start : goal.overflow_add-start
 overflow_add-start c =
-    let e = public_entry _ _ _ _ _ _ c.args.module c.args.external c.self.invariant
-    (rw (← c.self.view_is) at c.requires) in
+    let e = public_entry c.self.invariant c.self.view_is c.args.module c.args.external c.requires in
     omega (
       arith,
-      begin _ _ _ _ _ _ _ e.entry c.index-start.ensures c.from.ensures,
+      begin e.entry c.index-start.ensures c.from.ensures,
       e.entry.within,
       e.entry.number,
       c.from-2.ensures,
@@ -22,22 +20,19 @@ overflow_add-start c =
 
 pub index-found-requires : goal.index-found-requires
 index-found-requires c =
-    let e = public_entry _ _ _ _ _ _ c.args.module c.args.external c.self.invariant
-    (rw (← c.self.view_is) at c.requires) in
-    omega (arith, stands _ _ _ _ _ _ _ _ e.entry c.index-start.ensures c.from.ensures c.from-2.ensures, e.entry.within)
+    let e = public_entry c.self.invariant c.self.view_is c.args.module c.args.external c.requires in
+    omega (arith, stands e.entry c.index-start.ensures c.from.ensures c.from-2.ensures, e.entry.within)
 
 pub overflow_cast-result : goal.overflow_cast-result
 overflow_cast-result c =
-    let e = public_entry _ _ _ _ _ _ c.args.module c.args.external c.self.invariant
-    (rw (← c.self.view_is) at c.requires) in
-    let is = reads _ _ _ _ _ _ _ _ _ e.entry c.index-start.ensures c.from.ensures c.from-2.ensures c.index-found.ensures
+    let e = public_entry c.self.invariant c.self.view_is c.args.module c.args.external c.requires in
+    let is = reads e.entry c.index-start.ensures c.from.ensures c.from-2.ensures c.index-found.ensures
     in
     omega (arith, e.number, ap (λ (x : Definition). x.number) is)
 
 pub returns : goal.returns
 returns c =
-    let e = public_entry _ _ _ _ _ _ c.args.module c.args.external c.self.invariant
-    (rw (← c.self.view_is) at c.requires) in
-    let is = reads _ _ _ _ _ _ _ _ _ e.entry c.index-start.ensures c.from.ensures c.from-2.ensures c.index-found.ensures
+    let e = public_entry c.self.invariant c.self.view_is c.args.module c.args.external c.requires in
+    let is = reads e.entry c.index-start.ensures c.from.ensures c.from-2.ensures c.index-found.ensures
     in
-    rw (← c.self.view_is) (ap (λ (x : Definition). (x.number, x.index)) is ∙ e.value)
+    (ap (λ (x : Definition). (x.number, x.index)) is ∙ e.value)

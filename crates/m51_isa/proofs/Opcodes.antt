@@ -1,7 +1,7 @@
 -- The rows of the opcodes: what is decoded by the table is what the manual's table of opcodes says.
 use Rattle.std.proofs.Common.{◌≡◌, ℕ, ◌+◌, ◌*◌, ◌/◌, ◌%◌, ◌<◌, Bool, true, cond, nat_eq, nat_lt, List, [], ◌∷◌}
 use Rattle.std.proofs.Common.{Option, Some, None, take, length, refl, sym, ap, subst, ◌∙◌, arith}
-use Rattle.std.specs.Prelude.{is_none, option_map, slice_index, zero, suc}
+use Rattle.std.specs.Prelude.{false, is_none, IsSome, option_map, slice_index, zero, suc}
 use Rattle.std.proofs.lemmas.Grind.{common_steps}
 use Rattle.m51_isa.specs.declared.instr.Instr.{Instr}
 use Rattle.m51_isa.specs.declared.slot.Field.{Field}
@@ -9,7 +9,7 @@ use Rattle.m51_isa.specs.declared.slot.Field.TheVariants as field
 use Rattle.m51_isa.specs.declared.table.Columns.{Columns}
 use Rattle.m51_isa.specs.declared.table.Operand.{Operand}
 use Rattle.m51_isa.specs.declared.table.Operand.TheVariants.{R, AtR, Imm, Plain, NotBit}
-use Rattle.m51_isa.specs.Laws.{NoneReserved}
+use Rattle.m51_isa.specs.Laws.{NoneReserved, OthersDecode}
 use Rattle.m51_isa.specs.Operands.{Bytes, field_at, list_of, with_field}
 use Rattle.m51_isa.specs.Rows.{bytes_by, columns_at, made_at, number_at, row_count, row_of_opcode, row_text}
 use Rattle.m51_isa.specs.Rows.{with_operand}
@@ -98,14 +98,26 @@ below opcode n h is =
     let one : nat_lt n row_count ≡ true = subst (λ o. is_below o ≡ true) (sym is) all in
     grind (arith, common_steps, one)
 
--- only the reserved opcode has none
+-- a reserved opcode has none, and each other has one
 pub reserved : (opcode : ℕ) → opcode < 256 → is_none (row_of_opcode opcode) ≡ is_reserved opcode
 reserved opcode h = agree (λ opcode. is_none (row_of_opcode opcode)) is_reserved 256 refl opcode h
 
+only_reserved : (first second third : ℕ) → first < 256
+    → is_reserved first ≡ is_none (decoded_at first second third)
+only_reserved first second third h =
+    agree is_reserved (λ opcode. is_none (decoded_at opcode second third)) 256 refl first h
+
 pub none_reserved : NoneReserved
 none_reserved i first second third h is row =
-    let none = agree is_reserved (λ opcode. is_none (decoded_at opcode second third)) 256 refl first h in
-    cc (sym is ∙ none ∙ ap is_none (rows_decode i first second third row))
+    cc (sym is ∙ only_reserved first second third h ∙ ap is_none (rows_decode i first second third row))
+
+some_is : {X : Type 0} (o : Option X) → is_none o ≡ false → IsSome o
+some_is (Some x) e = refl
+some_is None e = cc e
+
+pub others_decode : OthersDecode
+others_decode first second third h other =
+    some_is (decoded_at first second third) (sym (only_reserved first second third h) ∙ other)
 
 begins_take : (bytes : List ℕ) (n : ℕ) → BeginsWith bytes (take n bytes)
 begins_take bytes zero = tt

@@ -1,5 +1,5 @@
 -- What the table promises of decoding and encoding.
-use Rattle.std.specs.Prelude.{◌≡◌, ℕ, ◌<◌, ◌≤◌, true, List, [], ◌∷◌, take, Some}
+use Rattle.std.specs.Prelude.{◌≡◌, ℕ, ◌<◌, ◌≤◌, false, true, List, [], ◌∷◌, take, IsSome, Some}
 use Rattle.m51_isa.specs.declared.instr.Instr.{Instr}
 use Rattle.m51_isa.specs.Table.{IsRowAt, OperandsFit, decoded_at, decoded, encoded, is_reserved, length_of, padded}
 
@@ -9,11 +9,16 @@ OneRow =
     (i j : Instr) (first second third : ℕ)
     → IsRowAt (first ∷ second ∷ third ∷ []) i → IsRowAt (first ∷ second ∷ third ∷ []) j → i ≡ j
 
--- no row begins with the reserved opcode
+-- no row begins with a reserved opcode
 abbrev pub NoneReserved : Type 0
 NoneReserved =
     (i : Instr) (first second third : ℕ)
     → first < 256 → is_reserved first ≡ true → IsRowAt (first ∷ second ∷ third ∷ []) i → ⊥
+
+-- each other opcode begins a row
+abbrev pub OthersDecode : Type 0
+OthersDecode =
+    (first second third : ℕ) → first < 256 → is_reserved first ≡ false → IsSome (decoded_at first second third)
 
 -- bytes that begin with a row are decoded as its instruction
 abbrev pub RowsDecode : Type 0

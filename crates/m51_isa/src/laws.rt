@@ -1,6 +1,7 @@
 //! What the table promises of decoding and encoding, and its texts. Each law is the contract of a function that does
 //! nothing.
-ghost use Rattle.m51_isa.specs.Laws.{OneRow, NoneReserved, RowsDecode, RowsAreShort, CodesDecode, FrontsAgree};
+ghost use Rattle.m51_isa.specs.Laws.{OneRow, NoneReserved, OthersDecode, RowsDecode, RowsAreShort, CodesDecode};
+ghost use Rattle.m51_isa.specs.Laws.{FrontsAgree};
 ghost use Rattle.m51_isa.specs.MnemonicLaws.{MnemonicsAreOfRows};
 ghost use Rattle.m51_isa.specs.TextLaws.{TextsAreRows};
 
@@ -12,11 +13,13 @@ pub fn rows_are_distinct()
     ensures { OneRow }
 {}
 
-/// No row begins with the reserved A5H.
+/// No row begins with a reserved opcode, and each other opcode begins one.
 ///
 /// Source: family manual.
+#[tactic(auto, using(crate::proofs::Opcodes::none_reserved, crate::proofs::Opcodes::others_decode))]
 pub fn none_is_reserved()
-    ensures { NoneReserved }
+    ensures none { NoneReserved }
+    ensures others { OthersDecode }
 {}
 
 /// Bytes that begin with a row are decoded as its instruction.

@@ -11,6 +11,7 @@ ghost use Rattle.m51_asm.specs.ValuesAbove.{ValuesGrow, ValuesAreSeen};
 /// At most one assignment fits a text: two that do agree on each line and each name.
 ///
 /// Source: own choice ("The assignment of a text").
+#[tactic(auto, using(crate::proofs::AnAssignment::agree))]
 pub fn one_assignment_fits()
     ensures { OneFits }
 {}
@@ -34,6 +35,7 @@ pub fn segment_numbers_do_not_matter()
 /// Each text has an answer, and only one.
 ///
 /// Source: own choice ("The assignment of a text").
+#[tactic(auto, using(crate::proofs::AnsweredLines::one_answer))]
 pub fn each_text_has_one_answer()
     ensures { OneAnswer }
 {}
@@ -49,6 +51,7 @@ pub fn values_grow()
 /// without a definition.
 ///
 /// Source: own choice ("The assignment of a text").
+#[tactic(auto, using(crate::proofs::DefinedLines::seen))]
 pub fn values_are_seen()
     ensures { ValuesAreSeen }
 {}
@@ -56,6 +59,7 @@ pub fn values_are_seen()
 /// What is kept of the lines above a line says what names mean there, as the assignment that fits does.
 ///
 /// Source: own choice ("The assignment of a text").
+#[tactic(auto, using(crate::proofs::DefinedLines::means))]
 pub fn what_is_kept_means()
     ensures { KeptMeans }
 {}
@@ -81,6 +85,7 @@ pub fn first_faults_are_answers()
 /// The form of a JMP or CALL follows from the lines above it and the label of its own line.
 ///
 /// Source: own choice ("The assignment of a text").
+#[tactic(auto, using(crate::proofs::DefinedLines::form_told))]
 pub fn forms_are_told()
     ensures { FormIsTold }
 {}

@@ -5,6 +5,7 @@ ghost use Rattle.m51_encode.specs.FieldLaws.{ChosenJumpsReach, RelativesLead, Bl
 /// jump is out of reach.
 ///
 /// Source: own choice ("Generic jumps").
+#[tactic(auto, using(crate::proofs::Reaching::chosen_jumps_reach))]
 pub fn chosen_jumps_reach()
     ensures { ChosenJumpsReach }
 {}
@@ -12,6 +13,7 @@ pub fn chosen_jumps_reach()
 /// A signed byte that is computed leads from after the statement to the target.
 ///
 /// Source: family manual.
+#[tactic(auto, using(crate::proofs::Leading::relatives_lead))]
 pub fn relatives_lead_to_targets()
     ensures { RelativesLead }
 {}
@@ -19,6 +21,7 @@ pub fn relatives_lead_to_targets()
 /// An address within a block that is computed leads from the block after the statement to the target.
 ///
 /// Source: family manual.
+#[tactic(auto, using(crate::proofs::Leading::blocks_lead))]
 pub fn blocks_lead_to_targets()
     ensures { BlocksLead }
 {}
@@ -26,6 +29,7 @@ pub fn blocks_lead_to_targets()
 /// A reference names a bit only for CONV, as an object requires.
 ///
 /// Source: OMF-51.
+#[tactic(auto, using(crate::proofs::BitNumbers::references_have_bits))]
 pub fn references_have_bits()
     ensures { ReferencesHaveBits }
 {}

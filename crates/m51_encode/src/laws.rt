@@ -8,6 +8,7 @@ ghost use Rattle.m51_encode.specs.OutcomeLaws.{OutcomesTell, OperandsFailByFive}
 /// byte where its field begins, in the form of the field, and there is no other reference.
 ///
 /// Source: family manual.
+#[tactic(auto, using(crate::proofs::Standing::coded_stands_for_line))]
 pub fn coded_stands_for_line()
     ensures { CodedStandsForLine }
 {}
@@ -17,6 +18,7 @@ pub fn coded_stands_for_line()
 /// as the row.
 ///
 /// Source: own choice ("Instructions of a source").
+#[tactic(auto, using(crate::proofs::FormRows::forms_have_rows))]
 pub fn forms_have_rows()
     ensures { FormsHaveRows }
 {}
@@ -24,6 +26,7 @@ pub fn forms_have_rows()
 /// Each mnemonic with operands that it may have has a fault exactly if one of them has, and that of the leftmost.
 ///
 /// Source: own choice ("Faults of instructions").
+#[tactic(auto, using(crate::proofs::ToldOutcomes::outcomes_tell))]
 pub fn outcomes_tell()
     ensures { OutcomesTell }
 {}
@@ -31,6 +34,7 @@ pub fn outcomes_tell()
 /// Each mnemonic with operands that it may have has E7 to E10 or E14, or no fault: so it is never E11.
 ///
 /// Source: own choice ("Faults of instructions").
+#[tactic(auto, using(crate::proofs::OperandFaults::operands_fail_by_five))]
 pub fn operands_fail_by_five()
     ensures { OperandsFailByFive }
 {}

@@ -5,6 +5,7 @@ ghost use Rattle.m51_expr.specs.FaultLaws.{ValuesFailByFour};
 /// these.
 ///
 /// Source: own choice ("Values with a base").
+#[tactic(auto, using(crate::proofs::ValueFaults::values_fail_by_four))]
 pub fn values_fail_by_four()
     ensures { ValuesFailByFour }
 {}

@@ -10,6 +10,7 @@ ghost use Rattle.m51_flat.specs.OutcomeLaws.{EffectsAreDone, PowerGoesDown};
 /// on.
 ///
 /// Source: family manual.
+#[tactic(auto, using(crate::proofs::Flows::flow_is_kept))]
 pub fn flow_is_kept()
     ensures { FlowIsKept }
 {}
@@ -32,6 +33,7 @@ pub fn accesses_agree()
 /// Of a byte with one bit replaced that bit is new, and all others stay.
 ///
 /// Source: own choice ("Flags bit by bit").
+#[tactic(auto, using(crate::proofs::BitLaws::one_bit_is_replaced))]
 pub fn one_bit_is_replaced()
     ensures { OneBitIsReplaced }
 {}
@@ -39,6 +41,7 @@ pub fn one_bit_is_replaced()
 /// A sum writes CY, AC and OV, and no other bit of PSW.
 ///
 /// Source: family manual.
+#[tactic(auto, using(crate::proofs::BitLaws::flags_are_written))]
 pub fn flags_are_written()
     ensures { FlagsAreWritten }
 {}
@@ -46,6 +49,7 @@ pub fn flags_are_written()
 /// Where each bit of A and CY comes from after a rotation, an exchange of digits and a complement.
 ///
 /// Source: family manual.
+#[tactic(auto, using(crate::proofs::BitLaws::bits_are_turned))]
 pub fn bits_are_turned()
     ensures { BitsAreTurned }
 {}
@@ -53,6 +57,7 @@ pub fn bits_are_turned()
 /// A register that a device stores to holds the value, and every other one is as before.
 ///
 /// Source: family manual.
+#[tactic(auto, using(crate::proofs::RegisterLaws::registers_are_written))]
 pub fn registers_are_written()
     ensures { RegistersAreWritten }
 {}
@@ -61,6 +66,7 @@ pub fn registers_are_written()
 /// they were, and the parity where the register is neither PSW nor ACC.
 ///
 /// Source: own choice ("Devices and registers").
+#[tactic(auto, using(crate::proofs::Devices::stores_keep_the_rest))]
 pub fn stores_keep_the_rest()
     ensures { StoresKeepTheRest }
 {}
@@ -68,6 +74,7 @@ pub fn stores_keep_the_rest()
 /// So does a device that writes one bit of a register.
 ///
 /// Source: own choice ("Devices and registers").
+#[tactic(auto, using(crate::proofs::Devices::flags_keep_the_rest))]
 pub fn flags_keep_the_rest()
     ensures { FlagsKeepTheRest }
 {}
@@ -76,6 +83,7 @@ pub fn flags_keep_the_rest()
 /// stay.
 ///
 /// Source: family manual.
+#[tactic(auto, using(crate::proofs::Devices::pc_is_stacked))]
 pub fn pc_is_stacked()
     ensures { PcIsStacked }
 {}
@@ -83,6 +91,7 @@ pub fn pc_is_stacked()
 /// `call` is a call from any effect, and keeps the parity.
 ///
 /// Source: family manual.
+#[tactic(auto, using(crate::proofs::Devices::calls_are_made))]
 pub fn calls_are_made()
     ensures { CallsAreMade }
 {}
@@ -92,6 +101,7 @@ pub fn calls_are_made()
 /// where it is 1.
 ///
 /// Source: family manual.
+#[tactic(auto, using(crate::proofs::Levels::levels_are_kept))]
 pub fn levels_are_kept()
     ensures { LevelsAreKept }
 {}
@@ -100,6 +110,7 @@ pub fn levels_are_kept()
 /// agrees with the store the effect is the same.
 ///
 /// Source: own choice ("Two readings of an instruction").
+#[tactic(auto, using(crate::proofs::Done::effects_are_done))]
 pub fn effects_are_done()
     ensures { EffectsAreDone }
 {}
@@ -107,6 +118,7 @@ pub fn effects_are_done()
 /// Where the outcome of an instruction is power-down, it is so over each map that agrees with the store.
 ///
 /// Source: own choice ("Two readings of an instruction").
+#[tactic(auto, using(crate::proofs::Done::power_goes_down))]
 pub fn power_goes_down()
     ensures { PowerGoesDown }
 {}

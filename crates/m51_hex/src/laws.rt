@@ -12,6 +12,7 @@ pub fn each_line_is_a_record()
 /// What is written of an image whose bytes outside its runs are FFH is read, and is that image.
 ///
 /// Source: Intel HEX.
+#[tactic(auto, using(crate::proofs::RoundTrip::written_is_read))]
 pub fn what_is_written_is_read()
     ensures { WrittenIsRead }
 {}

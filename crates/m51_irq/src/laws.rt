@@ -4,6 +4,7 @@ ghost use Rattle.m51_irq.specs.Laws.{FirstIsChosen, LevelsAreNested, NoneIsTaken
 /// While the high level is in progress, no interrupt is taken.
 ///
 /// Source: family manual.
+#[tactic(auto, using(crate::proofs::ChoiceLaws::none_is_chosen))]
 pub fn no_interrupt_over_the_high_level()
     ensures { NoneOverHigh }
 {}
@@ -12,6 +13,7 @@ pub fn no_interrupt_over_the_high_level()
 /// whatever it reads. A JBC writes its bit only where it is 1.
 ///
 /// Source: family manual; own choice ("Interrupts").
+#[tactic(auto, using(crate::proofs::Holding::none_at_once))]
 pub fn none_is_taken_at_once()
     ensures { NoneIsTakenAtOnce }
 {}
@@ -20,6 +22,7 @@ pub fn none_is_taken_at_once()
 /// such source has a higher level, or the same level and an earlier index in the order.
 ///
 /// Source: family manual.
+#[tactic(auto, using(crate::proofs::ChoiceLaws::first_is_chosen))]
 pub fn the_first_that_may_be_taken_is_chosen()
     ensures { FirstIsChosen }
 {}
@@ -28,6 +31,7 @@ pub fn the_first_that_may_be_taken_is_chosen()
 /// high one.
 ///
 /// Source: family manual.
+#[tactic(auto, using(crate::proofs::Levels::levels_nested))]
 pub fn levels_are_nested()
     ensures { LevelsAreNested }
 {}
@@ -35,6 +39,7 @@ pub fn levels_are_nested()
 /// RETI ends the top level in progress.
 ///
 /// Source: family manual.
+#[tactic(auto, using(crate::proofs::Levels::top_level_ends))]
 pub fn a_return_ends_the_top_level()
     ensures { TopLevelEnds }
 {}

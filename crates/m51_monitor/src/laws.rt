@@ -22,6 +22,7 @@ pub fn one_answer()
 /// it is after each move that the table allows, if it was so before and an interrupt interrupts at most one other.
 ///
 /// Source: own choice ("Activations").
+#[tactic(auto, using(crate::proofs::Moving::moves_are_kept))]
 pub fn moves_are_kept()
     ensures { MovesAreKept }
 {}
@@ -48,6 +49,7 @@ pub fn one_state()
 /// were before.
 ///
 /// Source: own choice ("Activations").
+#[tactic(auto, using(crate::proofs::Levels::levels_are_kept))]
 pub fn levels_are_kept()
     ensures { LevelsAreKept }
 {}
@@ -56,6 +58,7 @@ pub fn levels_are_kept()
 /// transfers leave their number as it is.
 ///
 /// Source: own choice ("Activations").
+#[tactic(auto, using(crate::proofs::Levels::interrupts_are_counted))]
 pub fn interrupts_are_counted()
     ensures { InterruptsAreCounted }
 {}
@@ -64,6 +67,7 @@ pub fn interrupts_are_counted()
 /// that of the topmost record.
 ///
 /// Source: own choice ("Activations").
+#[tactic(auto, using(crate::proofs::Levels::stack_is_kept))]
 pub fn stack_is_kept()
     ensures { StackIsKept }
 {}
@@ -71,6 +75,7 @@ pub fn stack_is_kept()
 /// In a sound layout, where a vectoring goes to the vector of its source, the current unit covers PC after each move.
 ///
 /// Source: own choice ("Activations").
+#[tactic(auto, using(crate::proofs::CurrentUnit::covers_is_kept))]
 pub fn covers_is_kept()
     ensures { CoversIsKept }
 {}

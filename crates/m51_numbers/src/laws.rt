@@ -24,6 +24,7 @@ pub fn limits_have_numbers()
 /// The records of an object and of a library have these types.
 ///
 /// Source: OMF-51.
+#[tactic(auto, using(crate::proofs::Types::records_have_types))]
 pub fn records_have_types()
     ensures { RecordsHaveTypes }
 {}

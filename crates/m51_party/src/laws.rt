@@ -5,6 +5,7 @@ ghost use Rattle.m51_party.specs.Laws.{ExactlyOneFamily, StepsMakeRecords};
 /// receives the frames that the other records give it.
 ///
 /// Source: own choice ("Party line").
+#[tactic(auto, using(crate::proofs::One::exactly_one))]
 pub fn exactly_one_family()
     ensures { ExactlyOneFamily }
 {}
@@ -13,6 +14,7 @@ pub fn exactly_one_family()
 /// its last cycle.
 ///
 /// Source: own choice ("Party line").
+#[tactic(auto, using(crate::proofs::One::steps_make_records))]
 pub fn steps_make_records()
     ensures { StepsMakeRecords }
 {}

@@ -10,6 +10,7 @@ ghost use Rattle.m51_place.specs.Overlay.{WeightsAgree};
 /// those.
 ///
 /// Source: own choice ("Heaviest chains").
+#[tactic(auto, using(crate::proofs::Weights::least))]
 pub fn weight_is_least()
     ensures { WeightIsLeast }
 {}
@@ -19,6 +20,7 @@ pub fn weight_is_least()
 /// layout covers no fewer bytes. So the run has at least as many bytes as the weight.
 ///
 /// Source: own choice ("Heaviest chains").
+#[tactic(auto, using(crate::proofs::Tight::placing_tight))]
 pub fn placing_is_tight()
     ensures { PlacingIsTight }
 {}
@@ -27,6 +29,7 @@ pub fn placing_is_tight()
 /// weight as its figure of overlaid bytes.
 ///
 /// Source: own choice ("Heaviest chains").
+#[tactic(auto, using(crate::proofs::Tight::figure_is_weight))]
 pub fn figure_is_weight()
     ensures { FigureIsWeight }
 {}
@@ -35,6 +38,7 @@ pub fn figure_is_weight()
 /// a base for each overlaid segment: L12 comes for none of them.
 ///
 /// Source: own choice ("Heaviest chains").
+#[tactic(auto, using(crate::proofs::Refused::overlay_fits))]
 pub fn overlay_fits()
     ensures { OverlayFits }
 {}
@@ -43,6 +47,7 @@ pub fn overlay_fits()
 /// that run, and neither L9 comes nor L12 for a segment before the overlaid ones.
 ///
 /// Source: own choice ("Heaviest chains").
+#[tactic(auto, using(crate::proofs::Refused::overlay_is_refused))]
 pub fn overlay_is_refused()
     ensures { OverlayRefused }
 {}
@@ -51,6 +56,7 @@ pub fn overlay_is_refused()
 /// that placing gives over it.
 ///
 /// Source: own choice ("Heaviest chains").
+#[tactic(auto, using(crate::proofs::Tight::weights_agree))]
 pub fn weights_agree()
     ensures { WeightsAgree }
 {}
@@ -58,6 +64,7 @@ pub fn weights_agree()
 /// The decision by which two extents share a cell: it is whether a cell is in both.
 ///
 /// Source: own choice ("Extents go by numbers").
+#[tactic(auto, using(crate::proofs::Free::share_tells))]
 pub fn sharing_is_meeting()
     ensures { SharingIsMeeting }
 {}
@@ -65,6 +72,7 @@ pub fn sharing_is_meeting()
 /// The base of the definition is free, and no smaller one is; it is `None` exactly if no base is free.
 ///
 /// Source: RL51 guide.
+#[tactic(auto, using(crate::proofs::Free::least_is_least))]
 pub fn least_is_least()
     ensures { LeastIsLeast }
 {}
@@ -72,6 +80,7 @@ pub fn least_is_least()
 /// The order of placing holds each relocatable segment exactly once, and each before all later ones by its rank.
 ///
 /// Source: RL51 guide.
+#[tactic(auto, using(crate::proofs::Ranks::in_order))]
 pub fn order_rises()
     ensures { OrderRises }
 {}

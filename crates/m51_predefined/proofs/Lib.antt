@@ -1,4 +1,4 @@
 mod Rows
-mod RowLaws
-mod ByteLaws
-mod NameLaws
+pub mod RowLaws
+pub mod ByteLaws
+pub mod NameLaws

@@ -5,6 +5,7 @@ ghost use Rattle.m51_predefined.specs.Laws.{ReservedStandForNothing, BytesHaveBi
 /// Each predefined name is one that a source can write, and no reserved word, so that a module may define it.
 ///
 /// Source: own choice ("Predefined names").
+#[tactic(auto, using(crate::proofs::RowLaws::names_are_free))]
 pub fn names_are_free()
     ensures { NamesAreFree }
 {}
@@ -12,6 +13,7 @@ pub fn names_are_free()
 /// Each register is its direct address, and each named bit its bit address.
 ///
 /// Source: family manual.
+#[tactic(auto, using(crate::proofs::RowLaws::rows_are_read))]
 pub fn rows_are_read()
     ensures { RowsAreRead }
 {}
@@ -19,6 +21,7 @@ pub fn rows_are_read()
 /// No reserved word is predefined, nor `AR0` to `AR7`.
 ///
 /// Source: own choice ("Predefined names").
+#[tactic(auto, using(crate::proofs::RowLaws::reserved_stand_for_nothing))]
 pub fn reserved_words_stand_for_nothing()
     ensures { ReservedStandForNothing }
 {}
@@ -27,6 +30,7 @@ pub fn reserved_words_stand_for_nothing()
 /// are below 8, and the name of a bit is what the dot gives.
 ///
 /// Source: family manual.
+#[tactic(auto, using(crate::proofs::ByteLaws::bytes_have_bits))]
 pub fn bytes_have_bits()
     ensures { BytesHaveBits }
 {}
@@ -35,6 +39,7 @@ pub fn bytes_have_bits()
 /// each register of the machine has a predefined name.
 ///
 /// Source: family manual.
+#[tactic(auto, using(crate::proofs::NameLaws::names_are_registers))]
 pub fn names_are_registers()
     ensures { NamesAreRegisters }
 {}

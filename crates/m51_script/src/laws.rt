@@ -5,6 +5,7 @@ ghost use Rattle.m51_script.specs.Laws.{LastLineCounts, ReadAsWritten};
 /// the first or after the last.
 ///
 /// Source: own choice ("Scripts").
+#[tactic(auto, using(crate::proofs::FormLaws::read_as_written))]
 pub fn a_line_is_read_as_it_is_written()
     ensures { ReadAsWritten }
 {}
@@ -12,6 +13,7 @@ pub fn a_line_is_read_as_it_is_written()
 /// After some PIN lines each port has the levels of its last line, and FFH where it has none.
 ///
 /// Source: own choice ("Scripts").
+#[tactic(auto, using(crate::proofs::LastLevel::last_line_counts))]
 pub fn the_last_line_of_a_port_counts()
     ensures { LastLineCounts }
 {}

@@ -5,6 +5,7 @@ ghost use Rattle.m51_stackbound.specs.Laws.{AnswerIsUnique, TotalIsSumOfDepths};
 /// over at most two different handlers.
 ///
 /// Source: own choice ("Stack bound").
+#[tactic(auto, using(crate::proofs::Unique::total_is_sum))]
 pub fn total_is_sum_of_depths()
     ensures { TotalIsSumOfDepths }
 {}
@@ -12,6 +13,7 @@ pub fn total_is_sum_of_depths()
 /// No two different answers meet the clause of `bound` for one layout and image, out of memory left out.
 ///
 /// Source: own choice ("Stack bound").
+#[tactic(auto, using(crate::proofs::Unique::answer_is_unique))]
 pub fn answer_is_unique()
     ensures { AnswerIsUnique }
 {}

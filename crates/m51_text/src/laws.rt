@@ -5,6 +5,7 @@ ghost use Rattle.m51_text.specs.Rows.{StatementsHaveRows};
 /// Each line of a text is of the source or of one of the includes, and its number is that of a line of that file.
 ///
 /// Source: own choice ("The text of a source").
+#[tactic(auto, using(crate::proofs::Numbered::lines_are_of_files))]
 pub fn lines_are_of_files()
     ensures { LinesAreOfFiles }
 {}
@@ -14,6 +15,7 @@ pub fn lines_are_of_files()
 /// as the row.
 ///
 /// Source: own choice ("Instructions of a source").
+#[tactic(auto, using(crate::proofs::StatementRows::statements_have_rows))]
 pub fn statements_have_rows()
     ensures { StatementsHaveRows }
 {}

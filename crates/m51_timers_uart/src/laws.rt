@@ -10,6 +10,7 @@ ghost use Rattle.m51_timers_uart.specs.RowLaws.{ModeOneIsSentAtItsCycle, TimerOn
 /// in mode 1 after 65,536 counts less its number, in mode 2 after 256 less TL, and from TH.
 ///
 /// Source: family manual.
+#[tactic(auto, using(crate::proofs::Counts::timers_count_up))]
 pub fn timers_count_up()
     ensures { TimersCountUp }
 {}
@@ -20,6 +21,7 @@ pub fn timers_count_up()
 /// ticks does not write TH1, TL1, TMOD and TR1, and timer 0 is not in mode 3 in the last of them.
 ///
 /// Source: family manual.
+#[tactic(auto, using(crate::proofs::InTime::timer_1_counts_cycles))]
 pub fn timer_1_counts_cycles()
     ensures { TimerOneCountsCycles }
 {}
@@ -27,6 +29,7 @@ pub fn timer_1_counts_cycles()
 /// In a tick at most one bit time passes, and what is sent is the byte on its way, when its last bit time passes.
 ///
 /// Source: family manual.
+#[tactic(auto, using(crate::proofs::Lines::one_bit_passes))]
 pub fn one_bit_passes()
     ensures { OneBitPasses }
 {}
@@ -34,6 +37,7 @@ pub fn one_bit_passes()
 /// From one write to SBUF to the next at most one byte is sent, so a step of the processor sends at most one.
 ///
 /// Source: family manual.
+#[tactic(auto, using(crate::proofs::Lines::one_byte_is_sent))]
 pub fn one_byte_is_sent()
     ensures { OneByteIsSent }
 {}
@@ -41,6 +45,7 @@ pub fn one_byte_is_sent()
 /// From a byte that was sent to the next one with a ninth bit there are at least nine machine cycles between.
 ///
 /// Source: family manual.
+#[tactic(auto, using(crate::proofs::Lines::ninth_bits_are_apart))]
 pub fn ninth_bits_are_apart()
     ensures { NinthBitsAreApart }
 {}
@@ -50,6 +55,7 @@ pub fn ninth_bits_are_apart()
 /// before. What makes timer 1 overflow does not matter.
 ///
 /// Source: family manual; own choice ("Bit times").
+#[tactic(auto, using(crate::proofs::Rates::sent_in_time))]
 pub fn mode_1_is_sent_in_time()
     ensures { ModeOneIsSentInTime }
 {}
@@ -61,6 +67,7 @@ pub fn mode_1_is_sent_in_time()
 /// TL1, TMOD, TR1, TCLK, SMOD and SBUF.
 ///
 /// Source: family manual; own choice ("Bit times").
+#[tactic(auto, using(crate::proofs::InTime::sent_at_its_cycle))]
 pub fn mode_1_is_sent_at_its_cycle()
     ensures { ModeOneIsSentAtItsCycle }
 {}
@@ -69,6 +76,7 @@ pub fn mode_1_is_sent_at_its_cycle()
 /// after a write to SBUF, and after each tick from such a state.
 ///
 /// Source: own choice ("Bit times").
+#[tactic(auto, using(crate::proofs::Lines::line_is_bounded))]
 pub fn line_is_bounded()
     ensures { LineIsBounded }
 {}
@@ -76,6 +84,7 @@ pub fn line_is_bounded()
 /// A tick leaves PC, the levels in progress and every register that is not a device's as they are.
 ///
 /// Source: family manual.
+#[tactic(auto, using(crate::proofs::Kept::the_rest_is_kept))]
 pub fn the_rest_is_kept()
     ensures { TheRestIsKept }
 {}
@@ -84,6 +93,7 @@ pub fn the_rest_is_kept()
 /// count: no later part of the tick writes them.
 ///
 /// Source: family manual.
+#[tactic(auto, using(crate::proofs::Running::timer_0_is_told))]
 pub fn timer_0_is_told()
     ensures { TimerZeroIsTold }
 {}
@@ -92,6 +102,7 @@ pub fn timer_0_is_told()
 /// changes nothing else and sends nothing.
 ///
 /// Source: family manual; own choice ("Cycles in which nothing happens").
+#[tactic(auto, using(crate::proofs::CountsOn::devices_count_on))]
 pub fn devices_count_on()
     ensures { DevicesCountOn }
 {}

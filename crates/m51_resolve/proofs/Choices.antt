@@ -12,7 +12,7 @@ use Rattle.m51_resolve.proofs.Common.{IsNext, IsWanted, defining_module, supplie
 use Rattle.m51_resolve.proofs.Common.{definition_in, Definition, list_any-append}
 use Rattle.std.proofs.lemmas.Bool.{cases_Bool, cases_lt}
 use Rattle.m51_cells.proofs.Members.{all_every, Every, every_all}
-use Rattle.m51_resolve.specs.Choice.{Chooses, Ends, Takes, IsOneChoice, is_missing, chosen_of}
+use Rattle.m51_resolve.specs.Choice.{Chooses, Ends, Takes, IsOneChoice, is_missing, chosen_of, ChoicesAreOne}
 use Rattle.std.proofs.lemmas.Grind.{common_steps}
 use Rattle.std.specs.List.{Any}
 use Rattle.std.proofs.lemmas.Bool.Decides.{nat_tests}
@@ -101,7 +101,7 @@ only left chosen all (Takes front back m is passed needed more) (suc turns) few 
     (grind (arith, length-append)))
 
 -- what is chosen is the one outcome of the rule
-pub one_choice : (given members : List ModuleParts) → IsOneChoice given members
+pub one_choice : ChoicesAreOne
 one_choice given members = grind (arith, outcome, only)
 
 abbrev AtMost : Option ℕ → ℕ → Type 0

@@ -11,7 +11,6 @@ ghost use Rattle.m51_asm.specs.ValuesAbove.{ValuesGrow, ValuesAreSeen};
 /// At most one assignment fits a text: two that do agree on each line and each name.
 ///
 /// Source: own choice ("The assignment of a text").
-#[tactic(auto, using(crate::proofs::AnAssignment::agree))]
 pub fn one_assignment_fits()
     ensures { OneFits }
 {}
@@ -35,7 +34,6 @@ pub fn segment_numbers_do_not_matter()
 /// Each text has an answer, and only one.
 ///
 /// Source: own choice ("The assignment of a text").
-#[tactic(auto, using(crate::proofs::AnsweredLines::one_answer))]
 pub fn each_text_has_one_answer()
     ensures { OneAnswer }
 {}

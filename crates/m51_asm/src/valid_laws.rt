@@ -4,7 +4,6 @@ ghost use Rattle.m51_asm.specs.ValidTexts.{PartsAreValid, AnswersAreValid};
 /// The module that a text without faults gives is valid, so `Module::make` can be called with its parts.
 ///
 /// Source: own choice ("The assignment of a text").
-#[tactic(auto, using(crate::proofs::ValidParts::parts_are_valid))]
 pub fn parts_are_valid()
     ensures { PartsAreValid }
 {}
@@ -13,7 +12,6 @@ pub fn parts_are_valid()
 /// has at most three bytes.
 ///
 /// Source: own choice ("The assignment of a text").
-#[tactic(auto, using(crate::proofs::ValidParts::answers_are_valid))]
 pub fn answers_are_valid()
     ensures { AnswersAreValid }
 {}

@@ -6,7 +6,6 @@ ghost use Rattle.m51_emit.specs.GatheringLaws.{RunsGrow, ContentGrows};
 /// The fields of the references of a line lie in its bytes, in ascending order, and none overlaps the next.
 ///
 /// Source: own choice ("Content of a line").
-#[tactic(auto, using(crate::proofs::LyingContent::references_lie))]
 pub fn references_lie()
     ensures { ReferencesLie }
 {}

@@ -18,7 +18,6 @@ pub fn coded_stands_for_line()
 /// as the row.
 ///
 /// Source: own choice ("Instructions of a source").
-#[tactic(auto, using(crate::proofs::FormRows::forms_have_rows))]
 pub fn forms_have_rows()
     ensures { FormsHaveRows }
 {}

@@ -41,7 +41,6 @@ pub fn one_bit_is_replaced()
 /// A sum writes CY, AC and OV, and no other bit of PSW.
 ///
 /// Source: family manual.
-#[tactic(auto, using(crate::proofs::BitLaws::flags_are_written))]
 pub fn flags_are_written()
     ensures { FlagsAreWritten }
 {}
@@ -49,7 +48,6 @@ pub fn flags_are_written()
 /// Where each bit of A and CY comes from after a rotation, an exchange of digits and a complement.
 ///
 /// Source: family manual.
-#[tactic(auto, using(crate::proofs::BitLaws::bits_are_turned))]
 pub fn bits_are_turned()
     ensures { BitsAreTurned }
 {}
@@ -66,7 +64,6 @@ pub fn registers_are_written()
 /// they were, and the parity where the register is neither PSW nor ACC.
 ///
 /// Source: own choice ("Devices and registers").
-#[tactic(auto, using(crate::proofs::Devices::stores_keep_the_rest))]
 pub fn stores_keep_the_rest()
     ensures { StoresKeepTheRest }
 {}
@@ -74,7 +71,6 @@ pub fn stores_keep_the_rest()
 /// So does a device that writes one bit of a register.
 ///
 /// Source: own choice ("Devices and registers").
-#[tactic(auto, using(crate::proofs::Devices::flags_keep_the_rest))]
 pub fn flags_keep_the_rest()
     ensures { FlagsKeepTheRest }
 {}
@@ -83,7 +79,6 @@ pub fn flags_keep_the_rest()
 /// stay.
 ///
 /// Source: family manual.
-#[tactic(auto, using(crate::proofs::Devices::pc_is_stacked))]
 pub fn pc_is_stacked()
     ensures { PcIsStacked }
 {}
@@ -110,7 +105,6 @@ pub fn levels_are_kept()
 /// agrees with the store the effect is the same.
 ///
 /// Source: own choice ("Two readings of an instruction").
-#[tactic(auto, using(crate::proofs::Done::effects_are_done))]
 pub fn effects_are_done()
     ensures { EffectsAreDone }
 {}

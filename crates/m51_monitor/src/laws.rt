@@ -22,7 +22,6 @@ pub fn one_answer()
 /// it is after each move that the table allows, if it was so before and an interrupt interrupts at most one other.
 ///
 /// Source: own choice ("Activations").
-#[tactic(auto, using(crate::proofs::Moving::moves_are_kept))]
 pub fn moves_are_kept()
     ensures { MovesAreKept }
 {}
@@ -75,7 +74,6 @@ pub fn stack_is_kept()
 /// In a sound layout, where a vectoring goes to the vector of its source, the current unit covers PC after each move.
 ///
 /// Source: own choice ("Activations").
-#[tactic(auto, using(crate::proofs::CurrentUnit::covers_is_kept))]
 pub fn covers_is_kept()
     ensures { CoversIsKept }
 {}

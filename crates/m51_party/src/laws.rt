@@ -14,7 +14,6 @@ pub fn exactly_one_family()
 /// its last cycle.
 ///
 /// Source: own choice ("Party line").
-#[tactic(auto, using(crate::proofs::One::steps_make_records))]
 pub fn steps_make_records()
     ensures { StepsMakeRecords }
 {}

@@ -38,7 +38,6 @@ pub fn figure_is_weight()
 /// a base for each overlaid segment: L12 comes for none of them.
 ///
 /// Source: own choice ("Heaviest chains").
-#[tactic(auto, using(crate::proofs::Refused::overlay_fits))]
 pub fn overlay_fits()
     ensures { OverlayFits }
 {}
@@ -47,7 +46,6 @@ pub fn overlay_fits()
 /// that run, and neither L9 comes nor L12 for a segment before the overlaid ones.
 ///
 /// Source: own choice ("Heaviest chains").
-#[tactic(auto, using(crate::proofs::Refused::overlay_is_refused))]
 pub fn overlay_is_refused()
     ensures { OverlayRefused }
 {}
@@ -56,7 +54,6 @@ pub fn overlay_is_refused()
 /// that placing gives over it.
 ///
 /// Source: own choice ("Heaviest chains").
-#[tactic(auto, using(crate::proofs::Tight::weights_agree))]
 pub fn weights_agree()
     ensures { WeightsAgree }
 {}
@@ -80,7 +77,6 @@ pub fn least_is_least()
 /// The order of placing holds each relocatable segment exactly once, and each before all later ones by its rank.
 ///
 /// Source: RL51 guide.
-#[tactic(auto, using(crate::proofs::Ranks::in_order))]
 pub fn order_rises()
     ensures { OrderRises }
 {}

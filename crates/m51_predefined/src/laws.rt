@@ -30,7 +30,6 @@ pub fn reserved_words_stand_for_nothing()
 /// are below 8, and the name of a bit is what the dot gives.
 ///
 /// Source: family manual.
-#[tactic(auto, using(crate::proofs::ByteLaws::bytes_have_bits))]
 pub fn bytes_have_bits()
     ensures { BytesHaveBits }
 {}

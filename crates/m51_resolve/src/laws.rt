@@ -5,7 +5,6 @@ ghost use Rattle.m51_resolve.specs.Choice.{ChoicesAreOne};
 /// those left that is needed, until none is; and the rule has no other outcome.
 ///
 /// Source: RL51 guide.
-#[tactic(auto, using(crate::proofs::Choices::one_choice))]
 pub fn choices_are_one()
     ensures { ChoicesAreOne }
 {}

@@ -17,7 +17,6 @@ pub fn flat_runs_agree()
 /// an instruction those of its row in the table.
 ///
 /// Source: family manual.
-#[tactic(auto, using(crate::proofs::StepCycles::steps_short))]
 pub fn steps_are_short()
     ensures { StepsAreShort }
 {}

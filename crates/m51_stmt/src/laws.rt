@@ -5,7 +5,6 @@ ghost use Rattle.m51_stmt.specs.Laws.{PrintedReadsBack};
 /// where it has at most 255 bytes.
 ///
 /// Source: own choice ("Printed statements").
-#[tactic(auto, using(crate::proofs::ReadStatements::printed_reads_back))]
 pub fn printed_reads_back()
     ensures { PrintedReadsBack }
 {}

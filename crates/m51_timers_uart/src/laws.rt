@@ -10,7 +10,6 @@ ghost use Rattle.m51_timers_uart.specs.RowLaws.{ModeOneIsSentAtItsCycle, TimerOn
 /// in mode 1 after 65,536 counts less its number, in mode 2 after 256 less TL, and from TH.
 ///
 /// Source: family manual.
-#[tactic(auto, using(crate::proofs::Counts::timers_count_up))]
 pub fn timers_count_up()
     ensures { TimersCountUp }
 {}
@@ -21,7 +20,6 @@ pub fn timers_count_up()
 /// ticks does not write TH1, TL1, TMOD and TR1, and timer 0 is not in mode 3 in the last of them.
 ///
 /// Source: family manual.
-#[tactic(auto, using(crate::proofs::InTime::timer_1_counts_cycles))]
 pub fn timer_1_counts_cycles()
     ensures { TimerOneCountsCycles }
 {}
@@ -29,7 +27,6 @@ pub fn timer_1_counts_cycles()
 /// In a tick at most one bit time passes, and what is sent is the byte on its way, when its last bit time passes.
 ///
 /// Source: family manual.
-#[tactic(auto, using(crate::proofs::Lines::one_bit_passes))]
 pub fn one_bit_passes()
     ensures { OneBitPasses }
 {}
@@ -55,7 +52,6 @@ pub fn ninth_bits_are_apart()
 /// before. What makes timer 1 overflow does not matter.
 ///
 /// Source: family manual; own choice ("Bit times").
-#[tactic(auto, using(crate::proofs::Rates::sent_in_time))]
 pub fn mode_1_is_sent_in_time()
     ensures { ModeOneIsSentInTime }
 {}
@@ -67,7 +63,6 @@ pub fn mode_1_is_sent_in_time()
 /// TL1, TMOD, TR1, TCLK, SMOD and SBUF.
 ///
 /// Source: family manual; own choice ("Bit times").
-#[tactic(auto, using(crate::proofs::InTime::sent_at_its_cycle))]
 pub fn mode_1_is_sent_at_its_cycle()
     ensures { ModeOneIsSentAtItsCycle }
 {}
@@ -84,7 +79,6 @@ pub fn line_is_bounded()
 /// A tick leaves PC, the levels in progress and every register that is not a device's as they are.
 ///
 /// Source: family manual.
-#[tactic(auto, using(crate::proofs::Kept::the_rest_is_kept))]
 pub fn the_rest_is_kept()
     ensures { TheRestIsKept }
 {}
@@ -102,7 +96,6 @@ pub fn timer_0_is_told()
 /// changes nothing else and sends nothing.
 ///
 /// Source: family manual; own choice ("Cycles in which nothing happens").
-#[tactic(auto, using(crate::proofs::CountsOn::devices_count_on))]
 pub fn devices_count_on()
     ensures { DevicesCountOn }
 {}

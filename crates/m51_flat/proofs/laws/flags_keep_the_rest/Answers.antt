@@ -1,0 +1,5 @@
+use Rattle.m51_flat.proofs.Devices as lemmas
+use Rattle.m51_flat.proofs.laws.flags_keep_the_rest.Goals as goal
+
+pub returns : goal.returns
+returns c = lemmas.flags_keep_the_rest

@@ -5,7 +5,6 @@ ghost use Rattle.m51_predefined.specs.Laws.{ReservedStandForNothing, BytesHaveBi
 /// Each predefined name is one that a source can write, and no reserved word, so that a module may define it.
 ///
 /// Source: own choice ("Predefined names").
-#[tactic(auto, using(crate::proofs::RowLaws::names_are_free))]
 pub fn names_are_free()
     ensures { NamesAreFree }
 {}

@@ -5,7 +5,6 @@ ghost use Rattle.m51_text.specs.Rows.{StatementsHaveRows};
 /// Each line of a text is of the source or of one of the includes, and its number is that of a line of that file.
 ///
 /// Source: own choice ("The text of a source").
-#[tactic(auto, using(crate::proofs::Numbered::lines_are_of_files))]
 pub fn lines_are_of_files()
     ensures { LinesAreOfFiles }
 {}

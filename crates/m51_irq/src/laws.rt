@@ -22,7 +22,6 @@ pub fn none_is_taken_at_once()
 /// such source has a higher level, or the same level and an earlier index in the order.
 ///
 /// Source: family manual.
-#[tactic(auto, using(crate::proofs::ChoiceLaws::first_is_chosen))]
 pub fn the_first_that_may_be_taken_is_chosen()
     ensures { FirstIsChosen }
 {}

@@ -57,7 +57,6 @@ pub fn levels_are_kept()
 /// transfers leave their number as it is.
 ///
 /// Source: own choice ("Activations").
-#[tactic(auto, using(crate::proofs::Levels::interrupts_are_counted))]
 pub fn interrupts_are_counted()
     ensures { InterruptsAreCounted }
 {}
@@ -66,7 +65,6 @@ pub fn interrupts_are_counted()
 /// that of the topmost record.
 ///
 /// Source: own choice ("Activations").
-#[tactic(auto, using(crate::proofs::Levels::stack_is_kept))]
 pub fn stack_is_kept()
     ensures { StackIsKept }
 {}

@@ -5,7 +5,6 @@ ghost use Rattle.m51_party.specs.Laws.{ExactlyOneFamily, StepsMakeRecords};
 /// receives the frames that the other records give it.
 ///
 /// Source: own choice ("Party line").
-#[tactic(auto, using(crate::proofs::One::exactly_one))]
 pub fn exactly_one_family()
     ensures { ExactlyOneFamily }
 {}

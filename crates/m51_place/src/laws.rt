@@ -61,7 +61,6 @@ pub fn weights_agree()
 /// The decision by which two extents share a cell: it is whether a cell is in both.
 ///
 /// Source: own choice ("Extents go by numbers").
-#[tactic(auto, using(crate::proofs::Free::share_tells))]
 pub fn sharing_is_meeting()
     ensures { SharingIsMeeting }
 {}

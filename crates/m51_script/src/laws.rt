@@ -5,7 +5,6 @@ ghost use Rattle.m51_script.specs.Laws.{LastLineCounts, ReadAsWritten};
 /// the first or after the last.
 ///
 /// Source: own choice ("Scripts").
-#[tactic(auto, using(crate::proofs::FormLaws::read_as_written))]
 pub fn a_line_is_read_as_it_is_written()
     ensures { ReadAsWritten }
 {}

@@ -5,7 +5,6 @@ ghost use Rattle.m51_stackbound.specs.Laws.{AnswerIsUnique, TotalIsSumOfDepths};
 /// over at most two different handlers.
 ///
 /// Source: own choice ("Stack bound").
-#[tactic(auto, using(crate::proofs::Unique::total_is_sum))]
 pub fn total_is_sum_of_depths()
     ensures { TotalIsSumOfDepths }
 {}

@@ -14,7 +14,6 @@ pub fn lines_are_of_files()
 /// as the row.
 ///
 /// Source: own choice ("Instructions of a source").
-#[tactic(auto, using(crate::proofs::StatementRows::statements_have_rows))]
 pub fn statements_have_rows()
     ensures { StatementsHaveRows }
 {}

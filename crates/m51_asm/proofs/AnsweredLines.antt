@@ -15,7 +15,6 @@ use Rattle.std.proofs.lemmas.Option.{slice_get-map, slice_get_read, slice_get-ge
 use Rattle.m51_text.specs.declared.text.Line.{Line}
 use Rattle.std.proofs.Math.Seq.{drop-length}
 use Rattle.m51_text.specs.Text.{file_lines, text_lines, TextLine}
-use Rattle.m51_asm.specs.AnswerLaws.{OneAnswer}
 
 -- a number further on
 pub moved : (n k : ℕ) → suc n + k ≡ n + suc k
@@ -56,7 +55,7 @@ unfolding answer_of_lines
 content_answer file lines a h = cc (no_fault (placed_fault lines a) lines 0 (λ m low up. h m (omega arith)))
 
 -- the answer of a text, and no other
-pub one_answer : OneAnswer
+pub one_answer : (file : List ℕ) (text : TextTree) → HasOneAnswer file text
 one_answer file (TextFaults faults) = record { answer = Faults faults; is = refl; only = λ other h. h }
 one_answer file (Lines lines) = record {
   answer = answer_of_lines file lines (fitting lines);

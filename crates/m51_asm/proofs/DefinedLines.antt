@@ -27,8 +27,6 @@ use specs.Fitting.{register_or_predefined, form_by, undefined_value, bank_before
 use specs.ValuesAbove.{or_kept, line_value, value_above, defined_value, seen_value}
 use specs.GivenValues.{expression_given, given_or, given_by, HaveNumbers}
 use Rattle.m51_predefined.specs.Predefined.{absolute_register_of}
-use Rattle.m51_asm.specs.ValuesAbove.{ValuesAreSeen}
-use Rattle.m51_asm.specs.NamesAt.{KeptMeans, FormIsTold}
 use specs.NamesAt.{IsKeptOf, or_label}
 use specs.ValuesAt.{value_by_first, value_at, is_label}
 
@@ -554,7 +552,9 @@ seen_by : (lines : List LineTree) (a : Assignment) (k : ℕ) (name : List ℕ) (
     (undefined_value lines a k name) o
 seen_by lines a k name b = grind arith
 
-pub seen : ValuesAreSeen
+pub seen : (lines : List LineTree) (a : Assignment) → Fits lines a → (k : ℕ) (name : List ℕ)
+    → value_before lines a k k name ≡ seen_value k (value_above lines a k name) (undefined_value lines a k name)
+    (definition_of lines name)
 unfolding value_above definition_of
 seen lines a f k name =
     cc (f.values k name, seen_by lines a k name (definition_of lines name), front_of_text lines k name)
@@ -567,7 +567,11 @@ module _ (lines : List LineTree) (a : Assignment) (k : ℕ) (name : List ℕ) (u
   seen_first = grind (arith, front_of_text)
 
 -- by the values that the lines above a line give, names mean what they mean by the assignment
-pub means : KeptMeans
+pub means : (lines : List LineTree) (a : Assignment) → Fits lines a
+    → (k : ℕ) (segments : List SegmentEntry) (table : Table) (values : Valuation) (predefines : Bool) (bank : ℕ)
+    (here : Located ℕ)
+    → IsKeptOf lines a k segments table values predefines bank here
+    → kept_meanings segments table values values predefines bank here ≡ above lines a k
 unfolding above undefined_value
 means lines a f k segments table values predefines bank here s =
     λ i. record {
@@ -656,7 +660,10 @@ module _ (lines : List LineTree) (a : Assignment) (k : ℕ) (line : LineTree) (i
   unfolding above down_to
   down f = grind (arith, down_value)
 
-pub form_told : FormIsTold
+pub form_told : (lines : List LineTree) (a : Assignment) → Fits lines a → (k : ℕ) (line : LineTree)
+    → slice_get lines k ≡ Some line
+    → is_repeated lines k ≡ false
+    → form_by (with_label (above lines a k) line.stmt.label) line.stmt.body ≡ a.form k
 form_told lines a f k line is once =
     cc (
       same_form (with_label (above lines a k) line.stmt.label) (down_to lines a k) line.stmt.body (λ code. down

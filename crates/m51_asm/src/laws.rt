@@ -49,7 +49,6 @@ pub fn values_grow()
 /// without a definition.
 ///
 /// Source: own choice ("The assignment of a text").
-#[tactic(auto, using(crate::proofs::DefinedLines::seen))]
 pub fn values_are_seen()
     ensures { ValuesAreSeen }
 {}
@@ -57,7 +56,6 @@ pub fn values_are_seen()
 /// What is kept of the lines above a line says what names mean there, as the assignment that fits does.
 ///
 /// Source: own choice ("The assignment of a text").
-#[tactic(auto, using(crate::proofs::DefinedLines::means))]
 pub fn what_is_kept_means()
     ensures { KeptMeans }
 {}
@@ -83,7 +81,6 @@ pub fn first_faults_are_answers()
 /// The form of a JMP or CALL follows from the lines above it and the label of its own line.
 ///
 /// Source: own choice ("The assignment of a text").
-#[tactic(auto, using(crate::proofs::DefinedLines::form_told))]
 pub fn forms_are_told()
     ensures { FormIsTold }
 {}

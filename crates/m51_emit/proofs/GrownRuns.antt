@@ -9,7 +9,6 @@ use Rattle.m51_module.specs.declared.segment.Segment.{Segment}
 use Rattle.m51_emit.specs.Pieces.{Run, before_runs, if_bytes, fixup_of}
 use Rattle.m51_emit.specs.Gathering.{PlacedContent, run_of, runs_of, fixups_of, gathered_of, pushed_after, run_appended}
 use Rattle.m51_emit.specs.Gathering.{with_run, with_line}
-use Rattle.m51_emit.specs.GatheringLaws.{RunsGrow, ContentGrows}
 
 pub pushed_after_last : (run : Run) (more : List Run) (last x : Run)
     → pushed_after run (more ++ last ∷ []) x ≡ run ∷ (more ++ before_runs last.0 last.1 (x ∷ []))
@@ -73,7 +72,8 @@ if_pushed at [] runs x = refl
 if_pushed at (byte ∷ bytes) runs x = before_pushed at (byte ∷ bytes) runs x
 
 -- runs with additional bytes after them
-pub runs_grow : RunsGrow
+pub runs_grow : (xs : List Run) (at : ℕ) (bytes : List ℕ)
+    → runs_of (xs ++ (at, bytes) ∷ []) ≡ with_run (runs_of xs) at bytes
 runs_grow [] at [] = refl
 runs_grow (x ∷ xs) at [] = ap (if_bytes x.0 x.1) (runs_grow xs at [])
 runs_grow [] at (byte ∷ bytes) = refl
@@ -81,7 +81,8 @@ runs_grow (x ∷ xs) at (byte ∷ bytes) =
     ap (if_bytes x.0 x.1) (runs_grow xs at (byte ∷ bytes)) ∙ if_pushed x.0 x.1 (runs_of xs) (at, byte ∷ bytes)
 
 -- what is gathered from lines and one more
-pub gathered_grows : ContentGrows
+pub gathered_grows : (segments : List Segment) (segment : ℕ) (xs : List PlacedContent) (x : PlacedContent)
+    → gathered_of segments segment (xs ++ x ∷ []) ≡ with_line segments (gathered_of segments segment xs) x
 gathered_grows segments segment xs x =
     let of : PlacedContent → List Fixup = λ y. map (fixup_of segments segment y.0) y.1.references in
     let runs : runs_of (map run_of (xs ++ x ∷ [])) ≡ with_run (runs_of (map run_of xs)) x.0 x.1.bytes =

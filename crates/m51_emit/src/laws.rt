@@ -13,7 +13,6 @@ pub fn references_lie()
 /// An instruction whose mnemonic may have its operands, and of which no operand has a fault, has bytes.
 ///
 /// Source: own choice ("Content of a line").
-#[tactic(auto, using(crate::proofs::FaultlessLines::instructions_are_coded))]
 pub fn instructions_are_coded()
     ensures { InstructionsAreCoded }
 {}
@@ -21,7 +20,6 @@ pub fn instructions_are_coded()
 /// Such an instruction has as many bytes as its row.
 ///
 /// Source: own choice ("Content of a line").
-#[tactic(auto, using(crate::proofs::FaultlessLines::instructions_fill))]
 pub fn instructions_fill()
     ensures { InstructionsFill }
 {}
@@ -29,7 +27,6 @@ pub fn instructions_fill()
 /// DB without a fault has a byte for each value, and the characters of its texts.
 ///
 /// Source: own choice ("Content of a line").
-#[tactic(auto, using(crate::proofs::FaultlessLines::bytes_fill))]
 pub fn bytes_fill()
     ensures { BytesFill }
 {}
@@ -37,7 +34,6 @@ pub fn bytes_fill()
 /// DW of values without a fault has two bytes for each.
 ///
 /// Source: own choice ("Content of a line").
-#[tactic(auto, using(crate::proofs::FaultlessLines::words_fill))]
 pub fn words_fill()
     ensures { WordsFill }
 {}
@@ -45,7 +41,6 @@ pub fn words_fill()
 /// The fault of the content of a line is one of 7 to 10, 14 and 19.
 ///
 /// Source: own choice ("Content of a line").
-#[tactic(auto, using(crate::proofs::ContentFaultNumbers::content_fails_by_six))]
 pub fn content_fails_by_six()
     ensures { ContentFailsBySix }
 {}
@@ -53,7 +48,6 @@ pub fn content_fails_by_six()
 /// Runs that grow at their end, bytes by bytes, are those that are joined from the last bytes back.
 ///
 /// Source: own choice ("Content of a module").
-#[tactic(auto, using(crate::proofs::GrownRuns::runs_grow))]
 pub fn runs_grow()
     ensures { RunsGrow }
 {}
@@ -61,7 +55,6 @@ pub fn runs_grow()
 /// A segment to which lines are added one by one has what they give together.
 ///
 /// Source: own choice ("Content of a module").
-#[tactic(auto, using(crate::proofs::GrownRuns::gathered_grows))]
 pub fn content_grows()
     ensures { ContentGrows }
 {}

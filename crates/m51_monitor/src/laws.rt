@@ -48,7 +48,6 @@ pub fn one_state()
 /// were before.
 ///
 /// Source: own choice ("Activations").
-#[tactic(auto, using(crate::proofs::Levels::levels_are_kept))]
 pub fn levels_are_kept()
     ensures { LevelsAreKept }
 {}

@@ -14,7 +14,7 @@ use Rattle.m51_cells.proofs.Meeting.{shared}
 use Rattle.m51_place.specs.Bases.{overlap, share, fits_at, HasNoBase, is_free, IsApart, IsFree, IsLeastBase, least_base}
 use Rattle.std.proofs.lemmas.Bool.{cases_eq, false_from_ne_true, eq-eqb, eqb-true, lt-ltb, ltb-true}
 use Rattle.std.proofs.lemmas.List.Sorted.{IsPermutation-sym}
-use Rattle.m51_place.specs.Laws.{LeastIsLeast, SharingIsMeeting}
+use Rattle.m51_place.specs.Laws.{LeastIsLeast}
 use Rattle.m51_bases.specs.Raising.{IsClear, IsFirstClear, IsOutside, NoneIsClear}
 use Rattle.m51_cells.proofs.Members.{all_every, Every, every_all, every_weaker, Pairs, pairs_push, every_in, every_of}
 use Rattle.m51_cells.proofs.Members.{In, in_cases, in_left, in_right, every_map, map_got, map_in, total, total-append}
@@ -39,7 +39,7 @@ Overlaps a b = ((0 < a.len) × (0 < b.len)) × ((a.first < b.first + b.len) × (
 overlap_tells : (a b : Extent) → Decides (overlap a b) (Overlaps a b)
 overlap_tells a b = (λ h. grind (arith, nat_tests), λ h. grind (arith, nat_tests))
 
-pub share_tells : SharingIsMeeting
+pub share_tells : (a b : Extent) → Decides (share a b) (Meet a b)
 unfolding share
 share_tells a b =
     let both : Decides (share a b) ((a.space ≡ b.space) × Overlaps a b) =

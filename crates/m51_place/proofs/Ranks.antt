@@ -34,7 +34,7 @@ use Rattle.m51_cells.proofs.Members.{all_every, Every, every_all, total, total_m
 use Rattle.m51_cells.proofs.Members.{every_append, every_in, every_map, every_of, got_in, in_filter}
 use Rattle.m51_place.proofs.Numbering.{at_number, with_numbers}
 use Rattle.m51_place.specs.declared.ranked.Rank.{Rank}
-use Rattle.m51_place.specs.Laws.{IsInOrder, OrderRises}
+use Rattle.m51_place.specs.Laws.{IsInOrder}
 
 -- What is known of the joined segments of valid modules, and of their graph.
 
@@ -367,6 +367,7 @@ pub order_rises : (g : GraphParts) (controls : List (ℕ × Control)) (segments 
     → Pairs Earlier (order_of g controls segments)
 order_rises g controls segments = rises_from g controls 0 segments [] tt tt
 
-pub in_order : OrderRises
+pub in_order : (g : GraphParts) (controls : List (ℕ × Control)) (segments : List JoinedSegment)
+    → IsInOrder g controls segments
 in_order g controls segments =
     record { rises = pairs_all _ _ (order_rises g controls segments); once = order_moves g controls segments }

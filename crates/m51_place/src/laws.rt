@@ -10,7 +10,6 @@ ghost use Rattle.m51_place.specs.Overlay.{WeightsAgree};
 /// those.
 ///
 /// Source: own choice ("Heaviest chains").
-#[tactic(auto, using(crate::proofs::Weights::least))]
 pub fn weight_is_least()
     ensures { WeightIsLeast }
 {}
@@ -20,7 +19,6 @@ pub fn weight_is_least()
 /// layout covers no fewer bytes. So the run has at least as many bytes as the weight.
 ///
 /// Source: own choice ("Heaviest chains").
-#[tactic(auto, using(crate::proofs::Tight::placing_tight))]
 pub fn placing_is_tight()
     ensures { PlacingIsTight }
 {}
@@ -29,7 +27,6 @@ pub fn placing_is_tight()
 /// weight as its figure of overlaid bytes.
 ///
 /// Source: own choice ("Heaviest chains").
-#[tactic(auto, using(crate::proofs::Tight::figure_is_weight))]
 pub fn figure_is_weight()
     ensures { FigureIsWeight }
 {}
@@ -68,7 +65,6 @@ pub fn sharing_is_meeting()
 /// The base of the definition is free, and no smaller one is; it is `None` exactly if no base is free.
 ///
 /// Source: RL51 guide.
-#[tactic(auto, using(crate::proofs::Free::least_is_least))]
 pub fn least_is_least()
     ensures { LeastIsLeast }
 {}

@@ -1,6 +1,6 @@
 -- Reads without a value and puts that are shut name cells that exist.
 use Rattle.m51_flat.proofs.Common.{◌≡◌, ℕ, zero, suc, ◌+◌, ◌*◌, ◌<◌, ◌≤◌, Bool, true, false, cond, Option, Some, None}
-use Rattle.m51_flat.proofs.Common.{Result, refl, arith, Cell, Missing, Put, Nothing, Byte, Bit, Xbyte, Seen}
+use Rattle.m51_flat.proofs.Common.{Result, refl, arith, Cell, NoEffect, Put, Nothing, Byte, Bit, Xbyte, Seen}
 use Rattle.m51_flat.proofs.Common.{Value, States, CellState, Holds, Absent, Fresh, answered, bits_seen, on_value}
 use Rattle.m51_flat.proofs.Common.{ram_cell, xram_cell, value_or_missing}
 use Rattle.std.specs.Prelude.{IfErr, IfSome}
@@ -34,16 +34,16 @@ bits_names s (suc k) n h =
     more_names s (bit_seen s n) (bits_seen s k (n + 1)) (cell_names s (ram_cell n) (s.ram n) refl (tt, omega arith))
     (bits_names s k (n + 1) (omega arith))
 
-pub byte_missing : (s : States) (a : ℕ) (r : Result ℕ Missing) → a < 256 → r ≡ value_or_missing (byte_seen s a)
+pub byte_missing : (s : States) (a : ℕ) (r : Result ℕ NoEffect) → a < 256 → r ≡ value_or_missing (byte_seen s a)
     → IfErr r (IsMissing s)
 unfolding byte_seen
 byte_missing s a r h e = rw e (bits_names s 8 (8 * a) (omega arith))
 
-pub bit_missing : (s : States) (n : ℕ) (r : Result ℕ Missing) → n < 128 → r ≡ value_or_missing (bit_seen s (256 + n))
+pub bit_missing : (s : States) (n : ℕ) (r : Result ℕ NoEffect) → n < 128 → r ≡ value_or_missing (bit_seen s (256 + n))
     → IfErr r (IsMissing s)
 bit_missing s n r h e = rw e (cell_names s (ram_cell (256 + n)) (s.ram (256 + n)) refl (tt, omega arith))
 
-pub xbyte_missing : (s : States) (a : ℕ) (r : Result ℕ Missing) → a < 65536 → r ≡ value_or_missing (xbyte_seen s a)
+pub xbyte_missing : (s : States) (a : ℕ) (r : Result ℕ NoEffect) → a < 65536 → r ≡ value_or_missing (xbyte_seen s a)
     → IfErr r (IsMissing s)
 xbyte_missing s a r h e = rw e (cell_names s (xram_cell a) (s.xram a) refl (tt, h))
 

@@ -23,7 +23,7 @@ pub use Rattle.m51_flat.specs.declared.actions.ReturnFrom.{ReturnFrom}
 pub use Rattle.m51_flat.specs.declared.actions.ReturnFrom.TheVariants.{Interrupt, Subroutine}
 pub use Rattle.m51_flat.specs.declared.state.Cpu.{Cpu}
 pub use Rattle.m51_flat.specs.declared.state.Effect.{Effect}
-pub use Rattle.m51_flat.specs.declared.state.Missing.{Missing}
+pub use Rattle.m51_flat.specs.declared.state.NoEffect.{NoEffect}
 pub use Rattle.m51_flat.specs.declared.state.Pins.{Pins}
 pub use Rattle.m51_flat.specs.declared.state.Put.{Put}
 pub use Rattle.m51_flat.specs.declared.state.Put.TheVariants.{Bit, Byte, Nothing, Xbyte}

@@ -1,7 +1,7 @@
 -- Where the outcome of an instruction is an effect, its puts are open, and over each map that agrees with the store the
 -- effect is the same.
 use Rattle.m51_flat.proofs.Common.{◌≡◌, ℕ, Bool, true, false, List, ◌∷◌, Option, Some, None, refl, ap, Cell}
-use Rattle.m51_flat.proofs.Common.{and_then, Missing, Result, Instr, Cpu, Pins, Effect, Seen, Value, CellState, Holds}
+use Rattle.m51_flat.proofs.Common.{and_then, NoEffect, Result, Instr, Cpu, Pins, Effect, Seen, Value, CellState, Holds}
 use Rattle.m51_flat.proofs.Common.{Absent, Fresh}
 use Rattle.m51_flat.proofs.Common.{States, Access, Agrees, CellMap, access_seen, accesses_over, first_missing}
 use Rattle.m51_flat.proofs.Common.{result_over, value_or_missing, concluded, plan_of, unless_shut}
@@ -36,7 +36,7 @@ at_end barred a None (Some c) down p q r = tt
 at_end barred a (Some c) two down p q r = tt
 
 -- a read that has a value is followed by the others
-after_read : (r : Seen) (barred : Cell → Bool) (a : Effect) (others : Result Effect Missing)
+after_read : (r : Seen) (barred : Cell → Bool) (a : Effect) (others : Result Effect NoEffect)
     → EndsAs barred a (concluded barred others)
     → EndsAs barred a (concluded barred (and_then (value_or_missing r) (λ v. others)))
 after_read (Value v) barred a others h = h

@@ -1,9 +1,9 @@
 -- From what holds of every plan to what holds of every outcome.
 use Rattle.m51_flat.proofs.Common.{◌≡◌, ℕ, Bool, true, false, cond, List, length, Option, Some, None, Result, Ok, Err}
-use Rattle.m51_flat.proofs.Common.{refl, ap, Cell, and_then, Instr, Cpu, Pins, Effect, Missing, States}
+use Rattle.m51_flat.proofs.Common.{refl, ap, Cell, and_then, Instr, Cpu, Pins, Effect, NoEffect, States}
 use Rattle.m51_flat.proofs.Common.{Reads, Ends, Read, CellMap, Agrees, access_seen, value_or_missing, sp, action_of}
 use Rattle.m51_flat.proofs.Common.{concluded, plan_of, started, unless_shut, Always, HasParity}
-use Rattle.m51_flat.specs.declared.state.Missing.TheVariants.{Outside as MissingOutside, Unset as MissingUnset}
+use Rattle.m51_flat.specs.declared.state.NoEffect.TheVariants as lacks
 use Rattle.m51_flat.specs.Outcome.{Outcome, Done, Outside, Unset, PowerDown}
 use Rattle.m51_flat.specs.States.{shut_of}
 use Rattle.m51_flat.specs.Reads.{answer}
@@ -32,11 +32,12 @@ unless_done P None None true e h = tt
 unless_done P None (Some c) down e h = tt
 unless_done P (Some c) two down e h = tt
 
-after_value : (P : Effect → Type 0) (barred : Cell → Bool) (r : Result ℕ Missing) (f : ℕ → Result Effect Missing)
+after_value : (P : Effect → Type 0) (barred : Cell → Bool) (r : Result ℕ NoEffect) (f : ℕ → Result Effect NoEffect)
     → ((v : ℕ) → IfDone (concluded barred (f v)) P) → IfDone (concluded barred (and_then r f)) P
 after_value P barred (Ok v) f h = h v
-after_value P barred (Err (MissingOutside c)) f h = tt
-after_value P barred (Err (MissingUnset c)) f h = tt
+after_value P barred (Err (lacks.Outside c)) f h = tt
+after_value P barred (Err (lacks.Unset c)) f h = tt
+after_value P barred (Err lacks.PowerDown) f h = tt
 
 -- what holds whatever is read holds of the effect over a store
 pub always_done : (P : Effect → Type 0) (barred : Cell → Bool) (s : States) (p : Reads Effect) → Always P p

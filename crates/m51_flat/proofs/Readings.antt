@@ -1,6 +1,6 @@
 -- The two readings of a plan, and plans one after another.
 use Rattle.m51_flat.proofs.Common.{◌≡◌, ℕ, zero, suc, ◌+◌, ◌*◌, List, Result, refl, Seen}
-use Rattle.m51_flat.proofs.Common.{Value, Cell, and_then, Missing, States, CellState, Holds, answered}
+use Rattle.m51_flat.proofs.Common.{Value, Cell, and_then, NoEffect, States, CellState, Holds, answered}
 use Rattle.m51_flat.proofs.Common.{on_value, bits_seen, ram_cell, xram_cell, Access, Reads, Ends, Read}
 use Rattle.m51_flat.proofs.Common.{value_or_missing, access_seen, CellMap, result_over, accesses_over, first_missing}
 use Rattle.m51_flat.proofs.Common.{Agrees, arith}
@@ -9,8 +9,8 @@ use Rattle.m51_flat.specs.Reads.{ByteAt, BitAt, XbyteAt, then_read}
 use Rattle.m51_flat.specs.Reads.{answer, bits_in, access_value}
 use Rattle.m51_flat.specs.Reads.{goes_on, up_to_missing}
 
-bind_step : {A B : Type 0} (r : Result ℕ Missing) (f : ℕ → Result A Missing) (g h : A → Result B Missing)
-    (k : ℕ → Result B Missing) → ((v : ℕ) → k v ≡ and_then (f v) g) → and_then r k ≡ and_then (and_then r f) g
+bind_step : {A B : Type 0} (r : Result ℕ NoEffect) (f : ℕ → Result A NoEffect) (g h : A → Result B NoEffect)
+    (k : ℕ → Result B NoEffect) → ((v : ℕ) → k v ≡ and_then (f v) g) → and_then r k ≡ and_then (and_then r f) g
 bind_step r f g h k e = grind arith
 
 -- a store's answer to one plan after another
@@ -22,7 +22,7 @@ answer_then s (Read x more) go =
     (λ a. answer s (go a))
     (λ v. answer s (then_read (more v) go)) (λ v. answer_then s (more v) go)
 
-one_read : {A : Type 0} (r : Seen) (m : ℕ) (f : ℕ → Result A Missing) (a : Result A Missing)
+one_read : {A : Type 0} (r : Seen) (m : ℕ) (f : ℕ → Result A NoEffect) (a : Result A NoEffect)
     → ((v : ℕ) → r ≡ Value v → m ≡ v) → f m ≡ a
     → and_then (value_or_missing r) f ≡ and_then (value_or_missing r) (λ v. a)
 one_read r m f a agrees e = grind arith

@@ -5,8 +5,8 @@ use Rattle.m51_cells.specs.declared.cell.Space.TheVariants.{Ram, Xram, Code}
 use Rattle.m51_cells.specs.declared.cell.Cell.{Cell}
 use Rattle.m51_cells.specs.Cells.{IsDataCell}
 use Rattle.m51_flat.specs.declared.state.Effect.{Effect}
-use Rattle.m51_flat.specs.declared.state.Missing.{Missing}
-use Rattle.m51_flat.specs.declared.state.Missing.TheVariants.{Outside as MissingOutside, Unset as MissingUnset}
+use Rattle.m51_flat.specs.declared.state.NoEffect.{NoEffect}
+use Rattle.m51_flat.specs.declared.state.NoEffect.TheVariants as lacks
 use Rattle.m51_flat.specs.Outcome.{Outcome, Done, Outside, Unset, PowerDown}
 use Rattle.m51_flat.specs.States.{CellState, States, Holds, Absent, Fresh}
 use Rattle.m51_flat.specs.Reads.{CellMap}
@@ -23,9 +23,10 @@ abbrev pub IsCell : States → Cell → CellState → Type 0
 IsCell s c state = IsDataCell c × (state_at s c.space c.at ≡ state)
 
 -- a read without a value names a cell that is outside, or was never written
-abbrev pub IsMissing : States → Missing → Type 0
-IsMissing s (MissingOutside c) = IsCell s c Absent
-IsMissing s (MissingUnset c) = IsCell s c Fresh
+abbrev pub IsMissing : States → NoEffect → Type 0
+IsMissing s (lacks.Outside c) = IsCell s c Absent
+IsMissing s (lacks.Unset c) = IsCell s c Fresh
+IsMissing s lacks.PowerDown = ⊥
 
 -- the cell exists and may not be written
 abbrev pub IsBarred : (Cell → Bool) → Cell → Type 0

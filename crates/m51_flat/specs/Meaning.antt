@@ -9,9 +9,8 @@ use Rattle.m51_flat.specs.declared.state.Pins.{Pins}
 use Rattle.m51_flat.specs.declared.state.Put.TheVariants.{Nothing}
 use Rattle.m51_flat.specs.declared.state.Transfer.TheVariants.{Next, Jump}
 use Rattle.m51_flat.specs.declared.state.Effect.{Effect}
-use Rattle.m51_flat.specs.declared.state.Missing.{Missing}
-use Rattle.m51_flat.specs.declared.state.Missing.TheVariants.{Outside as MissingOutside, Unset as MissingUnset}
-use Rattle.m51_flat.specs.Outcome.{Outcome, Done, Outside, Unset, PowerDown}
+use Rattle.m51_flat.specs.declared.state.NoEffect.{NoEffect}
+use Rattle.m51_flat.specs.Outcome.{Outcome, Done, Outside, PowerDown, lacking}
 use Rattle.m51_flat.specs.declared.actions.Action.{Action}
 use Rattle.m51_flat.specs.declared.actions.Action.TheVariants.{Skip, Assign, Accumulate, Combine, Change, Turn}
 use Rattle.m51_flat.specs.declared.actions.Action.TheVariants.{Multiply, Divide, Exchange, ExchangeDigit, LoadDptr}
@@ -110,10 +109,9 @@ abbrev pub allowed : (Cell → Bool) → Effect → Outcome
 allowed barred e = unless_barred barred e (if flag e.cpu pcon 1 then PowerDown else Done e)
 
 -- the first read that has no value, or else the effect where it is allowed
-abbrev pub concluded : (Cell → Bool) → Result Effect Missing → Outcome
+abbrev pub concluded : (Cell → Bool) → Result Effect NoEffect → Outcome
 concluded barred (Ok e) = allowed barred e
-concluded barred (Err (MissingOutside c)) = Outside c
-concluded barred (Err (MissingUnset c)) = Unset c
+concluded barred (Err why) = lacking why
 
 -- over a store with these cells, of which some are barred
 unfoldable pub instruction_outcome : Cpu → States → (Cell → Bool) → Instr → List ℕ → Pins → Outcome

@@ -3,8 +3,8 @@ use Rattle.std.specs.Prelude.{◌≡◌, ℕ, zero, suc, ◌+◌, ◌*◌, List,
 use Rattle.m51_cells.specs.Outcome.{and_then}
 use Rattle.m51_flat.specs.declared.state.Seen.{Seen}
 use Rattle.m51_flat.specs.declared.state.Seen.TheVariants.{Value, Outside as SeenOutside, Unset as SeenUnset}
-use Rattle.m51_flat.specs.declared.state.Missing.{Missing}
-use Rattle.m51_flat.specs.declared.state.Missing.TheVariants.{Outside, Unset}
+use Rattle.m51_flat.specs.declared.state.NoEffect.{NoEffect}
+use Rattle.m51_flat.specs.declared.state.NoEffect.TheVariants.{Outside, Unset}
 use Rattle.m51_flat.specs.States.{States, Holds, byte_seen, bit_seen, xbyte_seen}
 
 -- a read of a byte of internal RAM, of a bit of it by bit address, or of a byte of external memory
@@ -30,18 +30,18 @@ access_seen s (BitAt n) = bit_seen s (256 + n)
 access_seen s (XbyteAt a) = xbyte_seen s a
 
 -- the value that is seen, or why there is none
-abbrev pub value_or_missing : Seen → Result ℕ Missing
+abbrev pub value_or_missing : Seen → Result ℕ NoEffect
 value_or_missing (Value v) = Ok v
 value_or_missing (SeenOutside c) = Err (Outside c)
 value_or_missing (SeenUnset c) = Err (Unset c)
 
 -- over a store: the result, or the answer to the first read that has no value
-abbrev pub answer : {A : Type 0} → States → Reads A → Result A Missing
+abbrev pub answer : {A : Type 0} → States → Reads A → Result A NoEffect
 answer s (Ends a) = Ok a
 answer s (Read x go) = and_then (value_or_missing (access_seen s x)) (λ v. answer s (go v))
 
 -- how reads that may fail went, and the value after them
-abbrev pub with_effect : {A B : Type 0} → Result A Missing → B → Result B Missing
+abbrev pub with_effect : {A B : Type 0} → Result A NoEffect → B → Result B NoEffect
 with_effect (Ok a) b = Ok b
 with_effect (Err e) b = Err e
 
@@ -72,7 +72,7 @@ accesses_over m (Ends a) = []
 accesses_over m (Read x go) = x ∷ accesses_over m (go (access_value m x))
 
 -- the answer to the first of these reads that has no value, or else this result
-abbrev pub first_missing : {A : Type 0} → States → List Access → A → Result A Missing
+abbrev pub first_missing : {A : Type 0} → States → List Access → A → Result A NoEffect
 first_missing s [] a = Ok a
 first_missing s (x ∷ xs) a = and_then (value_or_missing (access_seen s x)) (λ v. first_missing s xs a)
 

@@ -8,7 +8,7 @@ ghost use Rattle.m51_flat.specs.Reads.{answer, with_effect};
 use crate::actions::{Addition, Addressing, ByteOperand, Count, Logic, Turning};
 use crate::operands::{find_at, locate, read_latch_at, read_operand, write_location};
 use crate::sfr::write_sfr;
-use crate::state::{Effect, Missing, Pins};
+use crate::state::{Effect, NoEffect, Pins};
 use crate::store::CellStore;
 use crate::writing::{read_auxiliary_carry, read_carry, write_carry, write_sum};
 use m51_alu::{Sum, da, subb};
@@ -71,7 +71,7 @@ pub(crate) fn assign<M: CellStore>(
     effect: &mut Effect,
     addressing: Addressing,
     from: ByteOperand,
-) -> Result<(), Missing>
+) -> Result<(), NoEffect>
     ensures value { with_effect result effect.new ≡ answer (M.cells store.now)
         (assigned ext.now effect.old addressing from) }
     ensures missing { IfErr result (IsMissing (M.cells store.now)) }
@@ -91,7 +91,7 @@ pub(crate) fn accumulate<M: CellStore>(
     effect: &mut Effect,
     op: Addition,
     from: ByteOperand,
-) -> Result<(), Missing>
+) -> Result<(), NoEffect>
     ensures value { with_effect result effect.new ≡ answer (M.cells store.now) (summed ext.now effect.old op from) }
     ensures missing { IfErr result (IsMissing (M.cells store.now)) }
 {
@@ -111,7 +111,7 @@ pub(crate) fn combine<M: CellStore>(
     op: Logic,
     addressing: Addressing,
     from: ByteOperand,
-) -> Result<(), Missing>
+) -> Result<(), NoEffect>
     ensures value { with_effect result effect.new ≡ answer (M.cells store.now)
         (combined ext.now effect.old op addressing from) }
     ensures missing { IfErr result (IsMissing (M.cells store.now)) }
@@ -131,7 +131,7 @@ pub(crate) fn change<M: CellStore>(
     effect: &mut Effect,
     count: Count,
     addressing: Addressing,
-) -> Result<(), Missing>
+) -> Result<(), NoEffect>
     ensures value { with_effect result effect.new ≡ answer (M.cells store.now) (changed effect.old count addressing) }
     ensures missing { IfErr result (IsMissing (M.cells store.now)) }
 {
@@ -163,7 +163,7 @@ pub(crate) fn exchange<M: CellStore>(
     ext: &Pins,
     effect: &mut Effect,
     addressing: Addressing,
-) -> Result<(), Missing>
+) -> Result<(), NoEffect>
     ensures value { with_effect result effect.new ≡ answer (M.cells store.now)
         (exchanged ext.now effect.old addressing) }
     ensures missing { IfErr result (IsMissing (M.cells store.now)) }
@@ -190,7 +190,7 @@ pub(crate) fn exchange_digit<M: CellStore>(
     ext: &Pins,
     effect: &mut Effect,
     addressing: Addressing,
-) -> Result<(), Missing>
+) -> Result<(), NoEffect>
     ensures value { with_effect result effect.new ≡ answer (M.cells store.now)
         (digits_exchanged ext.now effect.old addressing) }
     ensures missing { IfErr result (IsMissing (M.cells store.now)) }

@@ -9,13 +9,13 @@ ghost use Rattle.m51_flat.specs.Reads.{answer, with_effect};
 use crate::actions::{BitSource, BitTest, CarryChange, CarryMerge};
 use crate::operands::read_bit;
 use crate::sfr::{replace_bit, write_sfr};
-use crate::state::{Cpu, Effect, Missing, Pins, Put};
+use crate::state::{Cpu, Effect, NoEffect, Pins, Put};
 use crate::store::CellStore;
 use crate::writing::{branch_if, read_carry, write_carry};
 
 /// A bit for an operand that is changed: of a port that of its latch.
 #[tactic(auto, unfolding(crate::specs::Operands::bit_latch_at))]
-pub(crate) fn read_bit_latch<M: CellStore>(store: &M, cpu: &Cpu, bit: u8) -> Result<u8, Missing>
+pub(crate) fn read_bit_latch<M: CellStore>(store: &M, cpu: &Cpu, bit: u8) -> Result<u8, NoEffect>
     ensures value { result ≡ answer (M.cells store.now) (bit_latch_at cpu.now bit) }
     ensures missing { IfErr result (IsMissing (M.cells store.now)) }
 {
@@ -45,7 +45,7 @@ pub(crate) fn write_bit(effect: &mut Effect, bit: u8, value: bool)
 
 /// What a read finds in a bit: at a port the level of its pin.
 #[tactic(auto, unfolding(crate::specs::Operands::bit_found_at))]
-fn find_bit<M: CellStore>(store: &M, cpu: &Cpu, ext: &Pins, bit: u8) -> Result<u8, Missing>
+fn find_bit<M: CellStore>(store: &M, cpu: &Cpu, ext: &Pins, bit: u8) -> Result<u8, NoEffect>
     ensures value { result ≡ answer (M.cells store.now) (bit_found_at cpu.now ext.now bit) }
     ensures missing { IfErr result (IsMissing (M.cells store.now)) }
 {
@@ -99,7 +99,7 @@ pub(crate) fn carry_with<M: CellStore>(
     effect: &mut Effect,
     by: CarryMerge,
     bit: u8,
-) -> Result<(), Missing>
+) -> Result<(), NoEffect>
     ensures value { with_effect result effect.new ≡ answer (M.cells store.now)
         (carry_merged ext.now effect.old by bit) }
     ensures missing { IfErr result (IsMissing (M.cells store.now)) }
@@ -112,7 +112,11 @@ pub(crate) fn carry_with<M: CellStore>(
 
 /// CPL bit: of a port the latch is read.
 #[tactic(auto, using(crate::proofs::Readings::answer_then), unfolding(crate::specs::Bits::bit_flipped))]
-pub(crate) fn flip_bit<M: CellStore>(store: &M, effect: &mut Effect, bit: u8) -> Result<(), Missing>
+pub(crate) fn flip_bit<M: CellStore>(
+    store: &M,
+    effect: &mut Effect,
+    bit: u8,
+) -> Result<(), NoEffect>
     ensures value { with_effect result effect.new ≡ answer (M.cells store.now) (bit_flipped effect.old bit) }
     ensures missing { IfErr result (IsMissing (M.cells store.now)) }
 {
@@ -140,7 +144,7 @@ pub(crate) fn branch_on_bit<M: CellStore>(
     test: BitTest,
     bit: u8,
     rel: u8,
-) -> Result<(), Missing>
+) -> Result<(), NoEffect>
     ensures value { with_effect result effect.new ≡ answer (M.cells store.now)
         (branched_on_bit ext.now effect.old test bit rel) }
     ensures missing { IfErr result (IsMissing (M.cells store.now)) }
@@ -157,7 +161,7 @@ pub(crate) fn test_and_clear<M: CellStore>(
     effect: &mut Effect,
     bit: u8,
     rel: u8,
-) -> Result<(), Missing>
+) -> Result<(), NoEffect>
     ensures value { with_effect result effect.new ≡ answer (M.cells store.now) (tested_and_cleared effect.old bit rel) }
     ensures missing { IfErr result (IsMissing (M.cells store.now)) }
 {

@@ -6,7 +6,7 @@ ghost use Rattle.m51_flat.specs.Transfers.{compared, counted_down, is_met};
 
 use crate::actions::{Addressing, ByteOperand, Condition};
 use crate::operands::{locate, read_latch_at, read_operand, write_location};
-use crate::state::{Cpu, Effect, Missing, Pins};
+use crate::state::{Cpu, Effect, NoEffect, Pins};
 use crate::store::CellStore;
 use crate::writing::{branch_if, read_carry, write_carry};
 use m51_sfr::addresses::ACC;
@@ -34,7 +34,7 @@ pub(crate) fn compare<M: CellStore>(
     first: ByteOperand,
     second: ByteOperand,
     rel: u8,
-) -> Result<(), Missing>
+) -> Result<(), NoEffect>
     ensures value { with_effect result effect.new ≡ answer (M.cells store.now)
         (compared ext.now effect.old first second rel) }
     ensures missing { IfErr result (IsMissing (M.cells store.now)) }
@@ -54,7 +54,7 @@ pub(crate) fn count_down<M: CellStore>(
     effect: &mut Effect,
     addressing: Addressing,
     rel: u8,
-) -> Result<(), Missing>
+) -> Result<(), NoEffect>
     ensures value { with_effect result effect.new ≡ answer (M.cells store.now)
         (counted_down effect.old addressing rel) }
     ensures missing { IfErr result (IsMissing (M.cells store.now)) }

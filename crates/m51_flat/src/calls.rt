@@ -7,7 +7,7 @@ ghost use Rattle.m51_flat.specs.Transfers.{called, returned, returned_from, stac
 use crate::actions::ReturnFrom;
 use crate::operands::read_byte;
 use crate::sfr::write_sfr;
-use crate::state::{Effect, Missing, Put, Transfer};
+use crate::state::{Effect, NoEffect, Put, Transfer};
 use crate::store::CellStore;
 use crate::writing::jump;
 use m51_sfr::addresses::SP;
@@ -62,7 +62,7 @@ pub(crate) fn return_from<M: CellStore>(
     store: &M,
     effect: &mut Effect,
     from: ReturnFrom,
-) -> Result<(), Missing>
+) -> Result<(), NoEffect>
     ensures value { with_effect result effect.new ≡ answer (M.cells store.now) (returned effect.old from) }
     ensures missing { IfErr result (IsMissing (M.cells store.now)) }
 {

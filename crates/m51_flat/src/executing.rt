@@ -14,7 +14,7 @@ ghost use Rattle.m51_flat.specs.States.{shut_of};
 
 use crate::action_table::action_for;
 use crate::performing::perform;
-use crate::state::{Cpu, Effect, Missing, NoEffect, Outcome, Pins, Put, Transfer};
+use crate::state::{Cpu, Effect, NoEffect, Outcome, Pins, Put, Transfer};
 use crate::store::CellStore;
 use m51_cells::Cell;
 use m51_isa::{Instr, cycles, length};
@@ -185,11 +185,8 @@ fn run<M: CellStore>(
     ensures cause { IsCause (M.cells store.now) (M.barred store.now) (outcome_by result effect.new) }
 {
     start(effect, cpu, instr, same);
-    match perform(store, image, ext, effect, action_for(instr)) {
-        Ok(()) => allow(store, effect),
-        Err(Missing::Outside(cell)) => Err(NoEffect::Outside(cell)),
-        Err(Missing::Unset(cell)) => Err(NoEffect::Unset(cell)),
-    }
+    perform(store, image, ext, effect, action_for(instr))?;
+    allow(store, effect)
 }
 
 /// The outcome of an instruction over a store, where `image` has 65,536 bytes. It changes nothing: the caller puts

@@ -8,14 +8,18 @@ ghost use Rattle.m51_flat.specs.Reads.{answer, with_effect};
 use crate::actions::{Addressing, ByteOperand, CodeBase, ExternalAt, Location};
 use crate::operands::{bank_base, locate, read_byte, read_operand, read_xbyte, write_location};
 use crate::sfr::write_sfr;
-use crate::state::{Cpu, Effect, Missing, Pins, Put};
+use crate::state::{Cpu, Effect, NoEffect, Pins, Put};
 use crate::store::CellStore;
 use crate::writing::read_dptr;
 use m51_sfr::addresses::{ACC, P2, SP};
 
 /// An address in external memory: DPTR, or the latch of P2 and a register.
 #[tactic(auto, unfolding(crate::specs::Moves::external_address))]
-fn locate_external<M: CellStore>(store: &M, cpu: &Cpu, external: ExternalAt) -> Result<u16, Missing>
+fn locate_external<M: CellStore>(
+    store: &M,
+    cpu: &Cpu,
+    external: ExternalAt,
+) -> Result<u16, NoEffect>
     ensures value { result ≡ answer (M.cells store.now) (external_address cpu.now external) }
     ensures missing { IfErr result (IsMissing (M.cells store.now)) }
 {
@@ -44,7 +48,7 @@ pub(crate) fn load_external<M: CellStore>(
     store: &M,
     effect: &mut Effect,
     from: ExternalAt,
-) -> Result<(), Missing>
+) -> Result<(), NoEffect>
     ensures value { with_effect result effect.new ≡ answer (M.cells store.now) (external_loaded effect.old from) }
     ensures missing { IfErr result (IsMissing (M.cells store.now)) }
 {
@@ -60,7 +64,7 @@ pub(crate) fn store_external<M: CellStore>(
     store: &M,
     effect: &mut Effect,
     to: ExternalAt,
-) -> Result<(), Missing>
+) -> Result<(), NoEffect>
     ensures value { with_effect result effect.new ≡ answer (M.cells store.now) (external_stored effect.old to) }
     ensures missing { IfErr result (IsMissing (M.cells store.now)) }
 {
@@ -87,7 +91,7 @@ pub(crate) fn push<M: CellStore>(
     ext: &Pins,
     effect: &mut Effect,
     addressing: Addressing,
-) -> Result<(), Missing>
+) -> Result<(), NoEffect>
     ensures value { with_effect result effect.new ≡ answer (M.cells store.now) (pushed ext.now effect.old addressing) }
     ensures missing { IfErr result (IsMissing (M.cells store.now)) }
 {
@@ -104,7 +108,7 @@ pub(crate) fn pop<M: CellStore>(
     store: &M,
     effect: &mut Effect,
     addressing: Addressing,
-) -> Result<(), Missing>
+) -> Result<(), NoEffect>
     ensures value { with_effect result effect.new ≡ answer (M.cells store.now) (popped effect.old addressing) }
     ensures missing { IfErr result (IsMissing (M.cells store.now)) }
 {

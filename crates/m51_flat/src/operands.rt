@@ -7,25 +7,25 @@ ghost use Rattle.m51_flat.specs.States.{byte_seen, bit_seen, xbyte_seen};
 
 use crate::actions::{Addressing, ByteOperand, Location};
 use crate::sfr::write_sfr;
-use crate::state::{Cpu, Effect, Missing, Pins, Put, Seen};
+use crate::state::{Cpu, Effect, NoEffect, Pins, Put, Seen};
 use crate::store::CellStore;
 use m51_sfr::addresses::{ACC, PSW};
 
 /// The value that is seen, or why there is none.
-fn value(seen: Seen) -> Result<u8, Missing>
+fn value(seen: Seen) -> Result<u8, NoEffect>
     ensures { result ≡ value_or_missing seen }
 {
     match seen {
         Seen::Value(value) => Ok(value),
-        Seen::Outside(cell) => Err(Missing::Outside(cell)),
-        Seen::Unset(cell) => Err(Missing::Unset(cell)),
+        Seen::Outside(cell) => Err(NoEffect::Outside(cell)),
+        Seen::Unset(cell) => Err(NoEffect::Unset(cell)),
     }
 }
 
 /// A byte of internal RAM.
 #[tactic(auto, using(crate::proofs::Causes::byte_missing))]
 #[inline(always)]
-pub(crate) fn read_byte<M: CellStore>(store: &M, address: u8) -> Result<u8, Missing>
+pub(crate) fn read_byte<M: CellStore>(store: &M, address: u8) -> Result<u8, NoEffect>
     ensures value { result ≡ value_or_missing (byte_seen (M.cells store.now) address) }
     ensures missing { IfErr result (IsMissing (M.cells store.now)) }
 {
@@ -34,7 +34,7 @@ pub(crate) fn read_byte<M: CellStore>(store: &M, address: u8) -> Result<u8, Miss
 
 /// A byte of external memory.
 #[tactic(auto, using(crate::proofs::Causes::xbyte_missing))]
-pub(crate) fn read_xbyte<M: CellStore>(store: &M, address: u16) -> Result<u8, Missing>
+pub(crate) fn read_xbyte<M: CellStore>(store: &M, address: u16) -> Result<u8, NoEffect>
     ensures value { result ≡ value_or_missing (xbyte_seen (M.cells store.now) address) }
     ensures missing { IfErr result (IsMissing (M.cells store.now)) }
 {
@@ -57,7 +57,7 @@ pub(crate) fn locate<M: CellStore>(
     store: &M,
     cpu: &Cpu,
     addressing: Addressing,
-) -> Result<Location, Missing>
+) -> Result<Location, NoEffect>
     ensures value { result ≡ answer (M.cells store.now) (location_of cpu.now addressing) }
     ensures missing { IfErr result (IsMissing (M.cells store.now)) }
 {
@@ -85,7 +85,7 @@ pub(crate) fn read_latch_at<M: CellStore>(
     store: &M,
     cpu: &Cpu,
     location: Location,
-) -> Result<u8, Missing>
+) -> Result<u8, NoEffect>
     ensures value { result ≡ answer (M.cells store.now) (latch_at cpu.now location) }
     ensures missing { IfErr result (IsMissing (M.cells store.now)) }
 {
@@ -103,7 +103,7 @@ pub(crate) fn find_at<M: CellStore>(
     cpu: &Cpu,
     ext: &Pins,
     location: Location,
-) -> Result<u8, Missing>
+) -> Result<u8, NoEffect>
     ensures value { result ≡ answer (M.cells store.now) (found_at cpu.now ext.now location) }
     ensures missing { IfErr result (IsMissing (M.cells store.now)) }
 {
@@ -121,7 +121,7 @@ pub(crate) fn read_operand<M: CellStore>(
     cpu: &Cpu,
     ext: &Pins,
     operand: ByteOperand,
-) -> Result<u8, Missing>
+) -> Result<u8, NoEffect>
     ensures value { result ≡ answer (M.cells store.now) (operand_value cpu.now ext.now operand) }
     ensures missing { IfErr result (IsMissing (M.cells store.now)) }
 {
@@ -148,7 +148,7 @@ pub(crate) fn write_location(effect: &mut Effect, location: Location, value: u8)
 
 /// A bit of internal RAM by its bit address.
 #[tactic(auto, using(crate::proofs::Causes::bit_missing))]
-pub(crate) fn read_bit<M: CellStore>(store: &M, bit: u8) -> Result<u8, Missing>
+pub(crate) fn read_bit<M: CellStore>(store: &M, bit: u8) -> Result<u8, NoEffect>
     requires { bit < 128 }
     ensures value { result ≡ value_or_missing (bit_seen (M.cells store.now) (256 + bit)) }
     ensures missing { IfErr result (IsMissing (M.cells store.now)) }

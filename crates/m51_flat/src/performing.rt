@@ -12,7 +12,7 @@ use crate::bits::{
 use crate::branches::{compare, count_down, meets};
 use crate::calls::{call, return_from};
 use crate::moves::{load_code, load_external, pop, push, store_external};
-use crate::state::{Effect, Missing, Pins, Transfer};
+use crate::state::{Effect, NoEffect, Pins, Transfer};
 use crate::store::CellStore;
 use crate::writing::{branch_if, jump, read_carry, read_dptr, write_carry, write_dptr, write_pair};
 use m51_alu::{div, mul};
@@ -28,7 +28,7 @@ pub(crate) fn perform<M: CellStore>(
     ext: &Pins,
     effect: &mut Effect,
     action: Action,
-) -> Result<(), Missing>
+) -> Result<(), NoEffect>
     requires { length image.now ≡ 65536 }
     ensures value { with_effect result effect.new
         ≡ answer (M.cells store.now) (plan image.now ext.now effect.old action) }

@@ -34,15 +34,6 @@ pub enum Seen {
     Unset(Cell),
 }
 
-/// Why a read has no value.
-#[derive(Clone, Copy, Debug, PartialEq, Eq)]
-pub(crate) enum Missing {
-    /// This cell is outside the store.
-    Outside(Cell),
-    /// This cell was never written.
-    Unset(Cell),
-}
-
 /// The levels that the outside gives the pins of ports 0 to 3, a bit for each pin.
 ///
 /// Source: family manual.

@@ -135,10 +135,8 @@ climbs_pass edges done u v old new rose high c = record {
   settled = λ h. record {
     higher = λ x y e. elim (Contains-push_cases done (u, v) (x, y) e) [
       | inl before ↦ (c.settled h).higher x y before
-      | inr here ↦
-          let from : u ≡ x = ap (λ (p : ℕ × ℕ). p.0) here in
-          let to : v ≡ y = ap (λ (p : ℕ × ℕ). p.1) here in
-          omega (arith, high, ap (λ w. get_or new w 0) from, ap (λ w. get_or new w 0) to)
+      | inr here ↦ omega (arith, high, ap (λ (p : ℕ × ℕ). get_or new p.0 0) here,
+          ap (λ (p : ℕ × ℕ). get_or new p.1 0) here)
     ];
   };
   not_less = c.not_less;

@@ -13,12 +13,10 @@ use Rattle.m51_graph.proofs.Deciding.{and_decides, any_decides, leads_is, or_dec
 -- the test for an edge is true exactly if the edge exists
 pub edge_tells : (edges : Edges) (u v : ℕ) → Decides (edge_test edges u v) (HasEdge edges u v)
 edge_tells edges u v =
-    let told =
-    any_decides (same_edge (u, v)) (λ (edge : ℕ × ℕ). (u ≡ edge.0) × (v ≡ edge.1))
-    (λ (edge : ℕ × ℕ). and_decides (nat_eq u edge.0) (nat_eq v edge.1) (Decides-eqb u edge.0) (Decides-eqb v edge.1))
-    edges in (
-      λ h. let some = told.0 h in with_ends edges some.0 u v some.2.0 some.2.1 some.1,
-      λ h. told.1 ((u, v), h, (refl, refl)),
+    let tells = any_decides (same_edge (u, v)) (λ (edge : ℕ × ℕ). (u ≡ edge.0) × (v ≡ edge.1))
+    (λ (edge : ℕ × ℕ). and_decides _ _ (Decides-eqb u edge.0) (Decides-eqb v edge.1)) edges in (
+      λ h. let some = tells.0 h in with_ends edges some.0 u v some.2.0 some.2.1 some.1,
+      λ h. tells.1 ((u, v), h, (refl, refl)),
     )
 
 -- one more edge

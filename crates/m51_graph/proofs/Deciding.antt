@@ -1,10 +1,10 @@
 -- The decision whether a walk leads from one unit to another is right.
 use Rattle.m51_graph.proofs.Common.{◌≡◌, ◌⊎◌, inl, inr, ℕ, Bool, ◌&&◌, ◌||◌, List, [], ◌∷◌, refl, sym, ap, subst, arith}
-use Rattle.m51_graph.proofs.Common.{nat_eq, false≢true, Decides-eqb, Any-from_list_any, list_any_at, Decides, Contains}
+use Rattle.m51_graph.proofs.Common.{false≢true, Decides-eqb, Any-from_list_any, list_any_at, Decides, Contains}
 use Rattle.m51_graph.proofs.Common.{list_any, contains_after, first_or_after, none_in_empty, reach_edge, Edges, HasEdge}
 use Rattle.m51_graph.proofs.Common.{IsWalk, Reaches, last_of}
 use Rattle.std.proofs.lemmas.Bool.Decides.{Decides-and, Decides-or, same_from_decides}
-use Rattle.m51_module.proofs.Reach.{reach_on, reach_from}
+use Rattle.m51_module.proofs.Reach.{lead_on, reach_on, reach_from}
 use Rattle.m51_graph.specs.Leading.{leads}
 
 -- a walk, and then a longer one
@@ -75,13 +75,10 @@ join_reach : (edge : ℕ × ℕ) (edges : Edges) (u w : ℕ) → Splits edge edg
 join_reach edge edges u w (inl r) = reach_more edge edges u w r
 join_reach edge edges u w (inr both) =
     let here : HasEdge (edge ∷ edges) edge.0 edge.1 = (0, omega arith, refl) in
-    let before : Reaches (edge ∷ edges) u edge.1 = elim both.0 [
-      | inl same ↦ subst (λ x. Reaches (edge ∷ edges) x edge.1) (sym same)
-          (reach_edge (edge ∷ edges) edge.0 edge.1 here)
-      | inr r ↦ reach_on (edge ∷ edges) u edge.0 edge.1 (reach_more edge edges u edge.0 r) here
-    ] in
+    let before = lead_on (edge ∷ edges) u edge.0 edge.1
+    (elim both.0 [ inl same ↦ inl same | inr r ↦ inr (reach_more edge edges u edge.0 r) ]) here in
     elim both.1 [
-      | inl same ↦ subst (λ x. Reaches (edge ∷ edges) u x) same before
+      | inl same ↦ rw (← same) before
       | inr r ↦ reach_trans (edge ∷ edges) u edge.1 w before (reach_more edge edges edge.1 w r)
     ]
 
@@ -109,11 +106,9 @@ unfolding leads
 leads_tells [] u w = (λ h. absurd (false≢true h), λ r. absurd (none_in_empty (u, r.next) r.walk.0))
 leads_tells (edge ∷ edges) u w =
     let split : Decides (leads (edge ∷ edges) u w) (Splits edge edges u w) =
-    or_decides (leads edges u w)
-    ((nat_eq u edge.0 || leads edges u edge.0) && (nat_eq edge.1 w || leads edges edge.1 w)) (leads_tells edges u w)
-    (and_decides (nat_eq u edge.0 || leads edges u edge.0) (nat_eq edge.1 w || leads edges edge.1 w)
-    (or_decides (nat_eq u edge.0) (leads edges u edge.0) (Decides-eqb u edge.0) (leads_tells edges u edge.0))
-    (or_decides (nat_eq edge.1 w) (leads edges edge.1 w) (Decides-eqb edge.1 w) (leads_tells edges edge.1 w))) in
+    or_decides _ _ (leads_tells edges u w)
+    (and_decides _ _ (or_decides _ _ (Decides-eqb u edge.0) (leads_tells edges u edge.0))
+    (or_decides _ _ (Decides-eqb edge.1 w) (leads_tells edges edge.1 w))) in
     (λ h. join_reach edge edges u w (split.0 h), λ r. split.1 (split_reach edge edges u w r))
 
 -- a value that is true exactly if a walk exists is that of the decision

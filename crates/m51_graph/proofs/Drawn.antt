@@ -23,12 +23,7 @@ pub added_step : (titles : List (List ℕ)) (controls : List (ℕ × Control)) (
     → i < length controls
     → new ≡ with_edges old (added_by titles (get_or controls i d).1)
     → with_added titles (drop (i + 1) controls) new ≡ with_added titles (drop i controls) old
-added_step titles controls i d old new below is =
-    let lines : List (ℕ × Control) → Edges = λ cs. flat_map (λ line. added_by titles line.1) cs in
-    let here = added_by titles (get_or controls i d).1 in
-    ap (λ (edges : Edges). with_edges edges (lines (drop (i + 1) controls))) is
-    ∙ sym (with_append old here (lines (drop (i + 1) controls)))
-    ∙ ap (λ cs. with_edges old (lines cs)) (sym (drop_rest controls i d below))
+added_step titles controls i d old new below is = rw (is, drop_rest controls i d below, with_append) refl
 
 -- one more module
 pub modules_step : (modules : List ModuleParts) (m : ℕ) (edges new : Edges)

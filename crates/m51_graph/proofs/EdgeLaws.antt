@@ -4,17 +4,14 @@ use Rattle.m51_graph.proofs.Common.{◌∙◌, arith, Option, Some, None, filter
 use Rattle.m51_graph.proofs.Common.{ne_eqb, Any-from_list_any, list_any_at, Contains, cons_option, filter_map}
 use Rattle.m51_graph.proofs.Common.{range_with_len, option_map_or, flat_map, slice_get, Control, added_by, cuts}
 use Rattle.m51_graph.proofs.Common.{edge_named, fixup_edge, fixup_edges, has_edge, is_cut, is_edge, module_edges}
-use Rattle.m51_graph.proofs.Common.{with_edge, with_edges, named, unit_titles, Edges, Fixup, ModuleParts, segments_of}
+use Rattle.m51_graph.proofs.Common.{with_edge, with_edges, unit_titles, Edges, Fixup, ModuleParts, segments_of}
 use Rattle.std.proofs.Common.{◌≢◌}
 use Rattle.std.proofs.lemmas.Bool.{eq-eqb, eqb-true}
 use Rattle.std.proofs.lemmas.Option.{same_Some, slice_get_within}
 use Rattle.m51_cells.proofs.Members.{contains_in, flat_in, In, in_cases, in_contains, in_filter, in_flat, in_left}
-use Rattle.m51_cells.proofs.Members.{in_right}
-use Rattle.m51_cells.proofs.Members.{range_in}
-use Rattle.m51_cells.specs.declared.kind.Base.TheVariants.{Segment as InSegment}
+use Rattle.m51_cells.proofs.Members.{in_right, range_in}
 use Rattle.m51_control.specs.declared.control.Control.TheVariants.{Add, Cut}
 use Rattle.m51_graph.specs.Drawing.{edge_between}
-use Rattle.m51_graph.specs.Units.{unit_of}
 use Rattle.m51_graph.specs.Laws.{EdgesAre, IsAdded, IsEdgeCut, RefersTo}
 use Rattle.m51_graph.proofs.Closed.{edge_tells}
 
@@ -120,11 +117,8 @@ module _ (modules : List ModuleParts) (u v : ℕ) where
   refers_at number (Some parts) is h =
       let made = made_in (fixup_edge modules number) parts.fixups (u, v) h in
       let fixup : Fixup = made.0 in
-      let ends =
-      between_ends (unit_of modules number (InSegment fixup.segment)) (unit_of modules number fixup.target) u v made.2
-      in
-      let r : RefersTo modules u v =
-      record {
+      let ends = between_ends _ _ u v made.2 in
+      (record {
         number = number;
         parts = parts;
         is = is;
@@ -132,8 +126,7 @@ module _ (modules : List ModuleParts) (u v : ℕ) where
         there = contains_in parts.fixups fixup made.1;
         from = ends.from;
         to = ends.to;
-      } in
-      (r, ends.differ)
+      }, ends.differ)
 
   made_from : In (u, v) (fixup_edges modules) → RefersTo modules u v × (u ≢ v)
   made_from h = elim (all_drawn_in [] (flat_map (module_edges modules) numbers) (u, v) h) [
@@ -147,8 +140,7 @@ module _ (modules : List ModuleParts) (u v : ℕ) where
       let below : r.number < length modules = slice_get_within modules r.number r.parts r.is in
       let made =
       in_made (fixup_edge modules r.number) r.parts.fixups (u, v) r.fixup (in_contains r.parts.fixups r.fixup r.there)
-      (ends_between (unit_of modules r.number (InSegment r.fixup.segment))
-      (unit_of modules r.number r.fixup.target) u v r.from r.to ne) in
+      (ends_between _ _ u v r.from r.to ne) in
       let part : In (u, v) (module_edges modules r.number) = rw r.is made in
       in_all_drawn [] (flat_map (module_edges modules) numbers) (u, v)
       (inr (flat_in (module_edges modules) numbers r.number (u, v)
@@ -160,9 +152,8 @@ module _ (titles : List (List ℕ)) (u v : ℕ) (controls : List (ℕ × Control
       → In (u, v) (added_by titles control) → IsAdded titles controls u v × (u ≢ v)
   adds line there (Add from names) is h =
       let made = made_in (edge_named titles from) names (u, v) h in
-      let ends = between_ends (named titles from) (named titles made.0) u v made.2 in
-      let a : IsAdded titles controls u v =
-      record {
+      let ends = between_ends _ _ u v made.2 in
+      (record {
         line = line;
         there = there;
         first = from;
@@ -172,8 +163,7 @@ module _ (titles : List (List ℕ)) (u v : ℕ) (controls : List (ℕ × Control
         other = made.0;
         listed = contains_in names made.0 made.1;
         to = ends.to;
-      } in
-      (a, ends.differ)
+      }, ends.differ)
   adds line there control is h = absurd h
 
   added_from : In (u, v) (flat_map (λ line. added_by titles line.1) controls) → IsAdded titles controls u v × (u ≢ v)
@@ -185,7 +175,7 @@ module _ (titles : List (List ℕ)) (u v : ℕ) (controls : List (ℕ × Control
   added a ne =
       let made =
       in_made (edge_named titles a.first) a.others (u, v) a.other (in_contains a.others a.other a.listed)
-      (ends_between (named titles a.first) (named titles a.other) u v a.from a.to ne) in
+      (ends_between _ _ u v a.from a.to ne) in
       let line : In (u, v) (added_by titles a.line.1) = rw a.is made in
       flat_in (λ (line : ℕ × Control). added_by titles line.1) controls a.line (u, v)
       (in_contains controls a.line a.there) line
@@ -204,8 +194,7 @@ module _ (titles : List (List ℕ)) (u v : ℕ) (controls : List (ℕ × Control
   cuts_by line there (Cut from names) is h =
       let any = Any-from_list_any (λ name. is_edge (u, v) (edge_named titles from name)) names h in
       let name : List ℕ = any.1 in
-      let ends =
-      between_ends (named titles from) (named titles name) u v (is_that (edge_named titles from name) any.4) in
+      let ends = between_ends _ _ u v (is_that _ any.4) in
       record {
         line = line;
         there = there;
@@ -228,8 +217,7 @@ module _ (titles : List (List ℕ)) (u v : ℕ) (controls : List (ℕ × Control
   cut : IsEdgeCut titles controls u v → u ≢ v → is_cut titles controls (u, v) ≡ true
   cut k ne =
       let passes : is_edge (u, v) (edge_named titles k.first k.other) ≡ true =
-      that_is (edge_named titles k.first k.other)
-      (ends_between (named titles k.first) (named titles k.other) u v k.from k.to ne) in
+      that_is _ (ends_between _ _ u v k.from k.to ne) in
       let inner : cuts titles (u, v) (Cut k.first k.others) ≡ true =
       list_any_at (λ name. is_edge (u, v) (edge_named titles k.first name)) k.others k.listed.0 k.other k.listed.1
       (rw k.listed.2 passes) in

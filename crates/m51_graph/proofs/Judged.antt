@@ -1,14 +1,14 @@
 -- What the rules on edges and roots make sure of.
 use Rattle.m51_graph.proofs.Common.{◌≡◌, inl, inr, ℕ, zero, suc, ◌+◌, ◌-◌, ◌<◌, true, false, Bool, nat_eq, List, []}
-use Rattle.m51_graph.proofs.Common.{◌∷◌, length, drop, get_or, Option, Some, None, refl, sym, ap, ◌∙◌, arith, Contains}
-use Rattle.m51_graph.proofs.Common.{list_any, option_map_or, option_or, cases_Bool, false≢true, Decides-eqb}
-use Rattle.m51_graph.proofs.Common.{list_any_at, vectors, first_or_after, none_in_empty, GraphParts, AreOfUnits}
-use Rattle.m51_graph.proofs.Common.{first_under_two, cyclic_from, lies_under}
+use Rattle.m51_graph.proofs.Common.{◌∷◌, length, drop, get_or, Option, Some, None, refl, sym, ap, ◌∙◌, arith, list_any}
+use Rattle.m51_graph.proofs.Common.{option_map_or, option_or, cases_Bool, false≢true, Decides-eqb, list_any_at, vectors}
+use Rattle.m51_graph.proofs.Common.{GraphParts, AreOfUnits, first_under_two, cyclic_from, lies_under}
 use Rattle.std.proofs.Common.{Ok}
 use Rattle.std.proofs.lemmas.Option.{slice_get_within, get_or_from_slice_get}
 use Rattle.m51_cells.specs.Outcome.{RefusesWith}
 use Rattle.m51_module.specs.declared.linked.Refusal.{Refusal}
 use Rattle.m51_cells.proofs.ListsAndOptions.{filter_keeps}
+use Rattle.m51_cells.proofs.Members.{In, in_contains}
 use Rattle.m51_module.proofs.Units.{same_or_not}
 use Rattle.m51_graph.specs.Graph.{IsGraph, IsOwn, UnitLiesUnder}
 use Rattle.m51_graph.specs.Graphs.{judged_by, passed, under_two, unit_under_two, has_overlaid, roots_above}
@@ -86,15 +86,11 @@ none_under_two reach g unit (title ∷ more) h (suc k) below =
     rw next at (none_under_two reach g (unit + 1) more (none_of_both _ _ h).1 k (omega (arith, below)))
 
 -- a unit without that refusal lies under one root at most
-at_most_one : (title xs : List ℕ) (x y : ℕ) → under_two title xs ≡ None → Contains xs x → Contains xs y → x ≡ y
-at_most_one title [] x y h in_x in_y = absurd (none_in_empty x in_x)
-at_most_one title (a ∷ []) x y h in_x in_y = elim (first_or_after a [] x in_x) [
-  | inl here ↦ elim (first_or_after a [] y in_y) [
-    | inl there ↦ sym here ∙ there
-    | inr behind ↦ absurd (none_in_empty y behind)
-  ]
-  | inr behind ↦ absurd (none_in_empty x behind)
-]
+at_most_one : (title xs : List ℕ) (x y : ℕ) → under_two title xs ≡ None → In x xs → In y xs → x ≡ y
+at_most_one title [] x y h in_x in_y = absurd in_x
+at_most_one title (a ∷ []) x y h (inl here) (inl there) = sym here ∙ there
+at_most_one title (a ∷ []) x y h (inl here) (inr none) = absurd none
+at_most_one title (a ∷ []) x y h (inr none) in_y = absurd none
 at_most_one title (a ∷ b ∷ more) x y h in_x in_y = absurd (cc h)
 
 -- an own unit has an overlaid segment
@@ -113,9 +109,9 @@ module _ (titles : List (List ℕ)) (g : GraphParts) (units : AreOfUnits g) (sam
       let below : u < length titles = omega (arith, units.own u s own, same) in
       let same_unit : 0 + u ≡ u = omega arith in
       let under = rw (same_unit, own_has_overlaid g u s own) at (none_under_two reach g 0 titles single u below) in
-      let among : (v : ℕ) → UnitLiesUnder g v u → Contains (roots_above reach g.roots u) v =
-      λ v h. filter_keeps (λ vector. lies_under reach g.roots vector u) vectors v (units.roots v h.root h.is_root).0
-      ((above_tells g v u).1 h) in
+      let among : (v : ℕ) → UnitLiesUnder g v u → In v (roots_above reach g.roots u) =
+      λ v h. in_contains _ v (filter_keeps (λ vector. lies_under reach g.roots vector u) vectors v
+      (units.roots v h.root h.is_root).0 ((above_tells g v u).1 h)) in
       at_most_one title (roots_above reach g.roots u) x y under (among x above_x) (among y above_y)
 
   pub graph_judged : cyclic_from (leads g.edges) 0 titles ≡ [] → first_under_two (leads g.edges) g.roots g.own 0 titles

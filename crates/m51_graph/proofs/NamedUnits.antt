@@ -2,8 +2,7 @@
 use Rattle.m51_graph.proofs.Common.{◌≡◌, inl, inr, ℕ, zero, suc, ◌+◌, ◌<◌, ◌≤◌, Bool, cond, List, [], ◌∷◌, ◌++◌, length}
 use Rattle.m51_graph.proofs.Common.{take, get_or, refl, sym, ap, ◌∙◌, arith, Option, Some, None, nat_eq, cases_Bool}
 use Rattle.m51_graph.proofs.Common.{ne_eqb, take_more, option_or, bytes_eq, named, units_from, units_of, JoinedSegment}
-use Rattle.std.proofs.Common.{position}
-use Rattle.std.proofs.Common.{add-zero, eq-eqb}
+use Rattle.std.proofs.Common.{position, add-zero, eq-eqb}
 use Rattle.std.specs.Prelude.{slice_index_or, unwrap_or}
 use Rattle.std.specs.List.{position_from}
 use Rattle.std.proofs.lemmas.Iterator.Adapters.{position_from-zero}
@@ -23,12 +22,9 @@ from_push p n (y ∷ xs) x =
 position_more : {X : Type 0} (p : X → Bool) (xs : List X) (i : ℕ) (d : X) → i < length xs
     → position p (take (i + 1) xs) ≡ option_or (position p (take i xs)) (cond (p (get_or xs i d)) (Some i) None)
 position_more p xs i d below =
-    let x = get_or xs i d in
-    position_from-zero p (take (i + 1) xs)
-    ∙ ap (position_from p 0) (take_more xs i d below) ∙ from_push p 0 (take i xs) x
-    ∙ ap (λ n. option_or (position_from p 0 (take i xs)) (cond (p x) (Some n) None))
-    (omega (arith, length-take-le i xs (omega (arith, below))))
-    ∙ ap (λ o. option_or o (cond (p x) (Some i) None)) (sym (position_from-zero p (take i xs)))
+    let same : 0 + length (take i xs) ≡ i = omega (arith, length-take-le i xs (omega (arith, below))) in
+    rw (position_from-zero p (take (i + 1) xs), position_from-zero p (take i xs), take_more xs i d below,
+    from_push p 0 (take i xs) (get_or xs i d), same) refl
 
 or_same : (o : Option ℕ) (i : ℕ) → (Some (unwrap_or o i) ≡ option_or o (Some i)) × (o ≡ option_or o None)
 or_same o i = grind arith

@@ -5,20 +5,13 @@ use Rattle.m51_graph.proofs.Common.{named, JoinedSegment}
 use Rattle.std.specs.Prelude.{is_none, option_map}
 use Rattle.m51_control.specs.Classes.{class_of, same_class}
 use Rattle.m51_control.specs.declared.control.Class.{Class}
-use Rattle.m51_control.specs.declared.control.Class.TheVariants.{Bitaddressable, Bits, Direct, Idata, Xdata, Code}
 use Rattle.m51_graph.specs.Lines.{may_stand, stands}
 use Rattle.m51_graph.specs.Locals.{own_units}
 use Rattle.m51_graph.specs.Ordering.{adds_order, class_number, order_has, orders_have, same_key}
 
 -- two classes are the same exactly if their numbers are
 same_number : (one two : Class) → nat_eq (class_number two) (class_number one) ≡ same_class one two
-same_number Bitaddressable Bitaddressable = refl
-same_number Bits Bits = refl
-same_number Direct Direct = refl
-same_number Idata Idata = refl
-same_number Xdata Xdata = refl
-same_number Code Code = refl
-same_number one two = refl
+same_number one two = grind arith
 
 -- a segment adds the class and the name with which it is allowed in an order
 adds_is : (own : Option ℕ) (j : JoinedSegment) (class : Class) (name : List ℕ)
@@ -41,14 +34,9 @@ have_is titles controls [] class name = refl
 have_is titles controls (j ∷ more) class name =
     rw (adds_is (overlaid_by titles controls j) j class name, have_is titles controls more class name)
 
-same_orders : (p q : Class → List ℕ → Bool) → ((class : Class) (name : List ℕ) → p class name ≡ q class name) → p ≡ q
-same_orders p q h i = λ class name. h class name i
-
 pub stands_is : (titles : List (List ℕ)) (controls : List (ℕ × Control)) (segments : List JoinedSegment)
     → orders_have (own_units titles controls segments) segments ≡ stands titles segments controls
-stands_is titles controls segments =
-    same_orders (orders_have (own_units titles controls segments) segments) (stands titles segments controls)
-    (λ class name. have_is titles controls segments class name)
+stands_is titles controls segments i = λ class name. have_is titles controls segments class name i
 
 -- the set has what the segments before the next one add
 pub record AreOrders (own : List (Option ℕ)) (segments : List JoinedSegment) (i : ℕ)

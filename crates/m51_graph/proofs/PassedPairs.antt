@@ -3,7 +3,7 @@ use Rattle.m51_graph.proofs.Common.{◌≡◌, ℕ, zero, suc, ◌+◌, ◌<◌,
 use Rattle.m51_graph.proofs.Common.{ap, ◌∙◌, arith, list_any, range_with_len, GraphParts, Tables, edge_test, flipped}
 use Rattle.m51_graph.proofs.Common.{pairs}
 use Rattle.std.proofs.lemmas.List.Folds.{list_any-append}
-use Rattle.std.proofs.Math.Bool.{and_comm, or-false}
+use Rattle.std.proofs.Math.Bool.{or-false}
 use Rattle.m51_cells.proofs.Small.{range_suc}
 use Rattle.m51_relations.specs.declared.owner_pairs.Owned.{Owned}
 use Rattle.m51_graph.specs.Kept.{AreTables}
@@ -47,14 +47,10 @@ module _ (g : GraphParts) (t : Tables) (are : AreTables g t) where
 
   second_is : (u v : ℕ) → u < count → v < count → pairs t.owners.second u v ≡ owner_related t (Owner v true) u
   second_is u v below below' =
-      let p : ℕ → Bool = λ k. pairs t.edges k v && are_related t k u in
-      are.owners.second u v below
-      ∙ passed_is (pairs t.owners.plain) (edge_test g.edges) (pairs t.owners.plain) (are_related t v u) p u v count
-      (plain_is u v below below')
-      (λ k inside. ap (λ b. b && edge_test g.edges k v) (plain_is u k below inside)
-      ∙ ap (λ b. are_related t k u && b) (edge_is k v) ∙ and_comm (are_related t k u) (pairs t.edges k v))
-      count (omega arith)
-      ∙ ap (λ n. are_related t v u || list_any p (range_with_len 0 n)) (sym are.edge_count)
+      rw are.edge_count (are.owners.second u v below
+      ∙ passed_is _ _ _ (are_related t v u) (λ k. pairs t.edges k v && are_related t k u) u v count
+      (plain_is u v below below') (λ k inside. grind (arith, plain_is u k below inside, edge_is k v))
+      count (omega arith))
 
   -- an owner of the first segment, which is an argument segment, and then what is known of the second
   any_owner : (has : ℕ → ℕ → Bool) (u v : ℕ) (argument : Bool) → u < count
@@ -64,8 +60,7 @@ module _ (g : GraphParts) (t : Tables) (are : AreTables g t) where
   any_owner has u v argument below is =
       let p : ℕ → Bool = λ k. pairs t.edges k u && owner_related t (Owner v argument) k in
       passed_is (flipped (edge_test g.edges)) has has (owner_related t (Owner v argument) u) p u v count (is u below)
-      (λ k inside. ap (λ b. b && has k v) (edge_is k u) ∙ ap (λ b. pairs t.edges k u && b) (is k inside))
-      count (omega arith)
+      (λ k inside. grind (arith, edge_is k u, is k inside)) count (omega arith)
       ∙ ap (λ n. owner_related t (Owner v argument) u || list_any p (range_with_len 0 n)) (sym are.edge_count)
 
   pair_is : (u v : ℕ) (a b : Bool) → u < count → v < count → owner_pair t.owners a b u v

@@ -5,8 +5,7 @@ use Rattle.m51_graph.proofs.Common.{cases_eq, Decides-at, Decides-eqb, Decides, 
 use Rattle.m51_graph.proofs.Common.{slice_get, edge_test, AreOfUnits, lies_under, GraphParts, Tables, vectors, HasEdge}
 use Rattle.m51_graph.proofs.Common.{IsWalk, Reaches, last_of, pairs}
 use Rattle.std.proofs.Common.{◌≢◌}
-use Rattle.std.proofs.lemmas.Bool.{or_cases, or_left}
-use Rattle.std.proofs.lemmas.Bool.{or_right}
+use Rattle.std.proofs.lemmas.Bool.{or_cases, or_left, or_right}
 use Rattle.std.proofs.lemmas.List.FromFn.{get_or-map-range_with_len}
 use Rattle.std.proofs.lemmas.Bool.Decides.{Decides-not, same_from_decides}
 use Rattle.m51_cells.proofs.Members.{contains_in, In, in_contains, range_in}
@@ -15,8 +14,7 @@ use Rattle.m51_module.specs.Conflict.{FirstPlain, SecondPlain, Owners}
 use Rattle.m51_module.proofs.Conflicts.{related_back}
 use Rattle.m51_module.proofs.Reach.{under_on}
 use Rattle.m51_relations.specs.declared.owner_pairs.Owned.{Owned}
-use Rattle.m51_graph.specs.Graph.{AreBits, IsGraph, Owns, SegmentsConflict}
-use Rattle.m51_graph.specs.Graph.{UnitLiesUnder, joined_graph}
+use Rattle.m51_graph.specs.Graph.{AreBits, IsGraph, Owns, SegmentsConflict, UnitLiesUnder, joined_graph}
 use Rattle.m51_graph.specs.Kept.{IsKeptGraph}
 use Rattle.m51_graph.specs.Leading.{leads}
 use Rattle.m51_relations.specs.OwnerPairs.{are_apart}
@@ -29,24 +27,15 @@ module _ (g : GraphParts) where
   abbrev above : ℕ → ℕ → Bool
   above unit vector = lies_under (leads g.edges) g.roots vector unit
 
-  abbrev test : ℕ → ℕ → ℕ × ℕ → Bool
-  test vector unit root = nat_eq root.0 vector && (nat_eq root.1 unit || leads g.edges root.1 unit)
-
-  test_tells : (vector unit : ℕ) (root : ℕ × ℕ)
-      → Decides (test vector unit root) ((root.0 ≡ vector) × ((root.1 ≡ unit) ⊎ Reaches g.edges root.1 unit))
-  test_tells vector unit root =
-      and_decides (nat_eq root.0 vector) (nat_eq root.1 unit || leads g.edges root.1 unit) (Decides-eqb root.0 vector)
-      (or_decides (nat_eq root.1 unit) (leads g.edges root.1 unit) (Decides-eqb root.1 unit)
-      (leads_tells g.edges root.1 unit))
-
   -- the decision is true exactly if the unit lies under a root at the vector
   pub above_tells : (vector unit : ℕ)
       → Decides (lies_under (leads g.edges) g.roots vector unit) (UnitLiesUnder g vector unit)
   above_tells vector unit =
       let told =
-      any_decides (test vector unit)
+      any_decides (λ (root : ℕ × ℕ). nat_eq root.0 vector && (nat_eq root.1 unit || leads g.edges root.1 unit))
       (λ (root : ℕ × ℕ). (root.0 ≡ vector) × ((root.1 ≡ unit) ⊎ Reaches g.edges root.1 unit))
-      (test_tells vector unit) g.roots in (
+      (λ root. and_decides _ _ (Decides-eqb root.0 vector)
+      (or_decides _ _ (Decides-eqb root.1 unit) (leads_tells g.edges root.1 unit))) g.roots in (
         λ h. let some = told.0 h in
             record {
               root = some.0.1;
@@ -111,8 +100,7 @@ module _ (g : GraphParts) (units : AreOfUnits g) where
 
   splits_tell : (one two : ℕ) → Decides (are_apart (byte one) (byte two)) (Splits one two)
   splits_tell one two =
-      or_decides (nat_eq (byte two) 0) (not (nat_eq (byte one) (byte two))) (Decides-eqb (byte two) 0)
-      (Decides-not (nat_eq (byte one) (byte two)) (Decides-eqb (byte one) (byte two)))
+      or_decides _ _ (Decides-eqb (byte two) 0) (Decides-not _ (Decides-eqb (byte one) (byte two)))
 
   from_splits : (one two : ℕ) → HasOne one → HasOne two → Splits one two → Related one two
   from_splits one two only only' (inl zero) = SecondUnderNone (none_under two zero)
@@ -155,11 +143,8 @@ module _ (g : GraphParts) (units : AreOfUnits g) where
   both_tell : (one two : ℕ) → Decides (related one two)
       ((((one ≡ two) ⊎ Reaches g.edges one two) ⊎ Reaches g.edges two one) ⊎ Splits one two)
   both_tell one two =
-      or_decides (nat_eq one two || leads g.edges one two || leads g.edges two one) (are_apart (byte one) (byte two))
-      (or_decides (nat_eq one two || leads g.edges one two) (leads g.edges two one)
-      (or_decides (nat_eq one two) (leads g.edges one two) (Decides-eqb one two) (leads_tells g.edges one two))
-      (leads_tells g.edges two one))
-      (splits_tell one two)
+      or_decides _ _ (or_decides _ _ (or_decides _ _ (Decides-eqb one two) (leads_tells g.edges one two))
+      (leads_tells g.edges two one)) (splits_tell one two)
 
   -- the decision is right for units that each lie under at most one root
   pub related_tells : (one two : ℕ) → HasOne one → HasOne two → Decides (related one two) (Related one two)
@@ -196,7 +181,7 @@ owner_under g segment unit vector owns h = elim owns.owner [
 
 -- what a unit reaches is a unit
 pub reach_within : (g : GraphParts) → IsGraph g → (u v : ℕ) → Reaches g.edges u v → v < length g.units
-reach_within g is u v r = subst (λ w. w < length g.units) r.ends (walk_within g is.units u r.next r.more r.walk)
+reach_within g is u v r = rw r.ends at (walk_within g is.units u r.next r.more r.walk)
 
 -- the decision over the tables of a graph
 module _ (g : GraphParts) (t : Tables) (kept : IsKeptGraph g t) where
@@ -206,8 +191,8 @@ module _ (g : GraphParts) (t : Tables) (kept : IsKeptGraph g t) where
   pub under_is : (unit : ℕ) → unit < length g.units → get_or t.under.items unit 0
       ≡ root_byte (leads g.edges) g.roots unit
   under_is unit below =
-      ap (λ (bytes : List ℕ). get_or bytes unit 0) kept.tables.under
-      ∙ get_or-map-range_with_len (root_byte (leads g.edges) g.roots) 0 (length g.units) unit unit 0 below (omega arith)
+      rw kept.tables.under
+      (get_or-map-range_with_len (root_byte (leads g.edges) g.roots) 0 (length g.units) unit unit 0 below (omega arith))
 
   abbrev Near : ℕ → ℕ → Type 0
   Near one two = AreRelated (joined_graph g) one two
@@ -251,12 +236,12 @@ module _ (g : GraphParts) (t : Tables) (kept : IsKeptGraph g t) where
         (λ h. h, λ h. h)) (range_with_len 0 t.edges.count)
 
     found : some_passes s p ≡ true → SomeOwner segment Holds
-    found h = elim (or_cases (p s.own) (s.argument && list_any (calls s p) (range_with_len 0 t.edges.count)) h) [
+    found h = elim (or_cases (p s.own) _ h) [
       | inl here ↦
           let owns : Owns g s.own segment = record { own = s.own; own_is = is.own; owner = inl refl } in
           record { unit = s.own; owns = owns; holds = (tells s.own owns).0 here }
       | inr rest ↦
-          let both = and_parts s.argument (list_any (calls s p) (range_with_len 0 t.edges.count)) rest in
+          let both = and_parts s.argument _ rest in
           let some = calls_tell.0 both.1 in
           let argument : slice_get g.arguments segment ≡ Some true = is.argument ∙ ap (λ b. Some b) both.0 in
           let owns : Owns g some.0 segment =
@@ -275,8 +260,7 @@ module _ (g : GraphParts) (t : Tables) (kept : IsKeptGraph g t) where
               let e : HasEdge g.edges u s.own = subst (λ w. HasEdge g.edges u w) own by.1 in
               let marked : s.argument ≡ true = cc (by.0, is.argument) in
               let below = (units.edges.within u s.own e).0 in
-              let listed : Contains (range_with_len 0 t.edges.count) u =
-              contains_in (range_with_len 0 t.edges.count) u
+              let listed = contains_in _ u
               (range_in t.edges.count 0 u (omega arith) (omega (arith, below, kept.tables.edge_count))) in
               rw (marked, calls_tell.1 (u, listed, (e, holds))) (or_right (p s.own) true refl)
         ]

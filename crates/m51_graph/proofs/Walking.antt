@@ -1,56 +1,25 @@
 -- The level of a unit is decided along the list of edges.
-use Rattle.m51_graph.proofs.Common.{◌≡◌, inl, inr, ℕ, zero, suc, ◌+◌, ◌-◌, ◌<◌, true, false, Bool, not, ◌&&◌, nat_eq}
-use Rattle.m51_graph.proofs.Common.{List, [], ◌∷◌, length, Option, Some, refl, sym, ap, ◌∙◌, arith, add-one, Decides}
-use Rattle.m51_graph.proofs.Common.{range_with_len, cases_Bool, Decides-eqb, Any-from_list_any, list_any_at, Edges}
-use Rattle.m51_graph.proofs.Common.{HasEdge, IsWalk, last_of, IsLevel}
-use Rattle.std.proofs.Common.{unwrap_or}
+use Rattle.m51_graph.proofs.Common.{Option, true, false, sym, ap, ◌≡◌, inl, inr, ℕ, zero, suc, ◌+◌, ◌-◌, ◌<◌, Bool, not}
+use Rattle.m51_graph.proofs.Common.{◌&&◌, nat_eq, List, [], ◌∷◌, length, Some, refl, arith, add-one, Decides}
+use Rattle.m51_graph.proofs.Common.{range_with_len, cases_Bool, Decides-eqb, list_any_at, Edges, HasEdge, IsWalk}
+use Rattle.m51_graph.proofs.Common.{last_of, IsLevel}
+use Rattle.std.proofs.Common.{unwrap_or, eq-eqb}
 use Rattle.std.specs.Prelude.{find}
 use Rattle.m51_graph.specs.Levels.{EndsWalk, ends_walk, level_of}
 use Rattle.m51_graph.proofs.Climbing.{ends_on}
-use Rattle.m51_graph.proofs.Deciding.{and_decides, with_ends}
+use Rattle.m51_graph.proofs.Deciding.{and_decides, any_decides}
 
--- the last edge of a walk, and what comes before it
-record IsLast (edges : Edges) (first unit count : ℕ) : Type 0 where
-  before : List ℕ
-  walk : IsWalk edges first before
-  count_is : length before ≡ count
-  edge : HasEdge edges (last_of first before) unit
-
-last_edge : (edges : Edges) (first next : ℕ) (more : List ℕ) → IsWalk edges first (next ∷ more)
-    → IsLast edges first (last_of next more) (length more)
-last_edge edges first next [] walk = record { before = []; walk = tt; count_is = refl; edge = walk.0 }
-last_edge edges first next (v ∷ more) walk =
-    let rest = last_edge edges next v more walk.1 in
-    record {
-      before = next ∷ rest.before;
-      walk = (walk.0, rest.walk);
-      count_is = omega (arith, rest.count_is);
-      edge =
-          rest.edge;
-    }
-
-record LeadsIn (edges : Edges) (unit count : ℕ) : Type 0 where
-  from : ℕ
-  walk : EndsWalk edges from count
-  edge : HasEdge edges from unit
-
-last_of_walk : (edges : Edges) (unit count first : ℕ) (more : List ℕ) → IsWalk edges first more → last_of first more
-    ≡ unit → length more ≡ suc count → LeadsIn edges unit count
-last_of_walk edges unit count first [] walk ends count_is = absurd (omega (arith, count_is))
-last_of_walk edges unit count first (next ∷ more) walk ends count_is =
-    let last = last_edge edges first next more walk in
-    record {
-      from = last_of first last.before;
-      walk = record {
-        first = first;
-        more = last.before;
-        walk = last.walk;
-        ends = refl;
-        count_is =
-            omega (arith, last.count_is, count_is);
-      };
-      edge = rw ends at last.edge;
-    }
+-- along a walk the decision stays true of as many more edges
+along : (edges : Edges) (done unit count end : ℕ) (more : List ℕ) → ends_walk edges done unit ≡ true
+    → IsWalk edges unit more → count ≡ length more + done → last_of unit more ≡ end → ends_walk edges count end ≡ true
+unfolding ends_walk
+along edges done unit count end [] passes walk is ends =
+    let same : count ≡ done = omega (arith, is) in rw (← ends, same) passes
+along edges done unit count end (next ∷ more) passes walk is ends =
+    let e : HasEdge edges unit next = walk.0 in
+    along edges (suc done) next count end more
+    (list_any_at (λ (edge : ℕ × ℕ). nat_eq edge.1 next && ends_walk edges done edge.0) edges e.0 (unit, next) e.1
+    (rw (e.2, eq-eqb next next refl) passes)) walk.1 (omega (arith, is)) ends
 
 -- the decision: by its last edge
 pub ends_walk_tells : (edges : Edges) (count unit : ℕ)
@@ -58,41 +27,27 @@ pub ends_walk_tells : (edges : Edges) (count unit : ℕ)
 unfolding ends_walk
 ends_walk_tells edges zero unit =
     (λ _. record { first = unit; more = []; walk = tt; ends = refl; count_is = refl }, λ _. refl)
-ends_walk_tells edges (suc count) unit =
-    let test : ℕ × ℕ → Bool = λ edge. nat_eq edge.1 unit && ends_walk edges count edge.0 in
-    let tells : (edge : ℕ × ℕ) → Decides (test edge) ((edge.1 ≡ unit) × EndsWalk edges edge.0 count) =
-    λ edge. and_decides (nat_eq edge.1 unit) (ends_walk edges count edge.0) (Decides-eqb edge.1 unit)
-    (ends_walk_tells edges count edge.0) in (
-      λ h.
-          let any = Any-from_list_any test edges h in
-          let edge : ℕ × ℕ = any.1 in
-          let told = (tells edge).0 any.4 in
-          let e : HasEdge edges edge.0 unit = with_ends edges edge edge.0 unit refl (sym told.0) (any.0, any.2, any.3)
-          in
-          rw add-one at (ends_on edges edge.0 unit count told.1 e),
-      λ h.
-          let last = last_of_walk edges unit count h.first h.more h.walk h.ends h.count_is in
-          let e : HasEdge edges last.from unit = last.edge in
-          list_any_at test edges e.0 (last.from, unit) e.1
-          (ap test e.2 ∙ (tells (last.from, unit)).1 (refl, last.walk)),
-    )
+ends_walk_tells edges (suc count) unit = (
+  λ h.
+      let some =
+      (any_decides (λ (edge : ℕ × ℕ). nat_eq edge.1 unit && ends_walk edges count edge.0)
+      (λ (edge : ℕ × ℕ). (edge.1 ≡ unit) × EndsWalk edges edge.0 count)
+      (λ edge. and_decides _ _ (Decides-eqb edge.1 unit) (ends_walk_tells edges count edge.0)) edges).0 h in
+      rw (add-one, some.2.0) at (ends_on edges some.0.0 some.0.1 count some.2.1 some.1),
+  λ h. along edges 0 h.first (suc count) unit h.more refl h.walk (omega (arith, h.count_is)) h.ends,
+)
 
--- without its first edge
-without_first : (edges : Edges) (unit count first : ℕ) (more : List ℕ) → IsWalk edges first more → last_of first more
-    ≡ unit → length more ≡ suc count → EndsWalk edges unit count
-without_first edges unit count first [] walk ends count_is = absurd (omega (arith, count_is))
-without_first edges unit count first (next ∷ more) walk ends count_is =
-    record { first = next; more = more; walk = walk.1; ends = ends; count_is = omega (arith, count_is) }
+-- of fewer edges: without its first ones
+fewer_of : (edges : Edges) (count less first : ℕ) (more : List ℕ) → IsWalk edges first more
+    → length more ≡ less + count → EndsWalk edges (last_of first more) count
+fewer_of edges count zero first more walk is =
+    record { first = first; more = more; walk = walk; ends = refl; count_is = omega (arith, is) }
+fewer_of edges count (suc less) first [] walk is = absurd (omega (arith, is))
+fewer_of edges count (suc less) first (next ∷ more) walk is =
+    fewer_of edges count less next more walk.1 (omega (arith, is))
 
-shorter : (edges : Edges) (unit count : ℕ) → EndsWalk edges unit (suc count) → EndsWalk edges unit count
-shorter edges unit count h = without_first edges unit count h.first h.more h.walk h.ends h.count_is
-
--- of fewer edges
 pub fewer : (edges : Edges) (unit count less : ℕ) → EndsWalk edges unit (less + count) → EndsWalk edges unit count
-fewer edges unit count zero h = let same : 0 + count ≡ count = omega arith in rw same at h
-fewer edges unit count (suc less) h =
-    let next : suc less + count ≡ suc (less + count) = omega arith in
-    fewer edges unit count less (shorter edges unit (less + count) (rw next at h))
+fewer edges unit count less h = rw h.ends at (fewer_of edges count less h.first h.more h.walk h.count_is)
 
 find_from : (p : ℕ → Bool) (n from count : ℕ) → count < n → p (from + count) ≡ true
     → ((k : ℕ) → k < count → p (from + k) ≡ false)
@@ -102,11 +57,9 @@ find_from p (suc n) from zero below passes fails =
     let here : from + 0 ≡ from = omega arith in rw (here, rw here at passes) refl
 find_from p (suc n) from (suc count) below passes fails =
     let here : from + 0 ≡ from = omega arith in
-    let next : from + suc count ≡ from + 1 + count = omega arith in
-    rw (rw here at (fails 0 (omega arith)), next) (find_from p n (from + 1) count (omega (arith, below))
-    (rw next at passes)
-    (λ k less. let shifted : from + 1 + k ≡ from + suc k = omega arith in
-    rw shifted (fails (suc k) (omega (arith, less)))))
+    let next : (k : ℕ) → from + 1 + k ≡ from + suc k = λ k. omega arith in
+    rw (rw here at (fails 0 (omega arith)), ← next count) (find_from p n (from + 1) count (omega (arith, below))
+    (rw (next count) passes) (λ k less. rw (next k) (fails (suc k) (omega (arith, less)))))
 
 -- the first below n that passes
 pub find_least : (p : ℕ → Bool) (n count : ℕ) → count < n → p count ≡ true → ((k : ℕ) → k < count → p k ≡ false)

@@ -19,8 +19,7 @@ use Rattle.m51_cells.specs.declared.kind.Base.TheVariants.{Segment as InSegment}
 use Rattle.m51_cells.specs.Kinds.{is_absolute}
 use Rattle.m51_control.specs.declared.control.Control.TheVariants.{Add}
 use Rattle.m51_resolve.specs.Referents.{referent}
-use Rattle.m51_graph.specs.Drawing.{edge_between}
-use Rattle.m51_graph.specs.Drawing.{edges_of}
+use Rattle.m51_graph.specs.Drawing.{edge_between, edges_of}
 use Rattle.m51_graph.specs.DrawnEdges.{IsEdgeWithin}
 use Rattle.m51_graph.specs.Graphs.{parts_of}
 use Rattle.m51_graph.specs.Locals.{own_name, own_unit, own_units, unless_apart}
@@ -49,22 +48,24 @@ if_below k count = elim (cases_Bool (ltb k count)) [
 position_below : {A : Type 0} (p : A → Bool) (xs : List A) → Below (length xs) (position p xs)
 position_below p xs = if_below (position_or_len p xs) (length xs)
 
--- both ends of an edge are within, of an edge that there may be, and of each of a list
-abbrev Inside : ℕ → ℕ × ℕ → Type 0
-Inside count e = (e.0 < count) × (e.1 < count)
+then_below : {A : Type 0} (count : ℕ) (f : A → Option ℕ) (found : Option A) → ((x : A) → Below count (f x))
+    → Below count (option_and_then f found)
+then_below count f None h = tt
+then_below count f (Some x) h = h x
 
+-- both ends of an edge are within, of an edge that there may be, and of each of a list
 abbrev pub EdgeWithin : ℕ → Option (ℕ × ℕ) → Type 0
 EdgeWithin count found = IfSome found (λ edge. IsEdgeWithin count edge)
 
 abbrev AreInside : ℕ → Edges → Type 0
-AreInside count edges = Every (Inside count) edges
+AreInside count edges = Every (IsEdgeWithin count) edges
 
 between_within : (count : ℕ) (a b : Option ℕ) → Below count a → Below count b → EdgeWithin count (edge_between a b)
 between_within count None b h k = tt
 between_within count (Some u) None h k = tt
 between_within count (Some u) (Some v) h k = elim (cases_Bool (nat_eq u v)) [
   | inl same ↦ rw same tt
-  | inr other ↦ let e : IsEdgeWithin count (u, v) = record { from = h; to = k } in rw other e
+  | inr other ↦ rw other (record { from = h; to = k })
 ]
 
 module _ (count : ℕ) where
@@ -76,7 +77,7 @@ module _ (count : ℕ) where
       drawn : AreInside count (with_edge edges e)
       drawn = elim (cases_Bool (has_edge edges e)) [
         | inl there ↦ rw there h
-        | inr new ↦ rw new (every_append (Inside count) edges (e ∷ []) h (k.0, tt))
+        | inr new ↦ rw new (every_append (IsEdgeWithin count) edges (e ∷ []) h (k.0, tt))
       ]
 
   made_inside : {A : Type 0} (f : A → Option (ℕ × ℕ)) → ((x : A) → EdgeWithin count (f x))
@@ -87,30 +88,27 @@ module _ (count : ℕ) where
       by : (o : Option (ℕ × ℕ)) → EdgeWithin count o → AreInside count (filter_map f xs)
           → AreInside count (cons_option o (filter_map f xs))
       by None w k = k
-      by (Some e) w k = ((w.from, w.to), k)
+      by (Some e) w k = (w, k)
 
   flat_inside : {A : Type 0} (f : A → Edges) → ((x : A) → AreInside count (f x)) → (xs : List A)
       → AreInside count (flat_map f xs)
   flat_inside f h [] = tt
-  flat_inside f h (x ∷ xs) = every_append (Inside count) (f x) (flat_map f xs) (h x) (flat_inside f h xs)
+  flat_inside f h (x ∷ xs) = every_append (IsEdgeWithin count) (f x) (flat_map f xs) (h x) (flat_inside f h xs)
 
   lead_within : (edges : Edges) → AreInside count edges → LeadWithin count edges
-  lead_within edges h =
-      record { within = λ u v k. every_in (Inside count) edges (u, v) h (in_contains edges (u, v) k) }
+  lead_within edges h = record {
+    within = λ u v k.
+        let e = every_in (IsEdgeWithin count) edges (u, v) h (in_contains edges (u, v) k) in (e.from, e.to);
+  }
 
 -- the edges that fixups make
 module _ (modules : List ModuleParts) where
   abbrev count : ℕ
   count = length (unit_titles (segments_of modules))
 
-  part_below : (part : Option (ℕ × ℕ))
-      → Below count (option_and_then (λ (p : ℕ × ℕ). position (nat_eq p.0) (units_of (segments_of modules))) part)
-  part_below None = tt
-  part_below (Some part) =
-      rw (titles_are (segments_of modules)) (position_below (nat_eq part.0) (units_of (segments_of modules)))
-
   unit_below : (m : ℕ) (base : Base) → Below count (unit_of modules m base)
-  unit_below m base = part_below (referent modules m base).part
+  unit_below m base = then_below count _ (referent modules m base).part
+      (λ part. rw (titles_are (segments_of modules)) (position_below (nat_eq part.0) (units_of (segments_of modules))))
 
   module_inside : (m : ℕ) → AreInside count (module_edges modules m)
   module_inside m = by (slice_get modules m)
@@ -145,11 +143,12 @@ edges_within : (titles : List (List ℕ)) (controls : List (ℕ × Control)) (ma
 edges_within titles controls made h =
     let added : ℕ × Control → Edges = λ line. added_by titles line.1 in
     let before : AreInside (length titles) made =
-    every_of (Inside (length titles)) made (λ e i. h.within e.0 e.1 (contains_in made e i)) in
+    every_of (IsEdgeWithin (length titles)) made
+    (λ e i. let both = h.within e.0 e.1 (contains_in made e i) in record { from = both.0; to = both.1 }) in
     let keeps : ℕ × ℕ → Bool = λ edge. not (is_cut titles controls edge) in
     let all = with_edges made (flat_map added controls) in
     lead_within (length titles) (filter keeps all)
-    (every_filter (Inside (length titles)) keeps all
+    (every_filter (IsEdgeWithin (length titles)) keeps all
     (edges_inside (length titles) made (flat_map added controls) before
     (flat_inside (length titles) added (λ line. added_inside titles line.1) controls)))
 
@@ -177,10 +176,6 @@ roots_fit unit (j ∷ more) e h =
 
 -- own units are units
 module _ (titles : List (List ℕ)) (controls : List (ℕ × Control)) where
-  own_below : (name : Option (List ℕ)) → Below (length titles) (option_and_then (named titles) name)
-  own_below None = tt
-  own_below (Some name) = position_below _ titles
-
   apart_below : (found : Option ℕ) → Below (length titles) found
       → Below (length titles) (unless_apart (is_apart titles controls) found)
   apart_below None h = tt
@@ -189,7 +184,8 @@ module _ (titles : List (List ℕ)) (controls : List (ℕ × Control)) where
 
   overlaid_below : (j : JoinedSegment) → Below (length titles) (overlaid_by titles controls j)
   overlaid_below j = elim (cases_Bool j.overlay) [
-    | inl overlaid ↦ rw overlaid (apart_below (own_unit titles j) (own_below (own_name j)))
+    | inl overlaid ↦ rw overlaid (apart_below (own_unit titles j)
+        (then_below _ (named titles) (own_name j) (λ name. position_below _ titles)))
     | inr plain ↦ rw plain tt
   ]
 

@@ -5,6 +5,7 @@ ghost use Rattle.m51_graph.specs.Laws.{AboveIsUnder, EdgesAre, LeadingIsReaching
 /// reaches another by a walk of at least one edge.
 ///
 /// Source: own choice ("Edges").
+#[tactic(auto, using(crate::proofs::Deciding::leads_tells))]
 pub fn leading_is_reaching()
     ensures { LeadingIsReaching }
 {}
@@ -13,6 +14,7 @@ pub fn leading_is_reaching()
 /// such a root reaches it.
 ///
 /// Source: own choice ("Roots").
+#[tactic(auto, using(crate::proofs::Relations::above_tells))]
 pub fn above_is_under()
     ensures { AboveIsUnder }
 {}

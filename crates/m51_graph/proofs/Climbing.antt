@@ -2,7 +2,7 @@
 use Rattle.m51_graph.proofs.Common.{◌≡◌, inl, inr, ℕ, zero, suc, ◌+◌, ◌*◌, ◌<◌, ◌≤◌, true, false, Bool, ◌||◌, List, []}
 use Rattle.m51_graph.proofs.Common.{◌∷◌, ◌++◌, length, take, get_or, sum, refl, sym, ap, ◌∙◌, arith, take_more}
 use Rattle.m51_graph.proofs.Common.{false≢true, Edges, HasEdge, IsWalk, last_of, Reaches, none_in_empty, reach_edge}
-use Rattle.m51_graph.proofs.Common.{AreWalked, IsClimbing, LeadWithin, IsLevel}
+use Rattle.m51_graph.proofs.Common.{AreWalked, IsClimbing, LeadWithin, IsLevel, subst, GraphParts, Tables}
 use Rattle.std.proofs.Common.{set, length-append}
 use Rattle.std.proofs.lemmas.Bool.{false_from_ne_true}
 use Rattle.std.proofs.lemmas.List.{get_or-set_same, get_or-set_other, length-set}
@@ -13,8 +13,10 @@ use Rattle.m51_module.proofs.Units.{same_or_not}
 use Rattle.m51_module.proofs.Reach.{last_on, reach_on, walk_on}
 use Rattle.m51_graph.specs.Leading.{leads}
 use Rattle.m51_graph.specs.Climbing.{AreSettled, Lifts}
+use Rattle.m51_graph.specs.DrawnEdges.{IsEdgeWithin}
 use Rattle.m51_graph.specs.Levels.{EndsWalk}
 use Rattle.m51_graph.proofs.Deciding.{leads_tells}
+use Rattle.m51_graph.specs.Kept.{IsKeptGraph}
 
 abbrev pub one_if : Bool → ℕ
 one_if true = 1
@@ -183,12 +185,27 @@ module _ (edges : Edges) (levels : List ℕ) (settled : AreSettled edges levels)
   }
 
 -- both ends of an edge of the list are within
-pub record Ends (count : ℕ) (edge : ℕ × ℕ) : Type 0 where
-  pub from : edge.0 < count
-  pub to : edge.1 < count
+pub ends_within : (count i : ℕ) (edges : Edges) → LeadWithin count edges → i < length edges
+    → IsEdgeWithin count (get_or edges i (0, 0))
+ends_within count i edges within below =
+    let both = within.within _ _ (Contains-get_or edges i (0, 0) below) in record { from = both.0; to = both.1 }
 
-pub ends_within : (count i : ℕ) (d : ℕ × ℕ) (edges : Edges) → LeadWithin count edges → i < length edges
-    → Ends count (get_or edges i d)
-ends_within count i d edges within below =
-    let both = within.within (get_or edges i d).0 (get_or edges i d).1 (Contains-get_or edges i d below) in
-    record { from = both.0; to = both.1 }
+-- The levels that a graph keeps.
+module _ (g : GraphParts) (t : Tables) (kept : IsKeptGraph g t) (unit : ℕ) (below : unit < length g.units) where
+  inside : unit < length t.levels.items
+  inside = omega (arith, below, kept.tables.level_count)
+
+  pub kept_level : IsLevel g.edges unit (get_or t.levels.items unit 0)
+  kept_level = level_is g.edges t.levels.items kept.tables.settled unit kept.tables.walked inside
+
+  -- it is a small number
+  pub level_below : get_or t.levels.items unit 0 ≤ 1000
+  level_below =
+      let within : LeadWithin (length t.levels.items) g.edges =
+      subst (λ n. LeadWithin n g.edges) (sym kept.tables.level_count) kept.graph.units.edges in
+      omega (
+        arith,
+        level_most g.edges t.levels.items within kept.graph.no_cycle kept.tables.walked unit inside,
+        kept.tables.level_count,
+        kept.graph.units.few_units,
+      )

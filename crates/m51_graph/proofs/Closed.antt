@@ -1,10 +1,10 @@
 -- The pairs that walks along edges join, found unit by unit.
-use Rattle.m51_graph.proofs.Common.{◌≡◌, ◌⊎◌, inl, inr, ℕ, zero, suc, ◌+◌, ◌<◌, Bool, true, ◌&&◌, List, [], ◌∷◌, length}
-use Rattle.m51_graph.proofs.Common.{take, get_or, refl, ap, subst, ◌∙◌, arith, nat_eq, cases_eq, Decides-eqb, Decides}
-use Rattle.m51_graph.proofs.Common.{edge_test, same_edge, LeadWithin, reach_edge, Edges, HasEdge, IsWalk, Reaches}
-use Rattle.m51_graph.proofs.Common.{last_of, flipped}
-use Rattle.std.proofs.Math.Bool.{and_comm, or_comm}
-use Rattle.std.proofs.lemmas.List.Folds.{list_any_more}
+use Rattle.m51_graph.proofs.Common.{◌++◌, take_more, false, ◌||◌, ◌∙◌, ap, ◌≡◌, ◌⊎◌, inl, inr, ℕ, zero, suc, ◌+◌, ◌<◌}
+use Rattle.m51_graph.proofs.Common.{Bool, true, ◌&&◌, List, [], ◌∷◌, length, take, get_or, refl, subst, arith, nat_eq}
+use Rattle.m51_graph.proofs.Common.{cases_eq, Decides-eqb, Decides, edge_test, same_edge, LeadWithin, reach_edge, Edges}
+use Rattle.m51_graph.proofs.Common.{HasEdge, IsWalk, Reaches, last_of, flipped}
+use Rattle.std.proofs.lemmas.List.Folds.{list_any-append}
+use Rattle.std.proofs.Math.Bool.{and_comm}
 use Rattle.m51_relations.specs.Rows.{closed_below, with_pair}
 use Rattle.m51_graph.specs.Leading.{leads}
 use Rattle.m51_relations.proofs.BitLaws.{same_pairs}
@@ -19,26 +19,27 @@ edge_tells edges u v =
       λ h. tells.1 ((u, v), h, (refl, refl)),
     )
 
--- one more edge
-pub edge_more : (edges : Edges) (i : ℕ) (d : ℕ × ℕ) (has : ℕ → ℕ → Bool) → i < length edges → has
-    ≡ edge_test (take i edges)
-    → with_pair (get_or edges i d).0 (get_or edges i d).1 has ≡ edge_test (take (i + 1) edges)
-edge_more edges i d has below is =
-    let edge : ℕ × ℕ = get_or edges i d in
-    rw is (same_pairs (with_pair edge.0 edge.1 (edge_test (take i edges))) (edge_test (take (i + 1) edges))
-    (λ u v. rw (list_any_more (same_edge (u, v)) edges i d below)
-    (or_comm (nat_eq u edge.0 && nat_eq v edge.1) (edge_test (take i edges) u v))))
+-- the pair of one more edge, and the same reversed
+swap_last : (a b : Bool) → (b || (a || false)) ≡ (a || b)
+swap_last a b = grind arith
 
--- one more edge, reversed
-pub caller_more : (edges : Edges) (i : ℕ) (d : ℕ × ℕ) (has : ℕ → ℕ → Bool) → i < length edges → has
-    ≡ flipped (edge_test (take i edges))
-    → with_pair (get_or edges i d).1 (get_or edges i d).0 has ≡ flipped (edge_test (take (i + 1) edges))
-caller_more edges i d has below is =
-    let edge : ℕ × ℕ = get_or edges i d in
-    rw is (same_pairs (with_pair edge.1 edge.0 (flipped (edge_test (take i edges))))
-    (flipped (edge_test (take (i + 1) edges)))
-    (λ u v. rw (list_any_more (same_edge (v, u)) edges i d below, and_comm (nat_eq u edge.1) (nat_eq v edge.0))
-    (or_comm (nat_eq v edge.0 && nat_eq u edge.1) (edge_test (take i edges) v u))))
+pub edge_pushed : (edges : Edges) (edge : ℕ × ℕ) → edge_test (edges ++ edge ∷ [])
+    ≡ with_pair edge.0 edge.1 (edge_test edges)
+edge_pushed edges edge =
+    same_pairs (edge_test (edges ++ edge ∷ [])) (with_pair edge.0 edge.1 (edge_test edges))
+    (λ u v. list_any-append (same_edge (u, v)) edges (edge ∷ [])
+    ∙ swap_last (nat_eq u edge.0 && nat_eq v edge.1) (edge_test edges u v))
+
+pub edge_more : (edges : Edges) (i : ℕ) → i < length edges → edge_test (take (i + 1) edges)
+    ≡ with_pair (get_or edges i (0, 0)).0 (get_or edges i (0, 0)).1 (edge_test (take i edges))
+edge_more edges i below =
+    rw (take_more edges i (0, 0) below) (edge_pushed (take i edges) (get_or edges i (0, 0)))
+
+pub caller_more : (edges : Edges) (i : ℕ) → i < length edges → flipped (edge_test (take (i + 1) edges))
+    ≡ with_pair (get_or edges i (0, 0)).1 (get_or edges i (0, 0)).0 (flipped (edge_test (take i edges)))
+caller_more edges i below =
+    rw (edge_more edges i below) (same_pairs _ _
+    (λ u v. ap (λ b. b || edge_test (take i edges) v u) (and_comm (nat_eq v (get_or edges i (0, 0)).0) _)))
 
 module _ (edges : Edges) (has : ℕ → ℕ → Bool) (tells : (u v : ℕ) → Decides (has u v) (HasEdge edges u v)) where
   -- a walk without the unit k between its ends, or one to k and one on from it

@@ -1,8 +1,8 @@
 -- What the rules on edges and roots make sure of.
 use Rattle.m51_graph.proofs.Common.{◌≡◌, inl, inr, ℕ, zero, suc, ◌+◌, ◌-◌, ◌<◌, true, false, Bool, nat_eq, List, []}
-use Rattle.m51_graph.proofs.Common.{◌∷◌, length, drop, get_or, Option, Some, None, refl, sym, ap, ◌∙◌, arith, list_any}
-use Rattle.m51_graph.proofs.Common.{option_map_or, option_or, cases_Bool, false≢true, Decides-eqb, list_any_at, vectors}
-use Rattle.m51_graph.proofs.Common.{GraphParts, AreOfUnits, first_under_two, cyclic_from, lies_under}
+use Rattle.m51_graph.proofs.Common.{◌∷◌, length, get_or, Option, Some, None, refl, sym, ◌∙◌, arith, option_map_or}
+use Rattle.m51_graph.proofs.Common.{option_or, cases_Bool, false≢true, Decides-eqb, list_any_at, vectors, GraphParts}
+use Rattle.m51_graph.proofs.Common.{AreOfUnits, first_under_two, cyclic_from, lies_under}
 use Rattle.std.proofs.Common.{Ok}
 use Rattle.std.proofs.lemmas.Option.{slice_get_within, get_or_from_slice_get}
 use Rattle.m51_cells.specs.Outcome.{RefusesWith}
@@ -11,10 +11,9 @@ use Rattle.m51_cells.proofs.ListsAndOptions.{filter_keeps}
 use Rattle.m51_cells.proofs.Members.{In, in_contains}
 use Rattle.m51_module.proofs.Units.{same_or_not}
 use Rattle.m51_graph.specs.Graph.{IsGraph, IsOwn, UnitLiesUnder}
-use Rattle.m51_graph.specs.Graphs.{judged_by, passed, under_two, unit_under_two, has_overlaid, roots_above}
+use Rattle.m51_graph.specs.Graphs.{passed, under_two, unit_under_two, has_overlaid, roots_above}
 use Rattle.m51_graph.specs.Leading.{leads}
 use Rattle.m51_graph.proofs.Deciding.{leads_tells}
-use Rattle.m51_graph.proofs.Drawn.{drop_rest}
 use Rattle.m51_graph.proofs.Relations.{above_tells, owner_under}
 
 -- a rule that passes has no refusal
@@ -28,27 +27,6 @@ pub refuses_more : (refusal rule rest : Option Refusal) → RefusesWith refusal 
 refuses_more None rule rest h = tt
 refuses_more (Some r) None rest h = absurd (cc h)
 refuses_more (Some r) (Some s) rest h = h
-
--- the rule of the next unit, and then those after it
-module _ (reach : ℕ → ℕ → Bool) (g : GraphParts) where
-  abbrev rule : ℕ → List ℕ → Option Refusal
-  rule unit title = unit_under_two reach g.roots g.own unit title
-
-  abbrev rules : ℕ → List (List ℕ) → Option Refusal
-  rules unit titles = first_under_two reach g.roots g.own unit titles
-
-  pub first_step : (titles : List (List ℕ)) (i : ℕ) (d : List ℕ) → i < length titles
-      → first_under_two reach g.roots g.own i (drop i titles)
-      ≡ option_or (unit_under_two reach g.roots g.own i (get_or titles i d))
-      (first_under_two reach g.roots g.own (i + 1) (drop (i + 1) titles))
-  first_step titles i d below = ap (λ (ts : List (List ℕ)). rules i ts) (drop_rest titles i d below)
-
-  pub first_goes_on : (titles : List (List ℕ)) (i : ℕ) (d : List ℕ) → i < length titles
-      → unit_under_two reach g.roots g.own i (get_or titles i d) ≡ None
-      → first_under_two reach g.roots g.own (i + 1) (drop (i + 1) titles)
-      ≡ first_under_two reach g.roots g.own i (drop i titles)
-  first_goes_on titles i d below none =
-      sym (first_step titles i d below ∙ rw none refl)
 
 -- a list without an item
 pub none_left : (xs : List (List ℕ)) → length xs ≡ 0 → xs ≡ []
@@ -127,9 +105,3 @@ module _ (titles : List (List ℕ)) (g : GraphParts) (units : AreOfUnits g) (sam
         one_above single s owns.own x y owns.own_is (owner_under g s u x owns above_x)
         (owner_under g s u y owns above_y);
   }
-
--- parts that no rule refuses
-pub judged_ok : (reach : ℕ → ℕ → Bool) (titles : List (List ℕ)) (g : GraphParts)
-    → list_any (λ root. nat_eq root.0 0) g.roots ≡ true → cyclic_from reach 0 titles ≡ []
-    → first_under_two reach g.roots g.own 0 titles ≡ None → judged_by reach titles g ≡ Ok g
-judged_ok reach titles g reset free single = rw (reset, free, single) refl

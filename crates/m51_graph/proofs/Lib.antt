@@ -3,16 +3,10 @@ pub mod Deciding
 pub mod Climbing
 pub mod Relations
 pub mod Walking
-pub mod Levelled
 pub mod Drawn
 pub mod Within
-pub mod Fronts
-pub mod Bytes
 pub mod Closed
-pub mod Cutting
 pub mod EdgeLaws
 pub mod Judged
 pub mod NamedUnits
 pub mod OrderKeys
-pub mod PassedPairs
-pub mod Seen

@@ -2,14 +2,17 @@
 use Rattle.m51_graph.proofs.Common.{◌≡◌, inl, inr, ℕ, zero, suc, ◌+◌, ◌<◌, ◌≤◌, Bool, cond, List, [], ◌∷◌, ◌++◌, length}
 use Rattle.m51_graph.proofs.Common.{take, get_or, refl, sym, ap, ◌∙◌, arith, Option, Some, None, nat_eq, cases_Bool}
 use Rattle.m51_graph.proofs.Common.{ne_eqb, take_more, option_or, bytes_eq, named, units_from, units_of, JoinedSegment}
+use Rattle.m51_graph.proofs.Common.{◌&&◌, drop, and_from, and_parts, Decides-eqb}
 use Rattle.std.proofs.Common.{position, add-zero, eq-eqb}
 use Rattle.std.specs.Prelude.{slice_index_or, unwrap_or}
-use Rattle.std.specs.List.{position_from}
+use Rattle.std.specs.List.{position_from, starts_with}
 use Rattle.std.proofs.lemmas.Iterator.Adapters.{position_from-zero}
 use Rattle.std.proofs.lemmas.List.{length-take-le}
-use Rattle.std.proofs.lemmas.Slice.Eq.{bytes_eq-Decides}
+use Rattle.std.proofs.lemmas.Slice.Eq.{bytes_eq-Decides, starts_is}
 use Rattle.m51_cells.specs.Kinds.{is_code}
 use Rattle.m51_graph.specs.Numbered.{AreNumbers, IsUnitTable, number_by_name, units_by_segment}
+use Rattle.std.proofs.Math.Seq.{drop-append_seam}
+use Rattle.std.proofs.lemmas.Bool.Decides.{same_from_decides}
 
 -- one more item
 from_push : {X : Type 0} (p : X → Bool) (n : ℕ) (xs : List X) (x : X)
@@ -97,3 +100,18 @@ unit_table segments few = record {
       entry_is 0 0 segments number ∙ ap (λ m. position_from (nat_eq m) 0 (units_of segments)) (omega arith)
       ∙ sym (position_from-zero (nat_eq number) (units_of segments));
 }
+
+-- A text that begins with another.
+-- a text is that of two parts exactly if it begins with the first, and the second is what follows
+pub front_split : (title front rest : List ℕ) → bytes_eq title (front ++ rest)
+    ≡ (starts_with nat_eq title front && bytes_eq (drop (length front) title) rest)
+front_split title front rest =
+    let starts = starts_is {A = ℕ} {E = nat_eq} Decides-eqb title front (starts_with nat_eq title front) refl in
+    let tail : List ℕ = drop (length front) title in
+    same_from_decides (bytes_eq title (front ++ rest)) (starts_with nat_eq title front && bytes_eq tail rest)
+    (bytes_eq-Decides title (front ++ rest)) (
+      λ h. let both = and_parts (starts_with nat_eq title front) (bytes_eq tail rest) h in
+          starts.0 both.0 ∙ ap (λ end. front ++ end) ((bytes_eq-Decides tail rest).0 both.1),
+      λ e. and_from (starts_with nat_eq title front) (bytes_eq tail rest) (starts.1 rest e)
+          ((bytes_eq-Decides tail rest).1 (ap (λ text. drop (length front) text) e ∙ drop-append_seam front rest)),
+    )

@@ -3,8 +3,9 @@ use Rattle.m51_graph.proofs.Common.{◌≡◌, ◌⊎◌, inl, inr, ℕ, ◌<◌
 use Rattle.m51_graph.proofs.Common.{get_or, refl, sym, ap, subst, ◌∙◌, arith, Some, nat_eq, and_parts, cases_Bool}
 use Rattle.m51_graph.proofs.Common.{cases_eq, Decides-at, Decides-eqb, Decides, Contains, list_any, range_with_len}
 use Rattle.m51_graph.proofs.Common.{slice_get, edge_test, AreOfUnits, lies_under, GraphParts, Tables, vectors, HasEdge}
-use Rattle.m51_graph.proofs.Common.{IsWalk, Reaches, last_of, pairs}
-use Rattle.std.proofs.Common.{◌≢◌}
+use Rattle.m51_graph.proofs.Common.{IsWalk, Reaches, last_of, pairs, ◌+◌, ◌*◌, false, cond, ◌++◌, take, add-one}
+use Rattle.m51_graph.proofs.Common.{take_more, AddsBits, zero, suc, ◌≤◌, flipped}
+use Rattle.std.proofs.Common.{◌≢◌, ◌^◌, length-take-le}
 use Rattle.std.proofs.lemmas.Bool.{or_cases, or_left, or_right}
 use Rattle.std.proofs.lemmas.List.FromFn.{get_or-map-range_with_len}
 use Rattle.std.proofs.lemmas.Bool.Decides.{Decides-not, same_from_decides}
@@ -15,14 +16,81 @@ use Rattle.m51_module.proofs.Conflicts.{related_back}
 use Rattle.m51_module.proofs.Reach.{under_on}
 use Rattle.m51_relations.specs.declared.owner_pairs.Owned.{Owned}
 use Rattle.m51_graph.specs.Graph.{AreBits, IsGraph, Owns, SegmentsConflict, UnitLiesUnder, joined_graph}
-use Rattle.m51_graph.specs.Kept.{IsKeptGraph}
+use Rattle.m51_graph.specs.Kept.{IsKeptGraph, AreTables}
 use Rattle.m51_graph.specs.Leading.{leads}
-use Rattle.m51_relations.specs.OwnerPairs.{are_apart}
+use Rattle.m51_relations.specs.OwnerPairs.{are_apart, owner_pair, related_by}
 use Rattle.m51_graph.specs.Relating.{IsOwned, are_related, bits_of, owner_related, owners_related, root_byte}
-use Rattle.m51_graph.proofs.Bytes.{bits_agree, bits_same, bits_some, bits_zero}
 use Rattle.m51_graph.proofs.Closed.{edge_tells}
 use Rattle.m51_graph.proofs.Deciding.{and_decides, any_decides, leads_tells, or_decides, with_ends}
+use Rattle.std.proofs.Math.Nat.{pow-suc}
+use Rattle.std.proofs.lemmas.List.Folds.{list_any-append}
+use Rattle.std.proofs.Math.Bool.{or-false}
+use Rattle.m51_cells.proofs.Small.{range_suc}
+use Rattle.m51_relations.specs.Rows.{passed_below}
 
+-- Numbers whose bits are the results of tests.
+bits_push : (test : ℕ → Bool) (xs : List ℕ) (y weight : ℕ) → weight ≡ 2 ^ length xs → bits_of test (xs ++ y ∷ [])
+    ≡ bits_of test xs + cond (test y) weight 0
+bits_push test [] y weight is = grind (arith, is)
+bits_push test (x ∷ xs) y weight is =
+    grind (arith, is, pow-suc 2 (length xs), bits_push test xs y (2 ^ length xs) refl)
+
+-- one more bit
+module _ (test : ℕ → Bool) (xs : List ℕ) (count bits weight d : ℕ) (below : count < length xs)
+    (h : AddsBits test xs count bits weight) where
+  one_more : bits_of test (take (count + 1) xs)
+      ≡ bits_of test (take count xs) + cond (test (get_or xs count d)) weight 0
+  one_more =
+      rw (take_more xs count d below)
+      (bits_push test (take count xs) (get_or xs count d) weight
+      (h.weight_is ∙ ap (λ n. 2 ^ n) (sym (length-take-le count xs (omega arith)))))
+
+  pub adds_set : test (get_or xs count d) ≡ true → AddsBits test xs (count + 1) (bits + weight) (weight * 2)
+  adds_set passes = record {
+    weight_is = omega (arith, h.weight_is, pow-suc 2 count, ap (λ n. 2 ^ n) (add-one count));
+    bits_are = omega (arith, h.bits_are, one_more, ap (λ b. cond b weight 0) passes);
+    room = omega (arith, h.room);
+  }
+
+  pub adds_clear : test (get_or xs count d) ≡ false → AddsBits test xs (count + 1) bits (weight * 2)
+  adds_clear fails = record {
+    weight_is = omega (arith, h.weight_is, pow-suc 2 count, ap (λ n. 2 ^ n) (add-one count));
+    bits_are = omega (arith, h.bits_are, one_more, ap (λ b. cond b weight 0) fails);
+    room = omega (arith, h.room);
+  }
+
+abbrev bit_if : Bool → ℕ
+bit_if b = cond b 1 0
+
+-- two numbers with the same bits
+bit_same : (a b : Bool) (m n : ℕ) → bit_if a + 2 * m ≡ bit_if b + 2 * n → (a ≡ b) × (m ≡ n)
+bit_same a b m n h = grind arith
+
+pub bits_same : (p q : ℕ → Bool) (xs : List ℕ) → bits_of p xs ≡ bits_of q xs → (x : ℕ) → In x xs → p x ≡ q x
+bits_same p q [] h x i = absurd i
+bits_same p q (y ∷ ys) h x (inl e) = rw (← e) (bit_same (p y) (q y) (bits_of p ys) (bits_of q ys) h).0
+bits_same p q (y ∷ ys) h x (inr i) = bits_same p q ys (bit_same (p y) (q y) (bits_of p ys) (bits_of q ys) h).1 x i
+
+-- tests that agree on the list
+pub bits_agree : (p q : ℕ → Bool) (xs : List ℕ) → ((x : ℕ) → In x xs → p x ≡ q x) → bits_of p xs ≡ bits_of q xs
+bits_agree p q [] h = refl
+bits_agree p q (y ∷ ys) h = rw (h y (inl refl), bits_agree p q ys (λ x i. h x (inr i)))
+
+-- no bit
+pub bits_zero : (p : ℕ → Bool) (xs : List ℕ) → bits_of p xs ≡ 0 → (x : ℕ) → In x xs → p x ≡ false
+bits_zero p [] h x i = absurd i
+bits_zero p (y ∷ ys) h x (inl e) = rw (← e) (bit_same (p y) false (bits_of p ys) 0 h).0
+bits_zero p (y ∷ ys) h x (inr i) = bits_zero p ys (bit_same (p y) false (bits_of p ys) 0 h).1 x i
+
+-- some bit, or none
+pub bits_some : (p : ℕ → Bool) (xs : List ℕ) → (bits_of p xs ≡ 0) ⊎ ((x : ℕ) × (p x ≡ true))
+bits_some p [] = inl refl
+bits_some p (y ∷ ys) = elim (cases_Bool (p y)) [
+  | inl first ↦ inr (y, first)
+  | inr fails ↦ elim (bits_some p ys) [ inl none ↦ inl (rw (fails, none)) | inr later ↦ inr later ]
+]
+
+-- roots above units
 module _ (g : GraphParts) where
   abbrev above : ℕ → ℕ → Bool
   above unit vector = lies_under (leads g.edges) g.roots vector unit
@@ -84,7 +152,7 @@ module _ (g : GraphParts) (units : AreOfUnits g) where
 
   zero_byte : (unit : ℕ) → UnderNone unit → byte unit ≡ 0
   zero_byte unit none = elim (bits_some (above g unit) vectors) [
-    | inl zero ↦ zero
+    | inl bare ↦ bare
     | inr some ↦ absurd (none some.0 ((above_tells g some.0 unit).0 some.1))
   ]
 
@@ -103,11 +171,11 @@ module _ (g : GraphParts) (units : AreOfUnits g) where
       or_decides _ _ (Decides-eqb (byte two) 0) (Decides-not _ (Decides-eqb (byte one) (byte two)))
 
   from_splits : (one two : ℕ) → HasOne one → HasOne two → Splits one two → Related one two
-  from_splits one two only only' (inl zero) = SecondUnderNone (none_under two zero)
+  from_splits one two only only' (inl bare) = SecondUnderNone (none_under two bare)
   from_splits one two only only' (inr ne) = elim (bits_some (above g one) vectors) [
-    | inl zero ↦ FirstUnderNone (none_under one zero)
+    | inl bare ↦ FirstUnderNone (none_under one bare)
     | inr some ↦ elim (bits_some (above g two) vectors) [
-      | inl zero ↦ SecondUnderNone (none_under two zero)
+      | inl bare ↦ SecondUnderNone (none_under two bare)
       | inr some' ↦
           let lies : UnitLiesUnder g some.0 one = (above_tells g some.0 one).0 some.1 in
           let lies' : UnitLiesUnder g some'.0 two = (above_tells g some'.0 two).0 some'.1 in
@@ -124,9 +192,9 @@ module _ (g : GraphParts) (units : AreOfUnits g) where
 
   -- where the first is under no root, the second is under none too or has another byte
   first_none : (one two : ℕ) → byte one ≡ 0 → Splits one two
-  first_none one two zero = elim (cases_eq (byte two) 0) [
+  first_none one two bare = elim (cases_eq (byte two) 0) [
     | inl same ↦ inl same
-    | inr other ↦ inr (λ e. other (sym e ∙ zero))
+    | inr other ↦ inr (λ e. other (sym e ∙ bare))
   ]
 
   under_two : (one two x y : ℕ) → HasOne two → x ≢ y → UnitLiesUnder g x one → UnitLiesUnder g y two
@@ -290,3 +358,73 @@ module _ (g : GraphParts) (t : Tables) (kept : IsKeptGraph g t) where
               })
         ],
       )
+
+-- Pairs joined by a pair of one set and then one of another, and which owners they say are related.
+any_more : (p : ℕ → Bool) (n : ℕ) → list_any p (range_with_len 0 (suc n))
+    ≡ (list_any p (range_with_len 0 n) || (p n || false))
+any_more p n =
+    let same : 0 + n ≡ n = omega arith in
+    ap (list_any p) (range_suc 0 n) ∙ rw (list_any-append, same) refl
+
+-- what is joined below the bound, where each unit on the way passes the test
+pub passed_is : (tests others has : ℕ → ℕ → Bool) (first : Bool) (p : ℕ → Bool) (u v count : ℕ) → has u v ≡ first
+    → ((k : ℕ) → k < count → (tests u k && others k v) ≡ p k)
+    → (n : ℕ) → n ≤ count → passed_below tests others has n u v ≡ (first || list_any p (range_with_len 0 n))
+unfolding passed_below
+passed_is tests others has first p u v count is each zero below = is ∙ sym (or-false first)
+passed_is tests others has first p u v count is each (suc n) below =
+    let before = passed_is tests others has first p u v count is each n (omega (arith, below)) in
+    grind (arith, before, each n (omega (arith, below)), any_more p n)
+
+-- the pairs of the tables of a graph
+module _ (g : GraphParts) (t : Tables) (are : AreTables g t) where
+  abbrev count : ℕ
+  count = length g.units
+
+  abbrev Owner : ℕ → Bool → Owned
+  Owner own argument = record { own = own; argument = argument }
+
+  edge_is : (u v : ℕ) → edge_test g.edges u v ≡ pairs t.edges u v
+  edge_is u v = ap (λ (p : ℕ → ℕ → Bool). p u v) (sym are.edges)
+
+  plain_is : (u v : ℕ) → u < count → v < count → pairs t.owners.plain u v ≡ are_related t v u
+  plain_is u v below below' =
+      are.owners.plain.each u v below below' ∙ ap (λ (p : ℕ → ℕ → Bool). related_by p t.under.items v u) (sym are.reach)
+
+  none_added : (own u : ℕ) → are_related t own u ≡ owner_related t (Owner own false) u
+  none_added own u = sym (or-false (are_related t own u))
+
+  second_is : (u v : ℕ) → u < count → v < count → pairs t.owners.second u v ≡ owner_related t (Owner v true) u
+  second_is u v below below' =
+      rw are.edge_count (are.owners.second u v below
+      ∙ passed_is _ _ _ (are_related t v u) (λ k. pairs t.edges k v && are_related t k u) u v count
+      (plain_is u v below below') (λ k inside. grind (arith, plain_is u k below inside, edge_is k v))
+      count (omega arith))
+
+  -- an owner of the first segment, which is an argument segment, and then what is known of the second
+  any_owner : (has : ℕ → ℕ → Bool) (u v : ℕ) (argument : Bool) → u < count
+      → ((k : ℕ) → k < count → has k v ≡ owner_related t (Owner v argument) k)
+      → passed_below (flipped (edge_test g.edges)) has has count u v
+      ≡ owners_related t (Owner u true) (Owner v argument)
+  any_owner has u v argument below is =
+      let p : ℕ → Bool = λ k. pairs t.edges k u && owner_related t (Owner v argument) k in
+      passed_is (flipped (edge_test g.edges)) has has (owner_related t (Owner v argument) u) p u v count (is u below)
+      (λ k inside. grind (arith, edge_is k u, is k inside)) count (omega arith)
+      ∙ ap (λ n. owner_related t (Owner v argument) u || list_any p (range_with_len 0 n)) (sym are.edge_count)
+
+  pair_is : (u v : ℕ) (a b : Bool) → u < count → v < count → owner_pair t.owners a b u v
+      ≡ owners_related t (Owner u a) (Owner v b)
+  pair_is u v false false below below' = plain_is u v below below' ∙ none_added v u
+      ∙ sym (or-false (owner_related t (Owner v false) u))
+  pair_is u v false true below below' = second_is u v below below' ∙ sym (or-false (owner_related t (Owner v true) u))
+  pair_is u v true false below below' =
+      are.owners.first u v below
+      ∙ any_owner (pairs t.owners.plain) u v false below (λ k inside. plain_is k v inside below' ∙ none_added v k)
+  pair_is u v true true below below' =
+      are.owners.both u v below
+      ∙ any_owner (pairs t.owners.second) u v true below (λ k inside. second_is k v inside below')
+
+  -- the set of pairs gives whether owners of the two are related
+  pub owners_are : (one two : Owned) → one.own < count → two.own < count
+      → owner_pair t.owners one.argument two.argument one.own two.own ≡ owners_related t one two
+  owners_are one two below below' = pair_is one.own two.own one.argument two.argument below below'

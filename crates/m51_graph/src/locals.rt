@@ -55,7 +55,7 @@ fn after_front(name: &[u8], front: [u8; 4]) -> Option<&[u8]>
 }
 
 // Whether the title is ?PR? and then these bytes.
-#[tactic(auto, using(crate::proofs::Fronts::front_split))]
+#[tactic(auto, using(crate::proofs::NamedUnits::front_split))]
 fn is_unit_of(title: &[u8], rest: &[u8]) -> bool
     ensures { result ≡ bytes_eq title.now (unit_front ++ rest.now) }
 {

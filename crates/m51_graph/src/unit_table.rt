@@ -49,6 +49,7 @@ fn units_by_segment(alloc: Global, segments: &[JoinedSegment]) -> Result<Vec<Opt
 
 impl UnitTable {
     // The units among joined segments.
+    #[tactic(auto, using(crate::proofs::NamedUnits::unit_table))]
     pub(crate) fn of(alloc: Global, segments: &[JoinedSegment]) -> Result<UnitTable, NoMemory>
         requires segments { length segments.now ≤ MOST_SEGMENTS }
         requires few { length (units_of segments.now) ≤ MOST_UNITS }

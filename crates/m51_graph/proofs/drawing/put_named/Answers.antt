@@ -1,7 +1,14 @@
-use Rattle.m51_graph.proofs.Common.{◌||◌, ℕ, List, Option, ap, ◌∙◌, edge_named, is_edge, pairs}
-use Rattle.m51_graph.proofs.Cutting.{names_more}
+use Rattle.m51_graph.proofs.Common.{◌≡◌, ◌<◌, ◌+◌, ◌||◌, ℕ, Bool, List, Option, length, take, get_or, ap, ◌∙◌, arith}
+use Rattle.m51_graph.proofs.Common.{list_any, edge_named, is_edge, pairs}
+use Rattle.std.proofs.lemmas.List.Folds.{list_any_more}
 use Rattle.m51_graph.proofs.Within.{named_within}
 use Rattle.m51_graph.proofs.drawing.put_named.Goals as goal
+
+-- one more name
+names_more : (test : List ℕ → Bool) (names : List (List ℕ)) (i : ℕ) (d : List ℕ) (old now new : Bool)
+    → i < length names → new ≡ (test (get_or names i d) || now) → now ≡ (old || list_any test (take i names))
+    → new ≡ (old || list_any test (take (i + 1) names))
+names_more test names i d old now new below is before = grind (arith, list_any_more test names i d below)
 
 pub put_edge-requires : goal.put_edge-requires
 put_edge-requires c =

@@ -1,5 +1,4 @@
-use Rattle.m51_graph.proofs.Common.{◌≡◌, ◌<◌, ◌≤◌, ◌*◌, ℕ, length, refl, sum, sym, subst, ◌∙◌, arith, AreWalked}
-use Rattle.m51_graph.proofs.Common.{LeadWithin}
+use Rattle.m51_graph.proofs.Common.{◌≡◌, ◌≤◌, ◌*◌, length, refl, sum, sym, subst, arith, LeadWithin}
 use Rattle.std.proofs.lemmas.Nat.{mul-le}
 use Rattle.m51_graph.proofs.Climbing.{walked_first, levels_most}
 use Rattle.m51_graph.proofs.levels.climb.Goals as goal

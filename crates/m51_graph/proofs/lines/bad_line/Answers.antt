@@ -1,4 +1,4 @@
-use Rattle.m51_graph.proofs.Common.{◌≡◌, ℕ, Bool, List, Option, length, ap, ◌∙◌, overlaid_by}
+use Rattle.m51_graph.proofs.Common.{ℕ, Bool, List, Option, length, ap, ◌∙◌, overlaid_by}
 use Rattle.std.proofs.lemmas.List.{length-map}
 use Rattle.m51_control.specs.declared.control.Class.{Class}
 use Rattle.m51_graph.specs.Lines.{bad_line_by}

@@ -1,7 +1,7 @@
 use Rattle.m51_graph.proofs.Common.{ℕ, Bool, sym, ◌∙◌, vectors, pairs, lies_under}
-use Rattle.m51_graph.proofs.Bytes.{adds_set, adds_clear}
-use Rattle.m51_graph.proofs.relating.root_byte.Goals as goal
+use Rattle.m51_graph.proofs.Relations.{adds_set, adds_clear}
 use Rattle.m51_graph.proofs.relating.root_byte.Goals.{then-lies_under, else-lies_under}
+use Rattle.m51_graph.proofs.relating.root_byte.Goals as goal
 
 pub loop-vector-preserved : goal.loop-vector-preserved
 loop-vector-preserved c =

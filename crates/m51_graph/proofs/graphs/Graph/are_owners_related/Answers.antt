@@ -1,6 +1,5 @@
 use Rattle.m51_graph.proofs.Common.{◌∙◌, Decides-at}
-use Rattle.m51_graph.proofs.PassedPairs.{owners_are}
-use Rattle.m51_graph.proofs.Relations.{conflict_tells}
+use Rattle.m51_graph.proofs.Relations.{owners_are, conflict_tells}
 use Rattle.m51_graph.proofs.graphs.Graph.are_owners_related.Goals as goal
 
 pub returns : goal.returns

@@ -1,5 +1,5 @@
-use Rattle.m51_graph.proofs.Common.{◌≡◌, ◌<◌, ◌≤◌, ℕ, length, get_or, sym, ap, subst, ◌∙◌, arith, IsLevel}
-use Rattle.m51_graph.proofs.Levelled.{kept_level, level_below}
+use Rattle.m51_graph.proofs.Common.{◌<◌, length, sym, subst, arith, IsLevel}
+use Rattle.m51_graph.proofs.Climbing.{kept_level, level_below}
 use Rattle.m51_graph.proofs.Walking.{level_function}
 use Rattle.m51_graph.proofs.graphs.Graph.level.Goals as goal
 

@@ -1,4 +1,4 @@
-use Rattle.m51_graph.proofs.Common.{◌≡◌, ◌<◌, ℕ, length, sym, ap, subst, ◌∙◌, arith, vectors}
+use Rattle.m51_graph.proofs.Common.{◌<◌, length, sym, subst, ◌∙◌, vectors}
 use Rattle.m51_graph.specs.Graph.{AreRootBits}
 use Rattle.m51_graph.proofs.Relations.{bits_tell, under_is}
 use Rattle.m51_graph.proofs.graphs.Graph.roots_of.Goals as goal

@@ -1,4 +1,4 @@
-use Rattle.m51_graph.proofs.Common.{◌≡◌, ◌<◌, ℕ, Bool, length, true, sym, ap, subst, ◌∙◌, arith, Decides-at, bit}
+use Rattle.m51_graph.proofs.Common.{◌≡◌, ℕ, Bool, length, sym, ap, ◌∙◌, arith, Decides-at, bit}
 use Rattle.m51_relations.specs.Bits.{words_for}
 use Rattle.m51_graph.proofs.Deciding.{leads_tells}
 use Rattle.m51_graph.proofs.Relations.{reach_within}

@@ -137,8 +137,12 @@ climbs_pass edges done u v old new rose high c = record {
   settled = λ h. record {
     higher = λ x y e. elim (Contains-push_cases done (u, v) (x, y) e) [
       | inl before ↦ (c.settled h).higher x y before
-      | inr here ↦ omega (arith, high, ap (λ (p : ℕ × ℕ). get_or new p.0 0) here,
-          ap (λ (p : ℕ × ℕ). get_or new p.1 0) here)
+      | inr here ↦ omega (
+        arith,
+        high,
+        ap (λ (p : ℕ × ℕ). get_or new p.0 0) here,
+        ap (λ (p : ℕ × ℕ). get_or new p.1 0) here,
+      )
     ];
   };
   not_less = c.not_less;

@@ -117,16 +117,18 @@ module _ (modules : List ModuleParts) (u v : ℕ) where
   refers_at number (Some parts) is h =
       let made = made_in (fixup_edge modules number) parts.fixups (u, v) h in
       let fixup : Fixup = made.0 in
-      let ends = between_ends _ _ u v made.2 in
-      (record {
-        number = number;
-        parts = parts;
-        is = is;
-        fixup = fixup;
-        there = contains_in parts.fixups fixup made.1;
-        from = ends.from;
-        to = ends.to;
-      }, ends.differ)
+      let ends = between_ends _ _ u v made.2 in (
+        record {
+          number = number;
+          parts = parts;
+          is = is;
+          fixup = fixup;
+          there = contains_in parts.fixups fixup made.1;
+          from = ends.from;
+          to = ends.to;
+        },
+        ends.differ,
+      )
 
   made_from : In (u, v) (fixup_edges modules) → RefersTo modules u v × (u ≢ v)
   made_from h = elim (all_drawn_in [] (flat_map (module_edges modules) numbers) (u, v) h) [
@@ -152,18 +154,20 @@ module _ (titles : List (List ℕ)) (u v : ℕ) (controls : List (ℕ × Control
       → In (u, v) (added_by titles control) → IsAdded titles controls u v × (u ≢ v)
   adds line there (Add from names) is h =
       let made = made_in (edge_named titles from) names (u, v) h in
-      let ends = between_ends _ _ u v made.2 in
-      (record {
-        line = line;
-        there = there;
-        first = from;
-        others = names;
-        is = is;
-        from = ends.from;
-        other = made.0;
-        listed = contains_in names made.0 made.1;
-        to = ends.to;
-      }, ends.differ)
+      let ends = between_ends _ _ u v made.2 in (
+        record {
+          line = line;
+          there = there;
+          first = from;
+          others = names;
+          is = is;
+          from = ends.from;
+          other = made.0;
+          listed = contains_in names made.0 made.1;
+          to = ends.to;
+        },
+        ends.differ,
+      )
   adds line there control is h = absurd h
 
   added_from : In (u, v) (flat_map (λ line. added_by titles line.1) controls) → IsAdded titles controls u v × (u ≢ v)

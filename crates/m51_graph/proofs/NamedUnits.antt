@@ -26,8 +26,13 @@ position_more : {X : Type 0} (p : X → Bool) (xs : List X) (i : ℕ) (d : X) �
     → position p (take (i + 1) xs) ≡ option_or (position p (take i xs)) (cond (p (get_or xs i d)) (Some i) None)
 position_more p xs i d below =
     let same : 0 + length (take i xs) ≡ i = omega (arith, length-take-le i xs (omega (arith, below))) in
-    rw (position_from-zero p (take (i + 1) xs), position_from-zero p (take i xs), take_more xs i d below,
-    from_push p 0 (take i xs) (get_or xs i d), same) refl
+    rw (
+      position_from-zero p (take (i + 1) xs),
+      position_from-zero p (take i xs),
+      take_more xs i d below,
+      from_push p 0 (take i xs) (get_or xs i d),
+      same,
+    ) refl
 
 or_same : (o : Option ℕ) (i : ℕ) → (Some (unwrap_or o i) ≡ option_or o (Some i)) × (o ≡ option_or o None)
 or_same o i = grind arith

@@ -31,7 +31,8 @@ loop-line-preserved c =
     record {
       room = omega (arith, l.invariant.room, c.put_apart.ensures.len);
       bits = λ unit.
-          c.put_apart.ensures.put unit ∙ ap (λ b. test unit line || b) (l.invariant.bits unit) ∙ or_comm (test unit line) _
+          c.put_apart.ensures.put unit ∙ ap (λ b. test unit line || b) (l.invariant.bits unit)
+          ∙ or_comm (test unit line) _
           ∙ ap (λ line. is_apart c.args.titles.now (take l.line-index c.args.controls.now) unit || test unit line)
           c.line-item.is
           ∙ sym (list_any_more (test unit) c.args.controls.now l.line-index line c.loop-line-test.true);

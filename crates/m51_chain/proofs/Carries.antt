@@ -1,27 +1,23 @@
 -- Answers as they are carried out.
-use Rattle.std.proofs.Common.{◌≡◌, ℕ, ◌≤◌, List, ◌++◌, Result, Ok, Err, refl, sym, ap, arith}
+use Rattle.m51_chain.proofs.Common.{BoardState, Err, IsPartyReport, List, Ok, Result, Status, ap, arith, family_of}
+use Rattle.m51_chain.proofs.Common.{has_event, refl, sym, unkept_text, ℕ, ◌++◌, ◌≡◌, ◌≤◌}
+use Rattle.m51_chain.specs.Outcome.{Answer, status_by, status_if, party_status, status_after}
+use Rattle.m51_chain.specs.Carried.{IsUnkept, status_told, IsTextWritten, IsEnded, Unkept, UnkeptCut}
 use Rattle.std.specs.Io.KnownBytes.{Appends}
 use Rattle.std.proofs.KnownBytes.{Appends-trans}
 use Rattle.m51_cells.specs.Outside.{Rose}
 use Rattle.m51_cells.proofs.Fronts.{front_at_end}
 use Rattle.m51_party.specs.declared.party.PartyEnd.{PartyEnd}
-use Rattle.m51_party.specs.declared.party.PartyEnd.TheVariants as party_ends
-use Rattle.m51_party.specs.Report.{IsPartyReport, has_event}
-use Rattle.m51_party.specs.Rounds.{family_of}
 use Rattle.m51_party.specs.Text.{party_text}
-use Rattle.m51_sim.specs.Boards.{BoardState}
 use Rattle.m51_sim.specs.declared.runs.RunEnd.{RunEnd}
-use Rattle.m51_sim.specs.declared.runs.RunEnd.TheVariants as ends
 use Rattle.m51_shelf.specs.declared.sink.Failed.{Failed}
 use Rattle.m51_sim.specs.Run.{Ended, record_text}
 use Rattle.m51_sim.specs.Runs.{Machine, State, record_of}
 use Rattle.m51_shelf.specs.Writing.{SinkState}
-use Rattle.m51_chain.specs.declared.status.Status.{Status}
-use Rattle.m51_chain.specs.declared.status.Status.TheVariants as status
 use Rattle.m51_shelf.specs.States.{KeepAt}
-use Rattle.m51_chain.specs.Outcome.{Answer, party_status, status_after, status_by, status_if}
-use Rattle.m51_chain.specs.Targets.{unkept_text}
-use Rattle.m51_chain.specs.Carried.{status_told, IsTextWritten, IsEnded, IsUnkept, Unkept, UnkeptCut}
+use Rattle.m51_party.specs.declared.party.PartyEnd.TheVariants as party_ends
+use Rattle.m51_sim.specs.declared.runs.RunEnd.TheVariants as ends
+use Rattle.m51_chain.specs.declared.status.Status.TheVariants as status
 
 -- a text that was written, and then another
 pub written_after : (status : Status) (front text : List ℕ) (before between after : SinkState)
@@ -48,9 +44,8 @@ pub run_written : {M : Type 0} (titles : List (List ℕ)) (machine : Machine M) 
     → IsTextWritten (status_by (record_of machine n first).event)
     (record_text titles (record_of machine n first)) old new
     (status_after end)
-run_written titles machine n first now old new ends.Finished ended fault = (rw (ended.event_is) refl, ended.text)
-run_written titles machine n first now old new (ends.Stopped event) ended fault = (rw (ended.event_is) refl, ended.text)
 run_written titles machine n first now old new ends.WriteFault ended fault = (fault refl, ended.front)
+run_written titles machine n first now old new end ended fault = (rw (ended.event_is) refl, ended.text)
 
 -- a party, as its text is written
 pub party_written : (boards : List BoardState) (n : ℕ) (old new : SinkState) (end : PartyEnd)
@@ -58,6 +53,5 @@ pub party_written : (boards : List BoardState) (n : ℕ) (old new : SinkState) (
     → (end ≡ party_ends.WriteFault → Rose old.faults new.faults)
     → IsTextWritten (status_if (has_event (family_of boards n))) (party_text boards n (family_of boards n)) old new
     (party_status end)
-party_written boards n old new party_ends.Finished report fault = (sym (ap status_if report.0), report.1)
-party_written boards n old new party_ends.Stopped report fault = (sym (ap status_if report.0), report.1)
 party_written boards n old new party_ends.WriteFault report fault = (fault refl, report)
+party_written boards n old new end report fault = (sym (ap status_if report.0), report.1)

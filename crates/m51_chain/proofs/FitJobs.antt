@@ -1,19 +1,19 @@
 -- A job of asm has one source, one of gen makes 1 to 100 units, and one of party has 2 to 8 sources.
-use Rattle.m51_chain.proofs.Common.{◌≡◌, ◌≤◌, ℕ, true, List, [], ◌∷◌, Option, Some, None, refl, subst, Job}
-use Rattle.std.proofs.Common.{take, Bool, false, cond}
-use Rattle.std.specs.Prelude.{option_map, option_and_then, count_by, ◌==◌, codes}
+use Rattle.m51_chain.proofs.Common.{Bool, Job, List, None, Option, Some, [], cond, false, refl, subst, take, true, ℕ}
+use Rattle.m51_chain.proofs.Common.{◌∷◌, ◌≡◌, ◌≤◌}
+use Rattle.std.proofs.lemmas.Bool.{and_parts, leb-true, eqb-true}
+use Rattle.std.specs.Prelude.{codes, option_map, option_and_then, count_by}
+use Rattle.m51_jobs.specs.Endings.{is_source, are_assembled, are_boards}
+use Rattle.m51_args.specs.Jobs.{job_of, asked, asm_files, asm_of, asm_with, gen_with, steps_in, build_of, lib_of}
+use Rattle.m51_args.specs.Jobs.{flat_of, gen_of, link_of, party_files, party_of, party_with, job_by}
 use Rattle.std.specs.Str.{bytes_eq}
 use Rattle.std.specs.Str.Parse.{digits_value}
 use Rattle.std.proofs.lemmas.Option.{cond_some}
-use Rattle.std.proofs.lemmas.Bool.{and_parts, eqb-true, leb-true}
 use Rattle.clap.specs.Words.{App, Row}
 use Rattle.m51_jobs.specs.declared.job.Job.TheVariants.{Build, Asm, Library, Flat, Gen, Dis, Stack, Party}
 use Rattle.m51_jobs.specs.Numbers.{decimal_within, start_of, units_of}
-use Rattle.m51_jobs.specs.Endings.{are_assembled, are_boards, is_source}
 use Rattle.m51_args.specs.Commands.{build_app, asm_app, lib_app, flat_app, gen_app, dis_app, stack_app, party_app}
 use Rattle.m51_args.specs.Commands.{rows_in, option_value, words_of}
-use Rattle.m51_args.specs.Jobs.{asked, asm_files, asm_of, asm_with, gen_with, steps_in, build_of, lib_of, flat_of}
-use Rattle.m51_args.specs.Jobs.{gen_of, link_of, party_files, party_of, party_with, job_by, job_of}
 use Rattle.m51_chain.specs.Asked.{IsFit}
 
 -- what is known of a job, if there is one
@@ -21,44 +21,33 @@ abbrev HasOne : Option Job → Type 0
 HasOne None = Unit {0}
 HasOne (Some job) = IsFit job
 
-is_one : (n : ℕ) → (n == 1) ≡ true → n ≡ 1
-is_one n h = eqb-true n 1 h
-
-one_source : (files : List (List ℕ)) → are_assembled files ≡ true → count_by is_source files ≡ 1
-unfolding are_assembled
-one_source files h = is_one _ (and_parts _ _ h).1
+-- the job of what comes of an option
+mapped : {A B : Type 0} (of : B → Job) (go : A → Option B) (o : Option A) → ((a : A) → HasOne (option_map of (go a)))
+    → HasOne (option_map of (option_and_then go o))
+mapped of go None one = tt
+mapped of go (Some a) one = one a
 
 asm_one : (b : Bool) (files : List (List ℕ)) (out : Option (List ℕ)) → are_assembled files ≡ b
     → HasOne (option_map Asm (cond b (option_map (asm_with files) out) None))
-asm_one false files out is = tt
-asm_one true files None is = tt
-asm_one true files (Some o) is = one_source files is
-
-asm_words : (rows : List Row) (words : Option (List (List ℕ)))
-    → HasOne (option_map Asm (option_and_then (asm_files rows) words))
-asm_words rows None = tt
-asm_words rows (Some files) = asm_one (are_assembled files) files _ refl
+unfolding are_assembled
+asm_one true files (Some o) is = eqb-true (count_by is_source files) 1 (and_parts _ _ is).1
+asm_one b files out is = tt
 
 asm_rows : (rows : Option (List Row)) → HasOne (option_map Asm (option_and_then asm_of rows))
 unfolding asm_of
-asm_rows None = tt
-asm_rows (Some rows) = asm_words rows (words_of rows)
+asm_rows rows =
+    mapped Asm asm_of rows (λ rs. mapped Asm (asm_files rs) (words_of rs) (λ files. asm_one _ files _ refl))
 
 party_one : (b : Bool) (rows : List Row) (files : List (List ℕ)) (steps : Option ℕ) → are_boards files ≡ b
     → HasOne (option_map Party (cond b (option_map (party_with rows files) steps) None))
-party_one false rows files steps is = tt
-party_one true rows files None is = tt
 party_one true rows files (Some n) is = is
-
-party_words : (rows : List Row) (words : Option (List (List ℕ)))
-    → HasOne (option_map Party (option_and_then (party_files rows) words))
-party_words rows None = tt
-party_words rows (Some files) = party_one (are_boards files) rows files _ refl
+party_one b rows files steps is = tt
 
 party_rows : (rows : Option (List Row)) → HasOne (option_map Party (option_and_then party_of rows))
 unfolding party_of
-party_rows None = tt
-party_rows (Some rows) = party_words rows (words_of rows)
+party_rows rows =
+    mapped Party party_of rows
+    (λ rs. mapped Party (party_files rs) (words_of rs) (λ files. party_one _ rs files _ refl))
 
 number_within : (most low high : ℕ) (text : List ℕ) (n : ℕ) → decimal_within most low high text ≡ Some n
     → (low ≤ n) × (n ≤ high)
@@ -82,18 +71,15 @@ units_within (Some text) n h = test_within (bytes_eq (take 1 text) (codes "0")) 
 gen_units : (units start steps : Option ℕ) → ((n : ℕ) → units ≡ Some n → (1 ≤ n) × (n ≤ 100))
     → HasOne (option_map Gen
     (option_and_then (λ u. option_and_then (λ s. option_map (gen_with u s) steps) start) units))
-gen_units None start steps within = tt
-gen_units (Some u) None steps within = tt
-gen_units (Some u) (Some s) None within = tt
 gen_units (Some u) (Some s) (Some n) within = within u refl
+gen_units units start steps within = tt
 
 gen_rows : (rows : Option (List Row)) → HasOne (option_map Gen (option_and_then gen_of rows))
 unfolding gen_of
-gen_rows None = tt
-gen_rows (Some rows) =
-    gen_units (option_and_then units_of (option_value (codes "units") rows))
-    (option_and_then start_of (option_value (codes "start") rows)) (steps_in rows)
-    (units_within (option_value (codes "units") rows))
+gen_rows rows = mapped Gen gen_of rows (λ rs.
+    gen_units (option_and_then units_of (option_value (codes "units") rs))
+    (option_and_then start_of (option_value (codes "start") rs)) (steps_in rs)
+    (units_within (option_value (codes "units") rs)))
 
 -- jobs of another verb
 other_one : {A : Type 0} (app : App) (job_in : List Row → Option A) (of : A → Job) (words : List (List ℕ))
@@ -126,38 +112,23 @@ first_one verb (one ∷ more) all = by_test (bytes_eq verb one.0) (first_one ver
     by_test true rest = all.0
     by_test false rest = rest
 
-abbrev from_dis : List (List ℕ) → List Verb
-from_dis words =
-    (codes "dis", asked dis_app link_of Dis words) ∷ (codes "stack", asked stack_app link_of Stack words)
-    ∷ (codes "party", asked party_app party_of Party words) ∷ []
-
-abbrev from_lib : List (List ℕ) → List Verb
-from_lib words =
-    (codes "lib", asked lib_app lib_of Library words) ∷ (codes "flat", asked flat_app flat_of Flat words)
-    ∷ (codes "gen", asked gen_app gen_of Gen words) ∷ from_dis words
-
 abbrev verbs_of : List (List ℕ) → List Verb
 verbs_of words =
     (codes "build", asked build_app build_of Build words) ∷ (codes "asm", asked asm_app asm_of Asm words)
-    ∷ from_lib words
+    ∷ (codes "lib", asked lib_app lib_of Library words) ∷ (codes "flat", asked flat_app flat_of Flat words)
+    ∷ (codes "gen", asked gen_app gen_of Gen words) ∷ (codes "dis", asked dis_app link_of Dis words)
+    ∷ (codes "stack", asked stack_app link_of Stack words) ∷ (codes "party", asked party_app party_of Party words) ∷ []
 
 verbs_one : (words : List (List ℕ)) → AreOne (verbs_of words)
 verbs_one words =
-    let after_gen : AreOne (from_dis words) = (
-      other_one dis_app link_of Dis words (λ job. tt),
-      (
-        other_one stack_app link_of Stack words (λ job. tt),
-        (party_rows (rows_in party_app words), tt),
-      ),
-    ) in
-    let after_asm : AreOne (from_lib words) = (
-      other_one lib_app lib_of Library words (λ job. tt),
-      (
-        other_one flat_app flat_of Flat words (λ job. tt),
-        (gen_rows (rows_in gen_app words), after_gen),
-      ),
-    ) in
-    (other_one build_app build_of Build words (λ job. tt), (asm_rows (rows_in asm_app words), after_asm))
+    let dis = other_one dis_app link_of Dis words (λ job. tt) in
+    let stack = other_one stack_app link_of Stack words (λ job. tt) in
+    let lib = other_one lib_app lib_of Library words (λ job. tt) in
+    let flat = other_one flat_app flat_of Flat words (λ job. tt) in
+    let build = other_one build_app build_of Build words (λ job. tt) in
+    let asm = asm_rows (rows_in asm_app words) in
+    let gen = gen_rows (rows_in gen_app words) in
+    (build, (asm, (lib, (flat, (gen, (dis, (stack, (party_rows (rows_in party_app words), tt))))))))
 
 words_one : (words : List (List ℕ)) → HasOne (job_of words)
 unfolding job_by

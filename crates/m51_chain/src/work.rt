@@ -72,7 +72,7 @@ pub(crate) struct Finished {
 }
 
 // This text is written, and nothing is kept.
-#[tactic(auto, using(crate::proofs::Ends::ran_alone))]
+#[tactic(auto, using(crate::proofs::Following::ran_alone))]
 pub(crate) fn text_alone(text: Vec<u8>) -> Finished
     ensures { outcome_of result ≡ written text.items }
 {

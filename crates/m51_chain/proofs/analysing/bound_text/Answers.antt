@@ -1,4 +1,4 @@
-use Rattle.m51_chain.proofs.Bounded.{bound_of_layout}
+use Rattle.m51_chain.proofs.Built.{bound_of_layout}
 use Rattle.m51_chain.proofs.analysing.bound_text.Goals as goal
 
 pub stack_text-requires : goal.stack_text-requires

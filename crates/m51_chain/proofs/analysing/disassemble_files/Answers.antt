@@ -1,5 +1,4 @@
-use Rattle.m51_chain.proofs.Common.{link_files}
-use Rattle.m51_chain.specs.Analyses.{IsDisassembled}
+use Rattle.m51_chain.specs.Analyses.{IsDisassembled, link_files}
 use Rattle.m51_chain.proofs.Following.{came, files_refused, linked_comes}
 use Rattle.m51_chain.proofs.analysing.disassemble_files.Goals as goal
 

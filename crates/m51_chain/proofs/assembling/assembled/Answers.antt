@@ -1,5 +1,5 @@
-use Rattle.m51_chain.proofs.Common.{Gives, IsAnswer}
-use Rattle.m51_chain.proofs.Listed.{answered_rows}
+use Rattle.m51_asm.specs.Answer.{Gives, IsAnswer}
+use Rattle.m51_chain.proofs.Built.{answered_rows}
 use Rattle.m51_chain.proofs.assembling.assembled.Goals as goal
 
 pub list-requires : goal.list-requires

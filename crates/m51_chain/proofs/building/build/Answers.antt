@@ -1,5 +1,5 @@
-use Rattle.m51_chain.proofs.Common.{IsReport}
-use Rattle.m51_chain.specs.Builds.{build_files}
+use Rattle.m51_chain.proofs.Common.{build_files}
+use Rattle.m51_chain.specs.Programs.{IsReport}
 use Rattle.m51_chain.proofs.Following.{came, files_refused, follows}
 use Rattle.m51_chain.proofs.PlannedRuns.{run_of_files}
 use Rattle.m51_chain.proofs.building.build.Goals as goal

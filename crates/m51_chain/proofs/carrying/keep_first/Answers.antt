@@ -1,6 +1,5 @@
-use Rattle.std.proofs.Common.{◌≡◌, ◌∙◌, refl, sym, ap}
+use Rattle.m51_chain.proofs.Common.{ap, refl, sym, unkept_text, ◌∙◌, ◌≡◌}
 use Rattle.m51_chain.specs.Outcome.{file_of}
-use Rattle.m51_chain.specs.Targets.{unkept_text}
 use Rattle.m51_chain.proofs.Carries.{unkept_ended}
 use Rattle.m51_chain.proofs.carrying.keep_first.Goals as goal
 

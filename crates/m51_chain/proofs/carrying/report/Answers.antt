@@ -1,5 +1,5 @@
-use Rattle.m51_cells.proofs.Fronts.{front_more}
 use Rattle.m51_sim.proofs.Tellings.{front_of_stop}
+use Rattle.m51_cells.proofs.Fronts.{front_more}
 use Rattle.m51_chain.proofs.Carries.{written_after}
 use Rattle.m51_chain.proofs.carrying.report.Goals as goal
 

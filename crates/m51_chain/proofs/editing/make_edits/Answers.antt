@@ -1,5 +1,4 @@
-use Rattle.std.proofs.Common.{◌∙◌, ap, sym}
-use Rattle.m51_chain.specs.Edits.{edited_each}
+use Rattle.m51_chain.proofs.Common.{ap, edited_each, sym, ◌∙◌}
 use Rattle.m51_chain.proofs.Edits.{none_left}
 use Rattle.m51_chain.proofs.editing.make_edits.Goals as goal
 

@@ -1,5 +1,4 @@
-use Rattle.std.proofs.Common.{◌≡◌, length}
-use Rattle.m51_chain.specs.Edits.{edited_each}
+use Rattle.m51_chain.proofs.Common.{edited_each, length, ◌≡◌}
 use Rattle.m51_chain.proofs.editing.make_edits.Given as goal
 
 abbrev pub invariant-loop-edit : goal.invariant-loop-edit

@@ -1,4 +1,4 @@
-use Rattle.std.proofs.Common.{◌≡◌, ◌++◌, drop, map}
+use Rattle.m51_chain.proofs.Common.{drop, map, ◌++◌, ◌≡◌}
 use Rattle.m51_chain.specs.Edits.{name_edit}
 use Rattle.m51_chain.proofs.editing.name_edits.Given as goal
 

@@ -1,5 +1,5 @@
-use Rattle.std.proofs.Common.{◌∙◌, ◌++◌, ◌∷◌, [], ap, arith}
-use Rattle.m51_chain.proofs.Objects.{next_object}
+use Rattle.m51_chain.proofs.Common.{[], ap, arith, ◌++◌, ◌∙◌, ◌∷◌}
+use Rattle.m51_chain.proofs.Edits.{next_object}
 use Rattle.m51_chain.proofs.editing.object_edits.Goals as goal
 
 pub loop-at-preserved : goal.loop-at-preserved

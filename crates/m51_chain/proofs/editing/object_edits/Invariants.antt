@@ -1,6 +1,5 @@
-use Rattle.std.proofs.Common.{◌≡◌, drop}
-use Rattle.m51_chain.specs.Edits.{object_edits}
-use Rattle.m51_chain.proofs.Objects.{edits_before}
+use Rattle.m51_chain.proofs.Common.{drop, object_edits, ◌≡◌}
+use Rattle.m51_chain.proofs.Edits.{edits_before}
 use Rattle.m51_chain.proofs.editing.object_edits.Given as goal
 
 abbrev pub invariant-loop-at : goal.invariant-loop-at

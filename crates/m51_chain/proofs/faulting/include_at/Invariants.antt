@@ -1,4 +1,5 @@
-use Rattle.std.proofs.Common.{◌≡◌, drop, slice_get}
+use Rattle.m51_chain.proofs.Common.{drop, ◌≡◌}
+use Rattle.std.proofs.Common.{slice_get}
 use Rattle.std.specs.List.{filter}
 use Rattle.m51_jobs.specs.Endings.{is_include}
 use Rattle.m51_chain.proofs.faulting.include_at.Given as goal

@@ -1,4 +1,4 @@
-use Rattle.std.proofs.Common.{◌≡◌, ◌++◌, drop}
+use Rattle.m51_chain.proofs.Common.{drop, ◌++◌, ◌≡◌}
 use Rattle.m51_chain.specs.FaultLines.{fault_lines}
 use Rattle.m51_chain.proofs.faulting.push_faults.Given as goal
 

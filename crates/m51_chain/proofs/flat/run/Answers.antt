@@ -1,4 +1,4 @@
-use Rattle.m51_chain.proofs.Ends.{flat_report_is}
+use Rattle.m51_chain.proofs.Following.{flat_report_is}
 use Rattle.m51_chain.proofs.flat.run.Goals as goal
 
 pub returns : goal.returns

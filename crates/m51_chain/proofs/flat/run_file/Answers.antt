@@ -1,9 +1,7 @@
-use Rattle.std.proofs.Common.{◌≡◌, length, refl, subst}
+use Rattle.m51_chain.proofs.Common.{IMAGE_LEN, hex_outcome, length, refl, subst, ◌≡◌}
+use Rattle.m51_chain.specs.FlatRuns.{IsScripted, HexRead, HexRefused, IsFlatWork}
 use Rattle.m51_hex.specs.Reading.{memory_from, image_refusal}
-use Rattle.m51_module.specs.declared.image.TheConstants.{IMAGE_LEN}
-use Rattle.m51_chain.specs.FlatRuns.{HexRead, HexRefused, IsFlatWork, IsScripted}
-use Rattle.m51_chain.specs.Refusals.{hex_outcome}
-use Rattle.m51_chain.proofs.Ends.{comes_weaker, refused_comes}
+use Rattle.m51_chain.proofs.Following.{comes_weaker, refused_comes}
 use Rattle.m51_chain.proofs.flat.run_file.Goals as goal
 
 pub returns-in-Ok : goal.returns-in-Ok

@@ -1,8 +1,7 @@
-use Rattle.std.proofs.Common.{refl}
-use Rattle.m51_script.specs.Reading.{script_refusal}
+use Rattle.m51_chain.proofs.Common.{refl, script_outcome}
 use Rattle.m51_chain.specs.FlatRuns.{IsScripted, Ran, ScriptRefused}
-use Rattle.m51_chain.specs.ScriptRefusals.{script_outcome}
-use Rattle.m51_chain.proofs.Ends.{refused_comes}
+use Rattle.m51_script.specs.Reading.{script_refusal}
+use Rattle.m51_chain.proofs.Following.{refused_comes}
 use Rattle.m51_chain.proofs.flat.run_image.Goals as goal
 
 pub returns-in_ok-run-in-Ok : goal.returns-in_ok-run-in-Ok

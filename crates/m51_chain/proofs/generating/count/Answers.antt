@@ -1,7 +1,7 @@
-use Rattle.m51_chain.proofs.Common.{[], Gives, IsAnswer, IsCounted, IsProgramOutcome, sole_program}
-use Rattle.m51_generator.specs.Lines.{generated}
-use Rattle.m51_chain.specs.Generates.{IsGenOutcome}
-use Rattle.m51_chain.proofs.Ends.{comes_weaker}
+use Rattle.m51_chain.proofs.Common.{IsProgramOutcome, [], generated, sole_program}
+use Rattle.m51_asm.specs.Answer.{Gives, IsAnswer}
+use Rattle.m51_chain.specs.Generates.{IsCounted, IsGenOutcome}
+use Rattle.m51_chain.proofs.Following.{comes_weaker}
 use Rattle.m51_chain.proofs.generating.count.Goals as goal
 
 pub returns : goal.returns

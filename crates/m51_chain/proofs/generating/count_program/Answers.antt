@@ -1,4 +1,4 @@
-use Rattle.m51_chain.proofs.Common.{Ok, Err, IfSome_then, IsCounted, Follows, IsLinkedOr, sole_program}
+use Rattle.m51_chain.proofs.Common.{Err, Follows, IfSome_then, IsLinkedOr, Ok, sole_program}
 use Rattle.m51_chain.proofs.Following.{came, unlinked}
 use Rattle.m51_chain.proofs.generating.count_program.Goals as goal
 
@@ -11,4 +11,4 @@ pub returns-in_err-linked : goal.returns-in_err-linked
 returns-in_err-linked c =
     let is : IsLinkedOr (sole_program c.args.parts) (Err c.in_err-linked.field-0.0) = c.in_err-linked.ensures.answer in
     rw (came c.from_residual.result _ c.from_residual.ensures.1)
-    (IfSome_then _ is (unlinked _ (IsCounted c.args.steps)))
+    (IfSome_then _ is (λ o it. unlinked it))

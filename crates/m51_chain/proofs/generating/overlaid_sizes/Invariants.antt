@@ -1,4 +1,5 @@
-use Rattle.std.proofs.Common.{◌≡◌, ◌≤◌, ◌+◌, ◌*◌, drop}
+use Rattle.m51_chain.proofs.Common.{drop, ◌+◌, ◌≡◌, ◌≤◌}
+use Rattle.std.proofs.Common.{◌*◌}
 use Rattle.m51_chain.specs.Generates.{overlaid_sizes}
 use Rattle.m51_chain.proofs.generating.overlaid_sizes.Given as goal
 

@@ -1,4 +1,4 @@
-use Rattle.m51_chain.proofs.Common.{◌≡◌, ◌++◌, drop}
+use Rattle.m51_chain.proofs.Common.{drop, ◌++◌, ◌≡◌}
 use Rattle.m51_chain.specs.InputRefusals.{faults_text}
 use Rattle.m51_chain.proofs.input_refusing.faults_text.Given as goal
 

@@ -1,5 +1,4 @@
-use Rattle.m51_chain.proofs.Common.{◌++◌, ◌∷◌, [], ◌∙◌, sym, ap}
-use Rattle.std.proofs.Common.{append_assoc}
+use Rattle.m51_chain.proofs.Common.{[], ap, append_assoc, sym, ◌++◌, ◌∙◌, ◌∷◌}
 use Rattle.m51_chain.proofs.Following.{came}
 use Rattle.m51_chain.proofs.Joined.{for_all, for_more, for_none, for_refused}
 use Rattle.m51_chain.proofs.joining.boards_alone.Goals as goal

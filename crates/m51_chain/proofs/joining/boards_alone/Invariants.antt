@@ -1,5 +1,4 @@
-use Rattle.m51_chain.proofs.Common.{◌≡◌, ◌++◌, List, length, ModuleParts}
-use Rattle.m51_chain.specs.Parties.{AreBoardsFor}
+use Rattle.m51_chain.proofs.Common.{AreBoardsFor, List, ModuleParts, length, ◌++◌, ◌≡◌}
 use Rattle.m51_chain.proofs.joining.boards_alone.Given as goal
 
 abbrev pub invariant-loop-parts : goal.invariant-loop-parts

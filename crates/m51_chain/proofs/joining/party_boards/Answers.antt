@@ -1,5 +1,4 @@
-use Rattle.m51_chain.proofs.Common.{IsPartyWork, party_files}
-use Rattle.m51_inputs.specs.Inputs.{inputs_tree}
+use Rattle.m51_chain.proofs.Common.{IsPartyWork, inputs_tree, party_files}
 use Rattle.m51_chain.proofs.Accepted.{party_given}
 use Rattle.m51_chain.proofs.Following.{came, file_refused}
 use Rattle.m51_chain.proofs.Joined.{joined}

@@ -1,8 +1,8 @@
-use Rattle.m51_chain.proofs.Common.{◌+◌, length, Err, refl, AreAnswered, IsFilesOutcome, Nothing, ProgramFiles, Refused}
+use Rattle.m51_chain.proofs.Common.{Err, length, refl, ◌+◌}
+use Rattle.m51_chain.specs.ProgramFiles.{AreAnswered, IsFilesOutcome, Nothing, ProgramFiles, Refused, program_files}
 use Rattle.std.specs.Prelude.{option_to_list}
 use Rattle.std.proofs.lemmas.List.{take_rest}
-use Rattle.m51_chain.specs.ProgramFiles.{program_files}
-use Rattle.m51_chain.proofs.InputsGiven.{error_told}
+use Rattle.m51_chain.proofs.Following.{error_told}
 use Rattle.m51_chain.proofs.linking.inputs_in.Goals as goal
 
 pub returns-in_ok-refuse_inputs-in-Err : goal.returns-in_ok-refuse_inputs-in-Err

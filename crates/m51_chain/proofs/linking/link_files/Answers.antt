@@ -1,6 +1,6 @@
-use Rattle.m51_chain.proofs.Common.{Err, IsInputsOutcome, IsLinkedOr, program_in, Nothing}
-use Rattle.m51_inputs.specs.Inputs.{inputs_tree}
-use Rattle.m51_chain.specs.ProgramFiles.{program_files}
+use Rattle.m51_chain.proofs.Common.{Err, IsInputsOutcome, IsLinkedOr, inputs_tree}
+use Rattle.m51_chain.specs.Linking.{program_in}
+use Rattle.m51_chain.specs.ProgramFiles.{Nothing, program_files}
 use Rattle.m51_chain.proofs.Following.{came, file_refused, inputs_refused}
 use Rattle.m51_chain.proofs.linking.link_files.Goals as goal
 

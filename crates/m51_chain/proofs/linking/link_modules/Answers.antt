@@ -1,8 +1,8 @@
-use Rattle.m51_chain.proofs.Common.{refl, IsProgramOutcome, Unlinked, Nothing}
+use Rattle.m51_chain.proofs.Common.{IsProgramOutcome, Unlinked, link_outcome, refl}
+use Rattle.m51_chain.specs.ProgramFiles.{Nothing}
 use Rattle.m51_linker.specs.Link.{program_of}
 use Rattle.m51_resolve.specs.Rules.{but_memory}
-use Rattle.m51_chain.specs.LinkRefusals.{link_outcome}
-use Rattle.m51_chain.proofs.Ends.{refused_comes}
+use Rattle.m51_chain.proofs.Following.{refused_comes}
 use Rattle.m51_chain.proofs.linking.link_modules.Goals as goal
 
 pub returns-in_ok-refuse_link-in-Err-clause-answer : goal.returns-in_ok-refuse_link-in-Err-clause-answer

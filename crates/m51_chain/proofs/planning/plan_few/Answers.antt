@@ -1,5 +1,5 @@
-use Rattle.std.proofs.Common.{rules}
 use Rattle.m51_chain.specs.Outcome.{long_answer}
+use Rattle.std.proofs.Common.{rules}
 use Rattle.m51_chain.proofs.PlannedRuns.{build_refused, build_task}
 use Rattle.m51_chain.proofs.planning.plan_few.Goals as goal
 

@@ -1,5 +1,4 @@
-use Rattle.m51_chain.proofs.Planned.{work_outcome}
-use Rattle.m51_chain.proofs.PlannedRuns.{build_planned}
+use Rattle.m51_chain.proofs.PlannedRuns.{build_planned, work_outcome}
 use Rattle.m51_chain.proofs.planning.work_planned.Goals as goal
 
 pub returns-clause-outcome : goal.returns-clause-outcome

@@ -1,6 +1,5 @@
-use Rattle.std.proofs.Common.{◌≡◌, ◌⊎◌, take}
+use Rattle.m51_chain.proofs.Common.{AreGiven, AreRead, ReadsSome, take, ◌≡◌, ◌⊎◌}
 use Rattle.m51_shelf.specs.States.{OnlyReads}
-use Rattle.m51_chain.specs.Reading.{AreGiven, AreRead, ReadsSome}
 use Rattle.m51_chain.proofs.reading.read_all.Given as goal
 
 abbrev pub invariant-loop-name : goal.invariant-loop-name

@@ -1,4 +1,4 @@
-use Rattle.std.proofs.Common.{◌≡◌, ℕ, List, ◌++◌, drop}
+use Rattle.m51_chain.proofs.Common.{List, drop, ℕ, ◌++◌, ◌≡◌}
 use Rattle.std.specs.Prelude.{fold}
 use Rattle.m51_jobs.specs.Texts.{lent}
 use Rattle.m51_chain.specs.Refusals.{joined_texts}

@@ -1,4 +1,4 @@
-use Rattle.m51_chain.proofs.Common.{◌≡◌, ◌+◌, drop}
+use Rattle.m51_chain.proofs.Common.{drop, ◌+◌, ◌≡◌}
 use Rattle.m51_chain.specs.Programs.{filled_by}
 use Rattle.m51_chain.proofs.reporting.filled.Given as goal
 

@@ -1,5 +1,4 @@
-use Rattle.m51_chain.proofs.Chained.{heaviest_name}
-use Rattle.m51_chain.proofs.Ready.{ready_few}
+use Rattle.m51_chain.proofs.Built.{heaviest_name, ready_few}
 use Rattle.m51_chain.proofs.reporting.map_and_run.Goals as goal
 
 pub filled-bytes-requires : goal.filled-bytes-requires

@@ -1,7 +1,4 @@
-use Rattle.m51_chain.proofs.Causes.{due_caused}
-use Rattle.m51_chain.proofs.Completed.{completed}
-use Rattle.m51_chain.proofs.Dues.{due_told}
-use Rattle.m51_chain.proofs.Holding.{holds_but_kept}
+use Rattle.m51_chain.proofs.Completed.{completed, due_caused, due_told, holds_but_kept}
 use Rattle.m51_chain.proofs.top.chain.Goals as goal
 
 pub returns-in-Ok-clause-told : goal.returns-in-Ok-clause-told

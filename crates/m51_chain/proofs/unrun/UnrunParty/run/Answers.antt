@@ -1,6 +1,5 @@
-use Rattle.m51_chain.proofs.Common.{List, subst, BoardState}
-use Rattle.m51_party.specs.Report.{IsPartyReport, boards_of}
-use Rattle.m51_party.specs.Rounds.{family_of}
+use Rattle.m51_chain.proofs.Common.{BoardState, IsPartyReport, List, family_of, subst}
+use Rattle.m51_party.specs.Report.{boards_of}
 use Rattle.m51_party.proofs.One.{only_family}
 use Rattle.m51_chain.proofs.unrun.UnrunParty.run.Goals as goal
 

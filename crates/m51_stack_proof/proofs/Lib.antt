@@ -1,5 +1,3 @@
-mod Common
-mod Instructions
 pub mod Meeting
 mod Steps
 pub mod Bounded

@@ -1,12 +1,7 @@
 pub mod Common
-pub mod RowsDecoded
-pub mod InstructionsCut
 pub mod StatementsRead
-pub mod TextRead
-pub mod PartsInOrder
-pub mod SoundLines
 pub mod LinesStand
-pub mod PartsPassed
+pub mod SoundLines
+pub mod TextRead
 pub mod StatementsBack
-pub mod PartPieces
 pub mod Reassembled

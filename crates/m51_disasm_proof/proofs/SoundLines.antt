@@ -1,24 +1,207 @@
--- The statements of a part follow one another from its base to its end. Each line can be written, and labels ascend
+-- What bytes are decoded as has these bytes and numbers that its fields have room for. The statements of a part follow
+-- one another from its base to its end, each line can be written, and labels ascend.
 use Rattle.m51_disasm_proof.proofs
-use proofs.Common.{◌%◌, ◌++◌, ◌+◌, ◌-◌, ◌<◌, ◌∷◌, ◌≡◌, ◌≤◌, AreBytes, AreSlots, Bool, CodeRange, Content, Field, Instr}
-use proofs.Common.{List, None, Option, Plain, Slot, Some, SourceLine, Statement, Target, [], ap, append_assoc, arith}
-use proofs.Common.{beginnings, common_steps, cond, field_in, flat_map, is_among, length_in, map, nat_le, not, refl}
-use proofs.Common.{slice_index, statements_of, suc, sym, targets, text_of, true, written_target, zero, ℕ}
-use Rattle.std.proofs.lemmas.Bool.{and_parts, cond_both, leb-true}
+use proofs.Common.{AreBytes, AreSlots, AtR, Bool, CodeRange, Content, Field, HasRoom, IfSome, Imm, Instr, IsAddress}
+use proofs.Common.{IsContent, IsLabel, IsSlot, IsTarget, List, None, Nop, NotBit, Option, Plain, R, Slot, Some}
+use proofs.Common.{SourceLine, Statement, Target, Text, [], ap, append_assoc, arith, beginnings, common_steps, cond}
+use proofs.Common.{cond_both, encoded, false, field_in, flat_map, is_among, length_in, length_of, map, nat_lt}
+use proofs.Common.{nat_tests, near, not, number_of_slot, option_map, refl, relative, slice_index, slot_address}
+use proofs.Common.{statement_lines, statements_of, suc, sym, take, target_by, targets, text_of, true, written_target}
+use proofs.Common.{zero, ℕ, ◌%◌, ◌&&◌, ◌++◌, ◌+◌, ◌-◌, ◌/◌, ◌<◌, ◌==◌, ◌||◌, ◌∙◌, ◌∷◌, ◌≡◌, ◌≤◌}
+use Rattle.m51_disasm.specs.Lines.{line_of, lines_of, part_lines}
+use Rattle.m51_disasm.specs.Statements.{address_by, address_of, can_stand, content_of, instr_in_image, statement_at}
+use Rattle.m51_disasm.specs.Statements.{statement_target, statements_from}
 use Rattle.m51_isa.proofs.Codes.{rows_are_short}
-use Rattle.m51_isa.specs.Table.{length_of}
-use Rattle.m51_isa.specs.Targets.{near, relative}
-use Rattle.m51_isa.specs.declared.slot.Field.TheVariants as field
-use Rattle.m51_disasm.specs.Lines.{line_of, lines_of, part_lines, statement_lines}
-use Rattle.m51_disasm.specs.Statements.{address_by, all_inside, can_stand, content_of, instr_in_image, slot_address}
-use Rattle.m51_disasm.specs.Statements.{statement_at, statement_target, statements_from, target_by}
-use Rattle.m51_disasm.specs.declared.line.SourceLine.TheVariants as line
+use Rattle.m51_isa.specs.Table.{decoded_at}
+use Rattle.std.proofs.Common.{get_or, ◌*◌}
+use Rattle.std.proofs.lemmas.List.FromFn.{get_or-map-range_with_len}
+use Rattle.std.specs.List.{range_with_len}
+use Rattle.std.specs.Option.{option_or}
 use Rattle.m51_disasm.specs.declared.statement.Content.TheVariants as content
-use Rattle.m51_disasm_proof.specs.Sound.{IsAddress, IsContent, IsLabel, IsSlot, IsTarget}
-use proofs.PartsInOrder.{AreInOrder}
-use proofs.RowsDecoded.{AreLed, FitsIn, FitsSlot, IsDecoded, IsLed, LeadsTo, decoded_rows, is_data, is_usual, rows_led}
-use proofs.RowsDecoded.{rows_usual}
-use proofs.LinesStand.{AreGood, LiesFrom, after_label}
+use Rattle.m51_isa.specs.declared.slot.Field.TheVariants as field
+use Rattle.m51_disasm.specs.declared.line.SourceLine.TheVariants as line
+use Rattle.m51_disasm.specs.declared.line.Target.TheVariants as target
+use proofs.LinesStand.{AreGood, AreInOrder, LiesFrom, after_label}
+
+-- ---- room in fields
+
+abbrev pub FitsIn : Field → ℕ → Type 0
+FitsIn field.Data16 n = n < 65536
+FitsIn field.Addr16 n = n < 65536
+FitsIn field.Addr11 n = n < 2048
+FitsIn at n = n < 256
+
+-- the number of an operand has room where it is written
+abbrev pub FitsSlot : Slot → Type 0
+FitsSlot (R n) = n < 8
+FitsSlot (AtR n) = n < 2
+FitsSlot (Imm f) = FitsIn f.field f.number
+FitsSlot (Plain f) = FitsIn f.field f.number
+FitsSlot (NotBit f) = FitsIn f.field f.number
+FitsSlot s = Unit {0}
+
+-- so a field holds it
+pub slot_kept : (s : Slot) → FitsSlot s → HasRoom s
+slot_kept s h = grind (arith, common_steps)
+
+-- an instruction that these bytes are decoded as
+pub record IsDecoded (bytes : List ℕ) (i : Instr) : Type 0 where
+  pub row : encoded i ≡ take (length_of i) bytes
+  pub first : FitsSlot (text_of i).first
+  pub second : FitsSlot (text_of i).second
+  pub third : FitsSlot (text_of i).third
+
+-- ---- all opcodes
+
+pub and_all : (a b c : Bool) → (a && b && c) ≡ true → (a ≡ true) × (b ≡ true) × (c ≡ true)
+and_all a b c h = grind (arith, common_steps)
+
+abbrev is_fit : Slot → Bool
+is_fit (R n) = nat_lt n 8
+is_fit (AtR n) = nat_lt n 2
+is_fit s = true
+
+abbrev all_fit : Text → Bool
+all_fit t = is_fit t.first && is_fit t.second && is_fit t.third
+
+module _ (second third : ℕ) where
+  -- the number in a field that begins at a byte
+  abbrev in_field : ℕ → Field → ℕ → ℕ
+  in_field first field.Data16 byte = second * 256 + third
+  in_field first field.Addr16 byte = second * 256 + third
+  in_field first field.Addr11 byte = first / 32 * 256 + second
+  in_field first at byte = cond (byte == 1) second third
+
+  abbrev in_slot : ℕ → Slot → ℕ
+  in_slot first (Imm f) = in_field first f.field f.byte
+  in_slot first (Plain f) = in_field first f.field f.byte
+  in_slot first (NotBit f) = in_field first f.field f.byte
+  in_slot first s = 0
+
+  -- the three bytes, as rows of an addr11 and of a word write them
+  abbrev written_by : ℕ → Bool → Bool → List ℕ
+  written_by first true word =
+      (first % 32 + 32 * ((first / 32 * 256 + second) / 256)) ∷ ((first / 32 * 256 + second) % 256) ∷ third ∷ []
+  written_by first false true = first ∷ ((second * 256 + third) / 256) ∷ ((second * 256 + third) % 256) ∷ []
+  written_by first false false = first ∷ second ∷ third ∷ []
+
+  abbrev written : ℕ → List ℕ
+  written first = written_by first (first % 16 == 1) (first == 0x02 || (first == 0x12 || first == 0x90))
+
+  -- what is compared: the bytes, the numbers, and whether registers exist
+  abbrev Seen : Type 0
+  Seen = List ℕ × List ℕ × Bool
+
+  abbrev seen : List ℕ → (Slot → ℕ) → Bool → Text → Seen
+  seen bytes number fit t = (bytes, number t.first ∷ number t.second ∷ number t.third ∷ [], fit)
+
+  abbrev of_row : ℕ → Instr → Seen
+  of_row first i = seen (encoded i) number_of_slot (all_fit (text_of i)) (text_of i)
+
+  abbrev of_bytes : ℕ → Instr → Seen
+  of_bytes first i = seen (take (length_of i) (written first)) (in_slot first) true (text_of i)
+
+  abbrev shown_as : (ℕ → Instr → Seen) → ℕ → Option Seen
+  shown_as f first = option_map (f first) (decoded_at first second third)
+
+  all_are : map (shown_as of_row) (range_with_len 0 256) ≡ map (shown_as of_bytes) (range_with_len 0 256)
+  all_are = refl
+
+  one_is : (first : ℕ) → first < 256 → shown_as of_row first ≡ shown_as of_bytes first
+  one_is first f =
+      sym (get_or-map-range_with_len (shown_as of_row) 0 256 first first None f (omega arith))
+      ∙ ap (λ (seen : List (Option Seen)). get_or seen first None) all_are
+      ∙ get_or-map-range_with_len (shown_as of_bytes) 0 256 first first None f (omega arith)
+
+module _ (first second third : ℕ) (f : first < 256) (s : second < 256) (t : third < 256) where
+  written_is : (b c : Bool) → written_by second third first b c ≡ first ∷ second ∷ third ∷ []
+  written_is b c = grind (arith, common_steps)
+
+  field_fits : (at : Field) (byte : ℕ) → FitsIn at (in_field second third first at byte)
+  field_fits at byte = grind (arith, common_steps)
+
+  slot_fits : (x : Slot) → is_fit x ≡ true → number_of_slot x ≡ in_slot second third first x → FitsSlot x
+  slot_fits x fit e = grind (arith, common_steps, field_fits)
+
+  by_row : (o : Option Instr)
+      → option_map (of_row second third first) o ≡ option_map (of_bytes second third first) o
+      → IfSome o (IsDecoded (first ∷ second ∷ third ∷ []))
+  by_row None e = tt
+  by_row (Some i) e =
+      let same : of_row second third first i ≡ of_bytes second third first i = cc e in
+      let fit = and_all (is_fit (text_of i).first) (is_fit (text_of i).second) (is_fit (text_of i).third)
+      (ap (λ (x : Seen second third). x.2) same) in
+      let numbers = ap (λ (x : Seen second third). x.1) same in
+      record {
+        row = grind (arith, common_steps, written_is);
+        first = slot_fits (text_of i).first fit.0 (cc numbers);
+        second = slot_fits (text_of i).second fit.1 (cc numbers);
+        third = slot_fits (text_of i).third fit.2 (cc numbers);
+      }
+
+  -- what three bytes are decoded as is written with them, and its numbers have room
+  pub decoded_rows : IfSome (decoded_at first second third) (IsDecoded (first ∷ second ∷ third ∷ []))
+  decoded_rows = by_row (decoded_at first second third) (one_is second third first f)
+
+abbrev pub is_data : Field → Bool
+is_data field.Data = true
+is_data field.Data16 = true
+is_data other = false
+
+abbrev pub is_bit : Field → Bool
+is_bit field.Bit = true
+is_bit other = false
+
+-- data are written after #, an address is not, and only a bit is written after /
+abbrev pub is_usual : Slot → Bool
+is_usual (Imm f) = is_data f.field
+is_usual (Plain f) = not (is_data f.field)
+is_usual (NotBit f) = is_bit f.field
+is_usual s = true
+
+pub rows_usual : (i : Instr) → (is_usual (text_of i).first ≡ true) × (is_usual (text_of i).second ≡ true)
+    × (is_usual (text_of i).third ≡ true)
+rows_usual i = grind (arith, common_steps)
+
+-- a target that is written as a label or as a number
+pub record LeadsTo (address : ℕ) (t : Target) : Type 0 where
+  pub label : Bool
+  pub is : t ≡ cond label (target.Label address) (target.Number address)
+
+-- the address to which an operand leads, if there is one, is that of the target
+abbrev pub IsLed : Target → Option ℕ → Type 0
+IsLed t o = (address : ℕ) → o ≡ Some address → LeadsTo address t
+
+pub record AreLed (t : Target) (next : ℕ) (x : Text) : Type 0 where
+  pub first : IsLed t (slot_address next (field_in x.first))
+  pub second : IsLed t (slot_address next (field_in x.second))
+  pub third : IsLed t (slot_address next (field_in x.third))
+
+abbrev at_most_one : Option ℕ → Option ℕ → Option ℕ → Bool
+at_most_one None None c = true
+at_most_one None (Some b) None = true
+at_most_one (Some a) None None = true
+at_most_one a b c = false
+
+one_leads : (next : ℕ) (i : Instr)
+    → at_most_one (slot_address next (field_in (text_of i).first)) (slot_address next (field_in (text_of i).second))
+    (slot_address next (field_in (text_of i).third)) ≡ true
+unfolding address_by
+one_leads next Nop = refl
+one_leads next i = refl
+
+leads_to : (begin : List ℕ) (o : Option ℕ) → IsLed (written_target begin o) o
+leads_to begin o address e = rw e (record { label = is_among begin address; is = refl })
+
+by_option : (begin : List ℕ) (a b c : Option ℕ) → at_most_one a b c ≡ true
+    → let t = written_target begin (option_or a (option_or b c)) in IsLed t a × IsLed t b × IsLed t c
+by_option begin a b c one = grind (arith, common_steps, leads_to begin a, leads_to begin b, leads_to begin c)
+
+-- the operands of a row lead to the target that is written
+pub rows_led : (begin : List ℕ) (next : ℕ) (i : Instr)
+    → AreLed (written_target begin (address_of next (text_of i))) next (text_of i)
+rows_led begin next i =
+    grind (arith, by_option begin, one_leads next i)
 
 -- a statement of a part with this end: that at an address of the part, within it
 pub record IsHere (image : List ℕ) (end at : ℕ) (s : Statement) : Type 0 where
@@ -50,9 +233,7 @@ content_within : (image : List ℕ) (end at : ℕ) → at < end
 unfolding can_stand
 content_within image end at below =
     by_content image end at (λ c. (1 ≤ length_in c) × (at + length_in c ≤ end))
-    (λ i e stands. let next = at + length_of i in
-    ((rows_are_short i).one, leb-true next end (and_parts (nat_le next end) (all_inside next (text_of i)) stands).0))
-    (omega arith, omega arith)
+    (λ i e stands. grind (arith, nat_tests, rows_are_short i, stands)) (omega arith, omega arith)
 
 follow : (image : List ℕ) (end passed at more from : ℕ) → from ≡ at + passed → at + more ≡ end → passed ≤ more
     → Follow image end from (statements_from image end passed at more)
@@ -64,12 +245,7 @@ follow image end zero at (suc more) from e ends fits =
     let here : from ≡ at = omega arith in
     let s : Statement = statement_at image end at in
     let within = content_within image end at (omega arith) in (
-      record {
-        at_is = here;
-        is = ap (statement_at image end) (sym here);
-        some = within.0;
-        ends = omega arith;
-      },
+      grind arith,
       follow image end (length_in s.content - 1) (at + 1) more (from + length_in s.content)
           (omega arith) (omega arith) (omega arith),
     )
@@ -120,31 +296,30 @@ target_sound t address led h = grind (arith, common_steps)
 address_sound : (t : Target) (next : ℕ) (at : Field) (number : ℕ) → not (is_data at) ≡ true → FitsIn at number
     → IsLed t (address_by next at number) → IsAddress t at
 unfolding address_by
-address_sound t next field.Direct number usual fits led = tt
-address_sound t next field.Bit number usual fits led = tt
-address_sound t next field.Rel number usual fits led =
-    target_sound t (relative next number) (led _ refl) (grind (arith, common_steps))
-address_sound t next field.Addr11 number usual fits led =
-    target_sound t (near next number % 65536) (led _ refl) (omega arith)
-address_sound t next field.Addr16 number usual fits led = target_sound t _ (led _ refl) fits
-address_sound t next at number usual fits led = absurd (cc usual)
+address_sound t next at number usual fits led =
+    grind (
+      arith,
+      common_steps,
+      led (relative next number),
+      led (near next number % 65536),
+      led number,
+      target_sound t (relative next number),
+      target_sound t (near next number % 65536),
+      target_sound t number,
+    )
 
 slot_sound : (t : Target) (next : ℕ) (s : Slot) → is_usual s ≡ true → FitsSlot s
     → IsLed t (slot_address next (field_in s))
     → IsSlot t s
-slot_sound t next (Plain f) usual fits led = address_sound t next f.field f.number usual fits led
-slot_sound t next s usual fits led = grind (arith, common_steps)
+slot_sound t next s usual fits led = grind (arith, common_steps, address_sound t next)
 
 -- the operands of a decoded instruction that leads where its fields say
 pub slots_sound : (t : Target) (next : ℕ) {bytes : List ℕ} (i : Instr) → IsDecoded bytes i → AreLed t next (text_of i)
     → AreSlots t (text_of i)
 slots_sound t next i h led =
-    let usual = rows_usual i in
-    record {
-      first = slot_sound t next (text_of i).first usual.0 h.first led.first;
-      second = slot_sound t next (text_of i).second usual.1 h.second led.second;
-      third = slot_sound t next (text_of i).third usual.2 h.third led.third;
-    }
+    let x = text_of i in
+    let one = slot_sound t next in
+    grind (arith, rows_usual i, one x.first, one x.second, one x.third)
 
 -- the bytes at an address of an image
 abbrev pub three_at : List ℕ → ℕ → List ℕ

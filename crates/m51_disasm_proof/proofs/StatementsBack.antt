@@ -1,45 +1,45 @@
 -- The fields and operands of a disassembled instruction take the numbers that they were decoded with. So each statement
 -- of a disassembly gives the bytes of the image at its address: an instruction those it was decoded from.
 use Rattle.m51_disasm_proof.proofs
-use proofs.Common.{◌%◌, ◌+◌, ◌<◌, ◌∙◌, ◌∷◌, ◌≡◌, AreBytes, AreSlots, Bool, Field, GivesBytes, HasRoom, Imm, Instr}
-use proofs.Common.{length, IsNamed, Jump, List, Meanings, None, NotBit, Ok, Option, Plain, Slot, Some, Stands}
-use proofs.Common.{StandsAt, Target, Text, [], ap, arith, body_of, bytes_at, code_value, common_steps, false}
-use proofs.Common.{field_in, length_in, nat_le, not, number_of_slot, option_map, refl, slice_index, take, text_of}
-use proofs.Common.{texts_are_rows, true, value_of, written_target, ℕ}
-use Rattle.std.proofs.lemmas.Bool.{and_parts}
-use Rattle.m51_isa.specs.Targets.{near, relative}
-use Rattle.m51_isa.specs.TextLaws.{HasNumbers, kept, slot_with_number}
-use Rattle.m51_isa.specs.declared.slot.FieldSlot.{FieldSlot}
-use Rattle.m51_expr.specs.Value.{plain}
-use Rattle.m51_expr.specs.declared.value.Value.{Value}
-use Rattle.m51_encode.specs.FieldValues.{addr11_of, field_of, rel_of}
-use Rattle.m51_encode.specs.Filling.{filled, held_at, references_of, valued}
+use proofs.Common.{AreBytes, AreSlots, Bool, Field, GivesBytes, HasRoom, Imm, Instr, IsNamed, Jump, List, Meanings}
+use proofs.Common.{None, NotBit, Ok, Option, Plain, Slot, Some, Stands, StandsAt, Target, Text, [], ap, arith, body_of}
+use proofs.Common.{bytes_at, code_value, common_steps, encoded, false, field_in, length, length_in, length_of, near}
+use proofs.Common.{not, number_of_slot, operand_of, operands_of, option_map, refl, relative, row_length, slice_index}
+use proofs.Common.{slot_address, take, target_by, target_operand, text_of, texts_are_rows, true, written_target, ℕ, ◌%◌}
+use proofs.Common.{◌+◌, ◌<◌, ◌∙◌, ◌∷◌, ◌≡◌}
 use Rattle.m51_asm.proofs.ContentFields.{Held}
-use Rattle.m51_disasm.specs.Statements.{address_by, all_inside, can_stand, ends_inside, leads_inside, slot_address}
-use Rattle.m51_disasm.specs.Statements.{statement_at, statement_target, stays_inside, target_by}
-use Rattle.m51_cells.specs.declared.kind.Kind.TheVariants as kind
-use Rattle.m51_isa.specs.declared.slot.Field.TheVariants as field
-use Rattle.m51_expr.specs.Tree as tree
-use Rattle.m51_isa.specs.Filling.{with_numbers}
-use Rattle.m51_isa.specs.Spelling.{text}
-use Rattle.m51_isa.specs.Table.{code_of, encoded, length_of, length_of as row_length, padded}
-use Rattle.m51_expr.specs.Operand as item
-use Rattle.m51_expr.specs.Operand.{OperandTree}
+use Rattle.m51_disasm.specs.Statements.{address_by, all_inside, can_stand, ends_inside, leads_inside, statement_at}
+use Rattle.m51_disasm.specs.Statements.{statement_target, stays_inside}
+use Rattle.m51_disasm.specs.declared.statement.Content.{Content as Written}
 use Rattle.m51_encode.specs.Coding.{coded, coded_by, coded_line, gathered, outcomes, outcomes_by, outcomes_line}
 use Rattle.m51_encode.specs.Coding.{three_outcomes}
+use Rattle.m51_encode.specs.FieldValues.{addr11_of, field_of, rel_of}
+use Rattle.m51_encode.specs.Filling.{filled, held_at, references_of, valued}
 use Rattle.m51_encode.specs.Items.{item_field}
 use Rattle.m51_encode.specs.JumpForm.{address_after}
 use Rattle.m51_encode.specs.declared.coding.Coded.{Coded}
 use Rattle.m51_encode.specs.declared.item.Width.TheVariants.{Byte}
-use Rattle.m51_encode.specs.declared.reference.Reference.{Reference}
-use Rattle.m51_emit.specs.Content.{item_outcome}
-use Rattle.m51_disasm.specs.declared.statement.Content.{Content as Written}
-use Rattle.m51_disasm.specs.declared.statement.Content.TheVariants as content
 use Rattle.m51_encode.specs.declared.reference.FieldValue.TheVariants.{Number}
-use Rattle.m51_disasm_proof.specs.Meaning.{operand_of, operands_of, target_operand}
-use proofs.RowsDecoded.{AreLed, IsDecoded, IsLed, LeadsTo, and_all, is_data, is_usual, rows_led, rows_usual, slot_kept}
-use proofs.InstructionsCut.{found_row, line_is, own_line, row_is}
-use proofs.SoundLines.{by_content, decoded_as, slots_sound, three_at}
+use Rattle.m51_encode.specs.declared.reference.Reference.{Reference}
+use Rattle.m51_expr.specs.Evaluation.{value_of}
+use Rattle.m51_expr.specs.Operand.{OperandTree}
+use Rattle.m51_expr.specs.Value.{plain}
+use Rattle.m51_expr.specs.declared.value.Value.{Value}
+use Rattle.m51_isa.specs.Filling.{with_numbers}
+use Rattle.m51_isa.specs.Spelling.{text}
+use Rattle.m51_isa.specs.Table.{code_of, padded}
+use Rattle.m51_isa.specs.TextLaws.{HasNumbers, kept, slot_with_number}
+use Rattle.m51_isa.specs.declared.slot.FieldSlot.{FieldSlot}
+use Rattle.std.proofs.Common.{nat_le}
+use Rattle.std.proofs.lemmas.Bool.{and_parts}
+use Rattle.m51_disasm.specs.declared.statement.Content.TheVariants as content
+use Rattle.m51_isa.specs.declared.slot.Field.TheVariants as field
+use Rattle.m51_expr.specs.Operand as item
+use Rattle.m51_cells.specs.declared.kind.Kind.TheVariants as kind
+use Rattle.m51_expr.specs.Tree as tree
+use proofs.SoundLines.{AreLed, IsDecoded, IsLed, LeadsTo, and_all, by_content, decoded_as, is_data, is_usual, rows_led}
+use proofs.SoundLines.{rows_usual, slot_kept, slots_sound, three_at}
+use proofs.StatementsRead.{found_row, line_is, own_line, row_is}
 
 -- ---- numbers
 
@@ -128,14 +128,20 @@ module _ (names : Meanings) (segment at : ℕ) (s : StandsAt names segment at) w
       → filled names (next % 65536) (Some (field_at at byte number))
       (operand_of t (Plain (field_at at byte number))) ≡ Ok (number_held byte number)
   unfolding address_by
-  address_given t next field.Direct byte number usual same inside led named =
-      byte_given names (next % 65536) field.Direct byte number refl same
-  address_given t next field.Bit byte number usual same inside led named =
-      byte_given names (next % 65536) field.Bit byte number refl same
-  address_given t next field.Data byte number usual same inside led named = absurd (cc usual)
-  address_given t next field.Data16 byte number usual same inside led named = absurd (cc usual)
   address_given t next at byte number usual same inside led named =
-      target_given next (field_at at byte number) _ t same inside refl (led _ refl) named
+      let block = near next number % 65536 in
+      let to = λ (address : ℕ). target_given next (field_at at byte number) address t in
+      let leads = led block in
+      let given = byte_given names (next % 65536) at byte number in
+      grind (
+        arith,
+        common_steps,
+        to (relative next number),
+        to block,
+        to number,
+        led (relative next number),
+        led number,
+      )
 
   -- an operand gives the number that it was decoded with
   slot_given : (t : Target) (next : ℕ) (o : Slot) → is_usual o ≡ true → HasRoom o
@@ -144,15 +150,13 @@ module _ (names : Meanings) (segment at : ℕ) (s : StandsAt names segment at) w
       → filled names (next % 65536) (field_in o) (operand_of t o) ≡ Ok (held_in o)
   unfolding field_of
   slot_given t next (Imm f) usual room inside led named =
-      let same : kept f.field f.number ≡ f.number = ap number_of_slot room in
       let n = next % 65536 in
       let whole = number_given names n f.field f.byte f.number f.number in
-      grind (arith, common_steps, byte_given names n f.field f.byte f.number)
+      grind (arith, common_steps, ap number_of_slot room, byte_given names n f.field f.byte f.number)
   slot_given t next (Plain f) usual room inside led named =
       address_given t next f.field f.byte f.number usual (ap number_of_slot room) inside led named
   slot_given t next (NotBit f) usual room inside led named =
-      let same : kept f.field f.number ≡ f.number = ap number_of_slot room in
-      grind (arith, common_steps, byte_given names (next % 65536) f.field f.byte f.number)
+      grind (arith, common_steps, ap number_of_slot room, byte_given names (next % 65536) f.field f.byte f.number)
   slot_given t next o usual room inside led named = refl
 
 -- ---- instructions and statements
@@ -279,15 +283,9 @@ module _ (image : List ℕ) (end at : ℕ) (bytes : AreBytes image) (begin : Lis
       let led = rows_led begin next i in
       let h = code_back names segment at s (target_to (content.Code i)) i form
       (slots_sound _ next i row led)
-      (record {
-        first = slot_kept x.first row.first;
-        second = slot_kept x.second row.second;
-        third = slot_kept x.third row.third;
-      }) (and_parts (nat_le next end) (all_inside next x) stands).1 led named in
-      record {
-        content = grind (arith, common_steps, bytes_are i row);
-        stand = rw h.1 (refl, (refl, (refl, tt)));
-      }
+      (grind (arith, slot_kept x.first, slot_kept x.second, slot_kept x.third))
+      (and_parts (nat_le next end) (all_inside next x) stands).1 led named in
+      grind (arith, common_steps, bytes_are i row)
 
   byte_field : item_field names Byte (item.Value (tree.Number byte)) ≡ Ok (Some (Number byte))
   unfolding value_of
@@ -295,10 +293,7 @@ module _ (image : List ℕ) (end at : ℕ) (bytes : AreBytes image) (begin : Lis
 
   byte_gives : Gives (content.Byte byte)
   byte_gives named =
-      record {
-        content = grind (arith, common_steps, byte_field);
-        stand = (ap item_outcome byte_field, tt);
-      }
+      grind (arith, common_steps, byte_field)
 
   -- a statement gives the bytes of the image at its address
   pub statement_gives : let x = statement_at image end at in

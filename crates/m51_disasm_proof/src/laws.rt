@@ -6,6 +6,7 @@ ghost use Rattle.m51_disasm_proof.specs.Laws.{NoLineHasFault, ImagesAreAssembled
 /// Each line of a disassembly is read as the statement that is meant, with its label.
 ///
 /// Source: own choice ("Disassembly").
+#[tactic(auto, using(crate::proofs::StatementsRead::line_read))]
 pub fn lines_read_back()
     ensures { LinesReadBack }
 {}
@@ -14,6 +15,7 @@ pub fn lines_read_back()
 /// includes it has no fault of the form or the place of a line.
 ///
 /// Source: own choice ("Disassembly").
+#[tactic(auto, using(crate::proofs::TextRead::disassembly_read))]
 pub fn texts_read_back()
     ensures { TextsReadBack }
 {}
@@ -22,6 +24,7 @@ pub fn texts_read_back()
 /// `CODE` at its base, and a statement is after the bytes of those before it.
 ///
 /// Source: own choice ("Disassembly").
+#[tactic(auto, using(crate::proofs::Reassembled::spot_is))]
 pub fn lines_stand()
     ensures { LinesStand }
 {}
@@ -30,6 +33,7 @@ pub fn lines_stand()
 /// begins at the base of the part.
 ///
 /// Source: own choice ("Disassembly").
+#[tactic(auto, using(crate::proofs::Reassembled::statement_spot))]
 pub fn statements_stand()
     ensures { StatementsStand }
 {}
@@ -46,6 +50,7 @@ pub fn statements_code_back()
 /// of its address, in the segment that begins at the base of its part.
 ///
 /// Source: own choice ("Disassembly").
+#[tactic(auto, using(crate::proofs::Reassembled::label_is))]
 pub fn labels_stand()
     ensures { LabelsStand }
 {}
@@ -70,6 +75,7 @@ pub fn no_line_has_fault()
 /// each part, whose pieces are exactly the bytes of the image, without fixups, publics or externals.
 ///
 /// Source: own choice ("Disassembly").
+#[tactic(auto, using(crate::proofs::Reassembled::image_back))]
 pub fn images_are_assembled()
     ensures { ImagesAreAssembled }
 {}

@@ -1,33 +1,25 @@
 -- Each sound layout with a root at 0000H, with its image, has an answer of the stack bound: its points, settled depths,
 -- tables and lists, and where a rule is broken first.
+use Rattle.m51_build_proof.proofs
+use proofs.Common.{cases_Bool, cases_lt, false≢true, Contains-get_or, Contains, list_any, cells_in, MOST_POINTS, leads}
+use proofs.Common.{LayoutParts, StackBound, StackError, IsRootAt, IsUnitAt, IsSound, Edges, HasEdge, IsWalk, Reaches}
+use proofs.Common.{last_of}
+use proofs.Weights.{Some_in, element, seek, some_in}
 use Rattle.std.proofs.Common.{◌≡◌, ◌≢◌, ◌<◌, ◌≤◌, ◌+◌, ◌⊎◌, inl, inr, ℕ, zero, suc, nat_lt, Bool, true, false, List, []}
 use Rattle.std.proofs.Common.{◌∷◌, ◌++◌, length, get_or, set, take, take_all, replicate, sum, Option, Some, None}
-use Rattle.std.proofs.Common.{Result, Ok, Err, refl, sym, ap, subst, ◌∙◌, arith, flat_map}
-use Rattle.std.proofs.lemmas.Bool.{cases_Bool, cases_lt, false≢true}
+use Rattle.std.proofs.Common.{Result, Ok, Err, refl, sym, subst, ◌∙◌, arith, flat_map}
 use Rattle.std.proofs.lemmas.List.{get_or-set_other, get_or-set_same, length-set}
-use Rattle.std.proofs.lemmas.List.Elements.{Contains-get_or}
 use Rattle.std.proofs.lemmas.List.Sums.{sum_by-set}
-use Rattle.std.specs.List.{Contains, list_any}
-use Rattle.m51_cells.proofs.Members.{In, contains_in, flat_in, in_contains, in_flat}
-use Rattle.m51_cells.proofs.Small.{contains_after, contains_first, first_or_after, none_in_empty}
-use Rattle.m51_cells.specs.Cells.{cells_in}
-use Rattle.m51_cells.specs.declared.limits.TheConstants.{MOST_POINTS}
+use Rattle.m51_cells.proofs.Members.{In, contains_in, every_in, flat_in, in_contains, in_flat}
+use Rattle.m51_cells.proofs.Small.{contains_after, contains_first}
 use Rattle.m51_graph.proofs.Deciding.{leads_tells}
-use Rattle.m51_graph.specs.Leading.{leads}
 use Rattle.m51_module.proofs.Reach.{reach_edge, reach_on}
-use Rattle.m51_module.proofs.Units.{same_or_not}
 use Rattle.m51_module.specs.Cells.{code_cell}
-use Rattle.m51_module.specs.declared.parts.LayoutParts.{LayoutParts}
 use Rattle.m51_module.specs.declared.stack_bound.Proc.{Proc}
 use Rattle.m51_module.specs.declared.stack_bound.RootDepth.{RootDepth}
-use Rattle.m51_module.specs.declared.stack_bound.StackBound.{StackBound}
-use Rattle.m51_module.specs.declared.stack_bound.StackError.{StackError}
 use Rattle.m51_module.specs.declared.stack_bound.StackError.TheVariants.{K1, K2, K3, K4, K5, K6, Limit}
 use Rattle.m51_module.specs.declared.start.Start.{Start}
 use Rattle.m51_module.specs.declared.start.Start.TheVariants.{At, Reset}
-use Rattle.m51_module.specs.Plan.{IsRootAt, IsUnitAt}
-use Rattle.m51_module.specs.Sound.{IsSound}
-use Rattle.m51_module.specs.Walks.{Edges, HasEdge, IsWalk, Reaches, last_of}
 use Rattle.m51_sim.proofs.TakenTypes.{taken_by}
 use Rattle.m51_stackbound.proofs.Adding.{greatest_more, greatest_none}
 use Rattle.m51_stackbound.proofs.CallRows.{calls_all, calls_only}
@@ -57,36 +49,6 @@ use Rattle.m51_stackbound.specs.Rules.{IsLeast, breaks_by, lesser, no_later, ran
 use Rattle.m51_stackbound.specs.Search.{ArePoints, Finds, Notes, NotesAll}
 use Rattle.m51_stackbound.specs.Totals.{AreGreatest, IsSum, added, with_bytes}
 use Rattle.m51_stackbound.specs.Units.{handlers}
-
--- an element of a list that is so
-record Sought {X : Type 0} (P : X → Type 0) (xs : List X) : Type 0 where
-  element : X
-  listed : Contains xs element
-  holds : P element
-
-further : {X : Type 0} (P : X → Type 0) (x : X) (xs : List X) → Sought P xs → Sought P (x ∷ xs)
-further P x xs s = record { element = s.element; listed = contains_after x xs s.element s.listed; holds = s.holds }
-
-sought_cases : {X : Type 0} (P : X → Type 0) (x : X) (xs : List X) → Sought P (x ∷ xs) → P x ⊎ Sought P xs
-sought_cases P x xs s = elim (first_or_after x xs s.element s.listed) [
-  | inl same ↦ inl (rw same s.holds)
-  | inr behind ↦ inr (record { element = s.element; listed = behind; holds = s.holds })
-]
-
--- of each element one of two things is known: the first of one of them, or the second of all
-seek : {X : Type 0} (P Q : X → Type 0) → ((x : X) → P x ⊎ Q x) → (xs : List X)
-    → Sought P xs ⊎ ((x : X) → Contains xs x → Q x)
-seek P Q tells [] = inr (λ x h. absurd (none_in_empty x h))
-seek P Q tells (x ∷ xs) = elim (tells x) [
-  | inl first ↦ inl (record { element = x; listed = contains_first x xs; holds = first })
-  | inr second ↦ elim (seek P Q tells xs) [
-    | inl more ↦ inl (further P x xs more)
-    | inr none ↦ inr (λ y h. elim (first_or_after x xs y h) [
-      | inl same ↦ rw (← same) second
-      | inr behind ↦ none y behind
-    ])
-  ]
-]
 
 true_or_not : (b : Bool) → (b ≡ true) ⊎ (b ≡ true → ⊥)
 true_or_not b = grind arith
@@ -139,114 +101,94 @@ record HasLeast (Is : Place → Type 0) : Type 0 where
 
 module _ (P : Point → Type 0) (tells : (p : Point) → P p ⊎ (P p → ⊥)) where
   -- one of these points meets the test, and has the place
+  abbrev Meets : Place → Point → Type 0
+  Meets at p = P p × (reached_address p ≡ at)
+
   abbrev Met : List Point → Place → Type 0
-  Met ps at = Sought (λ p. P p × (reached_address p ≡ at)) ps
+  Met ps at = Some_in (Meets at) ps
 
   least_met : (ps : List Point) → HasLeast (Met ps)
-  least_met [] = record { least = None; is = λ at m. absurd (none_in_empty m.element m.listed) }
+  least_met [] = record { least = None; is = λ at m. m }
   least_met (p ∷ ps) =
       let rest = least_met ps in
       elim (tells p) [
         | inl met ↦ record {
           least = Some (lesser rest.least (reached_address p));
           is = least_more (Met ps) (Met (p ∷ ps)) rest.least (reached_address p) rest.is
-              (λ at m. elim (sought_cases (λ q. P q × (reached_address q ≡ at)) p ps m) [
-                | inl here ↦ inr here.1
-                | inr later ↦ inl later
-              ])
-              (λ at m. further (λ q. P q × (reached_address q ≡ at)) p ps m)
-              (record { element = p; listed = contains_first p ps; holds = (met, refl) });
+              (λ at m. elim m [ inl here ↦ inr here.1 | inr later ↦ inl later ]) (λ at m. inr m) (inl (met, refl));
         }
         | inr fails ↦ record {
           least = rest.least;
           is = least_same (Met ps) (Met (p ∷ ps)) rest.least rest.is
-              (λ at m. elim (sought_cases (λ q. P q × (reached_address q ≡ at)) p ps m) [
-                | inl here ↦ absurd (fails here.0)
-                | inr later ↦ later
-              ])
-              (λ at m. further (λ q. P q × (reached_address q ≡ at)) p ps m);
+              (λ at m. elim m [ inl here ↦ absurd (fails here.0) | inr later ↦ later ]) (λ at m. inr m);
         }
       ]
 
 module _ (l : LayoutParts) (image : List ℕ) (points : List Point) (are : ArePoints l image points) where
-  -- where a rule is broken first
-  first_broken : (rule : _) → HasLeast (Breaks l image rule)
-  first_broken rule =
-      let P : Point → Type 0 = λ p. breaks_by rule p (instruction l image p.address) ≡ true in
-      let tells : (p : Point) → P p ⊎ (P p → ⊥) = λ p. true_or_not (breaks_by rule p (instruction l image p.address)) in
+  -- some point of the list is so, if one of the image is
+  some_point : (P : Point → Type 0) (p : Point) → IsPoint l image p → P p → Some_in P points
+  some_point P p is h = some_in P points p (in_contains points p (are.all p is)) h
+
+  point_of : (P : Point → Type 0) → Some_in P points → (p : Point) × IsPoint l image p × P p
+  point_of P s = let e = element P points s in (e.0, are.only e.0 (contains_in points e.0 e.1), e.2)
+
+  -- the first place where some point is so
+  least_found : (P : Point → Type 0) → ((p : Point) → P p ⊎ (P p → ⊥)) → (Is : Place → Type 0)
+      → ((at : Place) → Is at → (p : Point) × IsPoint l image p × P p × (reached_address p ≡ at))
+      → ((p : Point) → IsPoint l image p → P p → Is (reached_address p)) → HasLeast Is
+  least_found P tells Is of to =
       let m = least_met P tells points in
       record {
         least = m.least;
-        is = least_same (Met P tells points) (Breaks l image rule) m.least m.is
-            (λ at b. record {
-              element = b.point;
-              listed = are.all b.point b.is_point;
-              holds = (b.breaks, b.place_is);
-            })
-            (λ at k. record {
-              point = k.element;
-              is_point = are.only k.element k.listed;
-              breaks = k.holds.0;
-              place_is = k.holds.1;
-            });
+        is = least_same (Met P tells points) Is m.least m.is
+            (λ at h. let o = of at h in some_point (Meets P tells at) o.0 o.1 (o.2, o.3))
+            (λ at k. let e = point_of (Meets P tells at) k in subst Is e.2.1 (to e.0 e.1 e.2.0));
       }
+
+  -- where a rule is broken first
+  first_broken : (rule : _) → HasLeast (Breaks l image rule)
+  first_broken rule =
+      least_found (λ p. breaks_by rule p (instruction l image p.address) ≡ true)
+      (λ p. true_or_not (breaks_by rule p (instruction l image p.address))) (Breaks l image rule)
+      (λ at b. (b.point, b.is_point, b.breaks, b.place_is))
+      (λ p is h. record { point = p; is_point = is; breaks = h; place_is = refl })
 
   -- the second point is at the place of the first, with another height
   abbrev IsOther : Point → Point → Type 0
   IsOther p q = (reached_address q ≡ reached_address p) × (p.height ≢ q.height)
 
   other_or_not : (p q : Point) → IsOther p q ⊎ (IsOther p q → ⊥)
-  other_or_not p q = elim (same_or_not (rank q.start) (rank p.start)) [
-    | inr apart ↦ inr (λ h. apart (ap (λ (r : Place). rank r.start) h.0))
-    | inl starts ↦ elim (same_or_not q.address p.address) [
-      | inr apart ↦ inr (λ h. apart (ap (λ (r : Place). r.address) h.0))
-      | inl addresses ↦ elim (same_or_not p.height q.height) [
-        | inl same ↦ inr (λ h. h.1 same)
-        | inr apart ↦
-            let start = rank_same q.start p.start starts in
-            inl (λ i. record { start = start i; address = addresses i }, apart)
-      ]
-    ]
-  ]
+  other_or_not p q = grind (arith, rank_same q.start p.start)
 
   abbrev HasOther : Point → Type 0
-  HasOther p = Sought (IsOther p) points
+  HasOther p = Some_in (IsOther p) points
 
   has_other : (p : Point) → HasOther p ⊎ (HasOther p → ⊥)
   has_other p = elim (seek (IsOther p) (λ q. IsOther p q → ⊥) (other_or_not p) points) [
     | inl some ↦ inl some
-    | inr none ↦ inr (λ s. none s.element s.listed s.holds)
+    | inr none ↦ inr (λ s. let e = element (IsOther p) points s in
+        every_in (λ q. IsOther p q → ⊥) points e.0 none e.1 e.2)
   ]
 
   -- where two points have two heights first
   first_doubled : HasLeast (HasTwoHeights l image)
   first_doubled =
-      let m = least_met HasOther has_other points in
-      record {
-        least = m.least;
-        is = least_same (Met HasOther has_other points) (HasTwoHeights l image) m.least m.is
-            (λ at h. record {
-              element = h.one;
-              listed = are.all h.one h.one_is;
-              holds = (
-                record {
-                  element = h.two;
-                  listed = are.all h.two h.two_is;
-                  holds = (h.place_two ∙ sym h.place_one, h.heights);
-                },
-                h.place_one,
-              );
-            })
-            (λ at k. let other = k.holds.0 in record {
-              one = k.element;
-              two = other.element;
-              one_is = are.only k.element k.listed;
-              two_is = are.only other.element other.listed;
-              place_one = k.holds.1;
-              place_two = other.holds.0 ∙ k.holds.1;
-              heights = other.holds.1;
-            });
-      }
+      least_found HasOther has_other (HasTwoHeights l image)
+      (λ at h. (
+        h.one,
+        h.one_is,
+        some_point (IsOther h.one) h.two h.two_is (h.place_two ∙ sym h.place_one, h.heights),
+        h.place_one,
+      ))
+      (λ p is k. let two = point_of (IsOther p) k in record {
+        one = p;
+        two = two.0;
+        one_is = is;
+        two_is = two.1;
+        place_one = refl;
+        place_two = two.2.0;
+        heights = two.2.1;
+      })
 
 -- ---- depths that are settled
 
@@ -293,33 +235,41 @@ module _ (l : LayoutParts) (image : List ℕ) (sound : IsSound l) (points : List
       → (new : List ℕ) × AreSettled l image points new
   settle zero depths taken enough = absurd (omega (arith, sum_few l image depths taken))
   settle (suc fuel) depths taken enough =
-      elim (seek (λ (p : Point). depth_in depths p.start < cap p.height)
-      (λ (p : Point). cap p.height ≤ depth_in depths p.start)
-      (λ p. cases_lt (depth_in depths p.start) (cap p.height)) points) [
+      let Low : Point → Type 0 = λ p. depth_in depths p.start < cap p.height in
+      let High : Point → Type 0 = λ p. cap p.height ≤ depth_in depths p.start in
+      let LowCall : StartCall → Type 0 = λ c. depth_in depths c.from < depth_by depths c in
+      let HighCall : StartCall → Type 0 = λ c. depth_by depths c ≤ depth_in depths c.from in
+      elim (seek Low High (λ p. cases_lt (depth_in depths p.start) (cap p.height)) points) [
         | inl s ↦
-            let p = s.element in
-            let is = are.only p s.listed in
-            let below : rank p.start < length depths = omega (arith, start_few p p.start is refl, taken.len) in
+            let e = point_of l image points are Low s in
+            let p = e.0 in
+            let below : rank p.start < length depths = omega (arith, start_few p p.start e.1 refl, taken.len) in
             let more : sum (set depths (rank p.start) (cap p.height)) + depth_in depths p.start
             ≡ sum depths + cap p.height =
             sum_by-set (λ (x : ℕ). x) depths (rank p.start) (cap p.height) 0 below in
             settle fuel (set depths (rank p.start) (cap p.height))
-            (lifted l image depths p.start (cap p.height) below (omega arith) taken (height_taken l image p is))
-            (omega (arith, more, s.holds))
-        | inr own ↦ elim (seek (λ (c : StartCall). depth_in depths c.from < depth_by depths c)
-            (λ (c : StartCall). depth_by depths c ≤ depth_in depths c.from)
-            (λ c. cases_lt (depth_in depths c.from) (depth_by depths c)) calls) [
-              | inl s ↦
-                  let c = s.element in
-                  let call = calls_only l image points are.only c s.listed in
-                  let below : rank c.from < length depths =
-                  omega (arith, start_few call.point c.from call.is_point call.start_is, taken.len) in
-                  let new = set depths (rank c.from) (depth_by depths c) in
-                  let r = raised_next l image (c ∷ []) 0 c depths depths new false true (omega arith) below call
-                  (raised_none l image depths taken) (s.holds, refl) in
-                  settle fuel new r.are (omega (arith, r.more refl))
-              | inr high ↦ (depths, record { are = taken; own = own; calls = high })
-            ]
+            (lifted l image depths p.start (cap p.height) below (omega arith) taken (height_taken l image p e.1))
+            (omega (arith, more, e.2))
+        | inr own ↦ elim (seek LowCall HighCall (λ c. cases_lt (depth_in depths c.from) (depth_by depths c)) calls) [
+          | inl s ↦
+              let e = element LowCall calls s in
+              let c = e.0 in
+              let call = calls_only l image points are.only c (contains_in calls c e.1) in
+              let below : rank c.from < length depths =
+              omega (arith, start_few call.point c.from call.is_point call.start_is, taken.len) in
+              let new = set depths (rank c.from) (depth_by depths c) in
+              let r = raised_next l image (c ∷ []) 0 c depths depths new false true (omega arith) below call
+              (raised_none l image depths taken) (e.2, refl) in
+              settle fuel new r.are (omega (arith, r.more refl))
+          | inr high ↦ (
+            depths,
+            record {
+              are = taken;
+              own = λ p h. every_in High points p own (in_contains points p h);
+              calls = λ c h. every_in HighCall calls c high (in_contains calls c h);
+            },
+          )
+        ]
       ]
 
   settled_found : (count fuel : ℕ) → count ≡ 65537 → 16777472 < fuel
@@ -339,8 +289,7 @@ abbrev edges_from : StartCall → Edges
 edges_from c = edge_from c.from c.to
 
 edge_is : (start : Start) (to a b : ℕ) → In (a, b) (edge_from start to) → (start ≡ At a) × (to ≡ b)
-edge_is Reset to a b h = absurd h
-edge_is (At c) to a b h = grind arith
+edge_is start to a b h = grind arith
 
 module _ (l : LayoutParts) (image : List ℕ) (points : List Point) (are : ArePoints l image points) where
   abbrev listed_calls : List StartCall

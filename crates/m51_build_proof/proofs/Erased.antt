@@ -1,43 +1,29 @@
 -- The image of a linked program is erased outside its runs: a field lies only where there is content.
-use Rattle.m51_build_proof.proofs.Common.{option_map_or, option_or, ModuleParts, Placing}
-use Rattle.std.proofs.Common.{◌≡◌, ◌⊎◌, inl, inr, ℕ, zero, suc, ◌+◌, ◌-◌, ◌<◌, ◌≤◌, true, ◌||◌, List, [], ◌∷◌, ◌++◌}
-use Rattle.std.proofs.Common.{length, map, Option, Some, None, refl, ap, ◌∙◌, arith, Bool, false, cond, ◌&&◌, get_or}
-use Rattle.std.specs.Prelude.{option_map, slice_get, unwrap_or, is_some, nat_le, nat_lt}
-use Rattle.std.specs.List.{All, flat_map, range_with_len, Contains, cons_option, filter_map}
-use Rattle.std.proofs.lemmas.Bool.{leb-true, le-leb, lt-ltb}
-use Rattle.std.proofs.lemmas.List.Elements.{All-head, All-tail, All-get_or}
+use Rattle.m51_build_proof.proofs
+use proofs.Common.{option_map_or, option_or, ModuleParts, Placing, option_map, slice_get, unwrap_or, is_some, nat_le}
+use proofs.Common.{nat_lt, All, flat_map, range_with_len, Contains, cons_option, filter_map, leb-true, le-leb, lt-ltb}
+use proofs.Common.{All-head, All-tail, byte_among, Stretch, byte_in, stretch_at, Piece, IsValid, IsFixupValid, IsHeld}
+use proofs.Common.{field_len, end_of, slice_get-get_or, slice_get_within, FieldBytes, AreRuns, IsInRun, address_of}
+use proofs.Common.{ends_below, Fixup, Form, Run}
+use Rattle.std.proofs.Common.{◌≡◌, ◌⊎◌, inl, inr, ℕ, ◌+◌, ◌-◌, ◌<◌, ◌≤◌, true, List, [], ◌∷◌, length, map, Option, Some}
+use Rattle.std.proofs.Common.{None, refl, ap, ◌∙◌, arith, Bool, false, cond, ◌&&◌, get_or}
 use Rattle.m51_linker.specs.Image.{IsImage, byte_at, content_of, IsFilled, fields_of, fixup_field, module_content}
 use Rattle.m51_linker.specs.Image.{module_fields, placed_field, placed_piece}
-use Rattle.m51_linker.specs.Stretches.{byte_among, Stretch, byte_in, stretch_at}
-use Rattle.m51_module.specs.declared.content.Piece.{Piece}
-use Rattle.m51_module.specs.Validity.{IsValid, IsFixupValid, IsHeld, field_len}
-use Rattle.m51_hex.specs.Writing.{end_of}
 use Rattle.std.proofs.lemmas.List.Folds.{list_any_at}
-use Rattle.std.proofs.lemmas.Option.{get_or_from_slice_get, slice_get_within}
+use Rattle.m51_cells.proofs.Members.{all_every, every_in, got_in}
 use Rattle.m51_cells.proofs.Small.{first_or_after, none_in_empty}
 use Rattle.m51_hex.specs.Laws.{IsErasedOutside, is_in_run, is_in_runs}
-use Rattle.m51_fields.specs.declared.fields.FieldBytes.{FieldBytes}
 use Rattle.m51_fields.specs.Fields.{bytes_of_field, field_of}
-use Rattle.m51_linker.specs.Runs.{AreRuns, IsInRun}
-use Rattle.m51_linker.specs.Targets.{address_of}
-use Rattle.m51_linker.proofs.RunsGrow.{ends_below}
-use Rattle.m51_module.specs.declared.content.Fixup.{Fixup}
-use Rattle.m51_module.specs.declared.content.Form.{Form}
-use Rattle.m51_module.specs.declared.linked.Run.{Run}
+use Rattle.m51_linker.proofs.Written.{among-append}
 
 -- the stretch has a byte for the address
 record IsIn (s : Stretch) (address : ℕ) : Type 0 where
   from : s.at ≤ address
   below : address < s.at + length s.bytes
 
-some_get : {X : Type 0} (xs : List X) (k : ℕ) → k < length xs → is_some (slice_get xs k) ≡ true
-some_get [] k h = absurd (omega (arith, h))
-some_get (x ∷ xs) zero h = refl
-some_get (x ∷ xs) (suc k) h = some_get xs k (omega (arith, h))
-
 in_some : (s : Stretch) (address : ℕ) → IsIn s address → is_some (byte_in s address) ≡ true
 in_some s address h =
-    rw (le-leb s.at address h.from) (some_get s.bytes (address - s.at) (omega (arith, h.from, h.below)))
+    rw (le-leb s.at address h.from, slice_get-get_or s.bytes (address - s.at) 0 (omega (arith, h.from, h.below)))
 
 in_by : (s : Stretch) (address : ℕ) (b : Bool) (o : Option ℕ) → nat_le s.at address ≡ b
     → slice_get s.bytes (address - s.at) ≡ o → is_some (cond b o None) ≡ true → IsIn s address
@@ -52,22 +38,8 @@ in_by s address false o from is h = absurd (cc h)
 abbrev HasAt : List Stretch → ℕ → Type 0
 HasAt xs address = is_some (byte_among xs address) ≡ true
 
-or_some : (o p : Option ℕ) → is_some (option_or o p) ≡ (is_some o || is_some p)
-or_some o p = grind arith
-
 or_cases : (o p : Option ℕ) → is_some (option_or o p) ≡ true → (is_some o ≡ true) ⊎ (is_some p ≡ true)
-or_cases None p h = inr h
-or_cases (Some x) p h = inl refl
-
-or_behind : (a b c : Bool) → ((a || b) || c) ≡ ((a || c) || b)
-or_behind a b c = grind arith
-
-among_append : (xs ys : List Stretch) (address : ℕ) → is_some (byte_among (xs ++ ys) address)
-    ≡ (is_some (byte_among xs address) || is_some (byte_among ys address))
-among_append [] ys address = refl
-among_append (s ∷ xs) ys address =
-    rw (or_some _ _, or_some (byte_among xs address) _, among_append xs ys address)
-    (or_behind (is_some (byte_among xs address)) (is_some (byte_among ys address)) (is_some (byte_in s address)))
+or_cases o p h = grind arith
 
 -- what has a byte in one of two lists, module by module, has one in the other
 each_at : (f g : ℕ → List Stretch) (address : ℕ) → ((k : ℕ) → HasAt (f k) address → HasAt (g k) address) → (ks : List ℕ)
@@ -76,8 +48,8 @@ each_at f g address lead [] h = h
 each_at f g address lead (k ∷ ks) h =
     grind (
       arith,
-      among_append (f k) (flat_map f ks) address,
-      among_append (g k) (flat_map g ks) address,
+      among-append (f k) (flat_map f ks) address,
+      among-append (g k) (flat_map g ks) address,
       lead k,
       each_at f g address lead ks,
     )
@@ -153,13 +125,11 @@ module _ (modules : List ModuleParts) (placing : Placing) (address : ℕ) where
       → HasAt (option_map_or (λ (parts : ModuleParts). filter_map (placed_field modules placing m) parts.fixups) o [])
       address
       → HasAt (option_map_or (λ (parts : ModuleParts). map (placed_piece modules placing m) parts.pieces) o []) address
-  of_module m None valid h = h
-  of_module m (Some parts) valid h = fixups_at m parts parts.fixups (valid parts refl).fixups h
+  of_module m o valid h = grind (arith, fixups_at)
 
   module_valid : All IsValid modules → (m : ℕ) (parts : ModuleParts) → slice_get modules m ≡ Some parts → IsValid parts
   module_valid valid m parts is =
-      rw (get_or_from_slice_get modules m parts parts is) at
-      (All-get_or IsValid modules m parts (slice_get_within modules m parts is) valid)
+      every_in IsValid modules parts (all_every IsValid modules valid) (got_in modules m parts is)
 
   fields_in_content : All IsValid modules → HasAt (fields_of modules placing) address
       → HasAt (content_of modules placing) address
@@ -170,9 +140,7 @@ module _ (modules : List ModuleParts) (placing : Placing) (address : ℕ) where
   -- where there is no content the byte is FFH
   unfilled_by : (content fields : Option ℕ) → (is_some fields ≡ true → is_some content ≡ true)
       → (is_some content ≡ true → ⊥) → unwrap_or (option_or fields content) 0xFF ≡ 0xFF
-  unfilled_by None None lead none = refl
-  unfilled_by None (Some byte) lead none = absurd (none (lead refl))
-  unfilled_by (Some byte) fields lead none = absurd (none refl)
+  unfilled_by content fields lead none = grind arith
 
   unfilled : All IsValid modules → (HasAt (content_of modules placing) address → ⊥)
       → byte_at modules placing address ≡ 0xFF

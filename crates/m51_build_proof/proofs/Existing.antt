@@ -1,91 +1,72 @@
--- Each job has an outcome, and a build only one.
-use Rattle.m51_build_proof.proofs.Common.{leads, InputError, InputsTree, one_text, Linked, Refusal, LayoutParts}
-use Rattle.m51_build_proof.proofs.Common.{vectors, segments_of, BuildJob, build_files, input_outcome, link_outcome}
-use Rattle.m51_build_proof.proofs.Common.{Outcome, same_Ok, ModuleParts, Script}
+-- Each job has an outcome, and a build only one; arguments and files of bytes have one answer, which the top call
+-- completes.
+use Rattle.m51_build_proof.proofs
+use proofs.Common.{leads, InputError, InputsTree, one_text, Linked, Refusal, LayoutParts, vectors, segments_of}
+use proofs.Common.{BuildJob, build_files, link_outcome, same_Ok, ModuleParts, Script, range_with_len, one_for_files}
+use proofs.Common.{Program, AreRoots, IsLinked, byte_among, AreAnswered, Given, IsGivenOutcome, ProgramFiles, Refused}
+use proofs.Common.{control_content, script_content, word_contents, IsFilesOutcome, IsReport, program_report, AreOfBytes}
+use proofs.Common.{is_some, slice_index_or, count_by, cases_eq, AreRootBits, bits_tell, AreRuns, runs_more, same_runs}
+use proofs.Common.{Run, IsSound, weights_agree, one_outcome, on_value, BoardState, IsOutcome, Memory, memory_from}
+use proofs.Common.{FlatJob, Job, is_source, SourceFile, ScriptError, content_if, script_outcome, job_of, HoldBytes}
+use proofs.Common.{MOST_FILES, file_count, name_kept, names_read, Files}
+use proofs.Known.{graph_kept, IsStartable, sole_startable, files_startable, inputs_known, modules_known, startable}
+use proofs.Weights.{has_weight}
+use proofs.Verdicts.{rules_of_program, Keeps, bound_keeps, event_keeps, input_keeps, library_keeps, link_keeps}
+use proofs.Verdicts.{party_keeps, script_keeps, text_keeps}
+use proofs.StartedBoards.{read_at, started_board}
+use proofs.BoundFound.{has_bound}
+use proofs.PieceBytes.{HasBytes}
+use proofs.Promised.{are_read}
+use Rattle.m51_chain.specs.Outcome.{Outcome, Answer, long_answer, many_answer, named_answer, unread_answer}
+use Rattle.m51_chain.specs.Outcome.{usage_answer}
 use Rattle.std.proofs.Common.{◌≡◌, inl, inr, ℕ, zero, suc, ◌+◌, ◌<◌, Bool, true, false, List, [], ◌∷◌, ◌++◌, length}
-use Rattle.std.proofs.Common.{map, Option, None, Result, Ok, Err, refl, sym, ap, subst, ◌∙◌, arith, cond}
-use Rattle.std.specs.List.{range_with_len, All}
-use Rattle.m51_inputs.proofs.OneEach.{one_answer as one_for_files}
+use Rattle.std.proofs.Common.{map, Option, None, Result, Ok, Err, refl, sym, ap, subst, ◌∙◌, arith, ◌≤◌, Some}
 use Rattle.m51_linker.specs.Image.{IsImage, byte_at, content_of, IsFilled}
-use Rattle.m51_linker.specs.Link.{Program, AreRoots, IsLinked}
-use Rattle.m51_linker.specs.Stretches.{byte_among}
 use Rattle.m51_chain.specs.Linking.{Follows, IsInputsOutcome, Unlinked, program_in, sole_program, IsLinkedOutcome}
 use Rattle.m51_chain.specs.Linking.{IsProgramOutcome}
-use Rattle.m51_chain.specs.ProgramFiles.{AreAnswered, Given, IsGivenOutcome, ProgramFiles, Refused, control_content}
-use Rattle.m51_chain.specs.ProgramFiles.{script_content, word_contents, IsFilesOutcome}
-use Rattle.m51_chain.specs.Programs.{IsReport, program_report}
-use Rattle.m51_build_proof.specs.Builds.{AreOfBytes}
-use Rattle.std.proofs.lemmas.List.Elements.{All-head, All-tail}
-use Rattle.m51_module.specs.Validity.{IsValid}
-use Rattle.std.specs.Prelude.{is_some, slice_index_or, count_by}
-use Rattle.std.proofs.lemmas.Bool.{cases_eq, cases_Bool}
-use Rattle.std.proofs.lemmas.List.FromFn.{get_or-map-range_with_len, length-map-range_with_len}
-use Rattle.m51_graph.specs.Graph.{AreRootBits}
+use Rattle.std.proofs.lemmas.List.FromFn.{length-map-range_with_len}
 use Rattle.m51_graph.specs.Relating.{root_byte}
-use Rattle.m51_graph.proofs.Relations.{bits_tell}
 use Rattle.m51_linker.specs.Growing.{AddsIf, longer, run_at}
 use Rattle.m51_linker.specs.Growing.AddsByte.{Joined, Apart, First}
 use Rattle.m51_linker.specs.Memory.{IsHeldBelow}
-use Rattle.m51_linker.specs.Runs.{AreRuns}
-use Rattle.m51_linker.proofs.RunsGrow.{runs_more, same_runs}
 use Rattle.m51_module.specs.declared.image.TheConstants.{IMAGE_LEN}
-use Rattle.m51_module.specs.declared.linked.Run.{Run}
 use Rattle.m51_module.specs.Chains.{AreHeaviest}
-use Rattle.m51_module.specs.Sound.{IsSound}
-use Rattle.m51_place.proofs.Tight.{weights_agree}
-use Rattle.m51_build_proof.proofs.Known.{graph_kept, IsStartable, sole_startable, files_startable, valid_modules}
-use Rattle.m51_build_proof.proofs.Known.{modules_known, startable}
-use Rattle.m51_build_proof.proofs.Weights.{has_weight}
-use Rattle.m51_chain.proofs.OneOutcome.{one_outcome}
-use Rattle.m51_build_proof.specs.Headline.{IsOnly}
-use Rattle.m51_build_proof.proofs.Verdicts.{rules_of_program}
-use Rattle.m51_chain.proofs.Accepted.{on_value}
+use Rattle.m51_build_proof.specs.Headline.{EachHasOneOutcome, IsOnly}
 use Rattle.m51_chain.proofs.Joined.{all_fresh}
 use Rattle.m51_chain.specs.Parties.{AreBoardsOf, IsBoardOf, IsPartyWork, party_outcome, programs_of, party_files}
 use Rattle.m51_party.proofs.One.{only_family}
 use Rattle.m51_party.specs.Rounds.{family_of}
-use Rattle.m51_sim.specs.Boards.{BoardState}
-use Rattle.m51_build_proof.proofs.StartedBoards.{started_board}
-use Rattle.std.proofs.lemmas.List.Sums.{sum_by-cons}
 use Rattle.m51_asm.specs.Answer.{AnswerTree}
-use Rattle.m51_asm.specs.Answer as answers
-use Rattle.m51_build_proof.proofs.BoundFound.{has_bound}
-use Rattle.m51_chain.specs.Analyses.{link_files, IsBounded, IsDisassembled, bound_outcome, text_outcome}
+use Rattle.m51_chain.specs.Analyses.{link_files, IsBounded, IsDisassembled, bound_outcome}
 use Rattle.m51_chain.specs.Assembles.{IsOneOutcome, assembled_outcome}
 use Rattle.m51_chain.specs.Generates.{IsCounted, IsGenOutcome, IsGenerated, summary_outcome}
-use Rattle.m51_chain.specs.Verbs.{IsOutcome}
 use Rattle.m51_disasm.specs.Answer.{disassembled}
 use Rattle.m51_generator.specs.Lines.{generated}
 use Rattle.m51_hex.specs.declared.error.HexError.{HexError}
-use Rattle.m51_hex.specs.Memory.{Memory}
-use Rattle.m51_hex.specs.Reading.{memory_from}
-use Rattle.m51_inputs.specs.Files.{includes_of, sources_of}
-use Rattle.m51_jobs.specs.declared.job.FlatJob.{FlatJob}
+use Rattle.m51_inputs.proofs.FileLists.{count-files_that}
 use Rattle.m51_jobs.specs.declared.job.GenJob.{GenJob}
-use Rattle.m51_jobs.specs.declared.job.Job.{Job}
-use Rattle.m51_jobs.specs.declared.job.Job.TheVariants as jobs
 use Rattle.m51_jobs.specs.declared.job.LinkJob.{LinkJob}
 use Rattle.m51_jobs.specs.declared.job.PartyJob.{PartyJob}
-use Rattle.m51_jobs.specs.Endings.{is_source}
-use Rattle.m51_module.specs.declared.source.SourceFile.{SourceFile}
-use Rattle.m51_script.specs.declared.error.ScriptError.{ScriptError}
 use Rattle.m51_text.specs.Answer.{text_of}
-use Rattle.m51_chain.specs.declared.work.Reason.TheVariants as reason
-use Rattle.m51_chain.specs.FaultLines.{fault_lines}
 use Rattle.m51_chain.specs.FlatRuns.{IsFlatOutcome, IsFlatWork, IsScripted, flat_report, script_in}
-use Rattle.m51_chain.specs.FlatRuns as flats
-use Rattle.m51_chain.specs.Optional.{content_if}
-use Rattle.m51_chain.specs.Outcome.{refused}
 use Rattle.m51_chain.specs.Refusals.{hex_outcome}
-use Rattle.m51_chain.specs.ScriptRefusals.{script_outcome}
-use Rattle.m51_build_proof.specs.Answers.{IsReady}
+use Rattle.m51_cells.proofs.Members.{Every}
+use Rattle.m51_build_proof.specs.Answers.{EachJobHasOne, IsReady, ChainIsComplete, EachHasOneAnswer}
 use Rattle.m51_hex.proofs.LowRecords.{image_length, image_of, image_read}
-use Rattle.m51_chain.specs.Parties as parties
 use Rattle.m51_jobs.specs.declared.job.AsmJob.{AsmJob}
+use Rattle.std.proofs.lemmas.Bool.Decides.{leb_tells}
+use Rattle.m51_chain.proofs.Completed.{completed, one_answer}
+use Rattle.m51_chain.proofs.FitJobs.{asked_fit}
+use Rattle.m51_chain.specs.Expected.{Faulty, HasOutcome, IsAnswer, LongFile, Many, NoFile, Worked}
+use Rattle.m51_chain.specs.Reading.{Absent, Reading, TooLong, Whole, read_of}
+use Rattle.m51_asm.specs.Answer as answers
+use Rattle.m51_jobs.specs.declared.job.Job.TheVariants as jobs
+use Rattle.m51_chain.specs.FlatRuns as flats
+use Rattle.m51_chain.specs.Parties as parties
 
--- there is an outcome of this kind
-abbrev Found : (Outcome → Type 0) → Type 0
-Found Is = (outcome : Outcome) × Is outcome
+-- there is an outcome of this kind, and what it keeps fits its status
+abbrev pub Found : (Outcome → Type 0) → Type 0
+Found Is = (outcome : Outcome) × Is outcome × Keeps outcome
 
 -- ---- a program can be linked
 
@@ -132,8 +113,7 @@ module _ (p : Program) (size : ℕ) (whole : size ≡ IMAGE_LEN) where
   unfolding bytes
   image_is = record {
     len = length-map-range_with_len (byte_at p.modules p.placing) 0 size ∙ whole;
-    each = λ address below. get_or-map-range_with_len (byte_at p.modules p.placing) 0 size address address 0
-        (omega (arith, below)) (omega arith);
+    each = λ address below. read_at (byte_at p.modules p.placing) size address 0 (omega (arith, below));
   }
 
   content : List (Option ℕ)
@@ -142,8 +122,7 @@ module _ (p : Program) (size : ℕ) (whole : size ≡ IMAGE_LEN) where
   content_at : (address : ℕ) → address < size
       → slice_index_or content address None ≡ byte_among (content_of p.modules p.placing) address
   unfolding content
-  content_at address below = get_or-map-range_with_len (byte_among (content_of p.modules p.placing)) 0 size address
-      address None below (omega arith)
+  content_at address below = read_at (byte_among (content_of p.modules p.placing)) size address None below
 
   runs_are : AreRuns (IsFilled p.modules p.placing) (runs_to content size).0
   runs_are =
@@ -164,8 +143,7 @@ module _ (p : Program) (size : ℕ) (whole : size ≡ IMAGE_LEN) where
   roots_are = record {
     len = length-map-range_with_len (root_byte (leads p.graph.edges) p.graph.roots) 0 (length p.graph.units);
     each = λ unit below. subst (AreRootBits p.graph unit)
-        (sym (get_or-map-range_with_len (root_byte (leads p.graph.edges) p.graph.roots) 0 (length p.graph.units) unit
-        unit 0 below (omega arith)))
+        (sym (read_at (root_byte (leads p.graph.edges) p.graph.roots) (length p.graph.units) unit 0 below))
         (bits_tell p.graph unit vectors);
   }
 
@@ -180,10 +158,10 @@ module _ (p : Program) (size : ℕ) (whole : size ≡ IMAGE_LEN) where
 module _ (program : Result Program Refusal) (Is : Linked → Outcome → Type 0)
     (each : (p : Program) → program ≡ Ok p → (linked : Linked) → IsLinked p linked → Found (Is linked)) where
   found_by : (r : Result Program Refusal) → program ≡ r → Found (IsProgramOutcome program Is)
-  found_by (Err why) is = (link_outcome why, Unlinked why is refl)
+  found_by (Err why) is = (link_outcome why, Unlinked why is refl, link_keeps why)
   found_by (Ok p) is =
       let l = has_linked p IMAGE_LEN refl in
-      let o = each p is l.0 l.1 in (o.0, Follows p l.0 is l.1 o.1)
+      let o = each p is l.0 l.1 in (o.0, Follows p l.0 is l.1 o.1, o.2)
 
   program_found : Found (IsProgramOutcome program Is)
   program_found = found_by program refl
@@ -192,14 +170,14 @@ module _ (files : ProgramFiles) (contents : List (List ℕ)) (Is : InputsTree �
     (each : (inputs : InputsTree) → AreAnswered files contents (Ok inputs) → Found (Is inputs)) where
   given_found : (given : Result InputsTree InputError) → AreAnswered files contents given
       → Found (IsGivenOutcome files Is given)
-  given_found (Err error) read = (input_outcome files.words error, Refused error refl refl)
-  given_found (Ok inputs) read = let o = each inputs read in (o.0, Given inputs refl o.1)
+  given_found (Err error) read = (_, Refused error refl refl, input_keeps files.words error)
+  given_found (Ok inputs) read = let o = each inputs read in (o.0, Given inputs refl o.1, o.2)
 
   files_found : Found (IsFilesOutcome files contents Is)
   files_found =
       let one = one_for_files one_text files.words (word_contents files contents) (control_content files contents)
       (script_content files contents) in
-      let o = given_found one.answer one.is in (o.0, record { given = one.answer; answer = one.is; is = o.1 })
+      let o = given_found one.answer one.is in (o.0, record { given = one.answer; answer = one.is; is = o.1 }, o.2)
 
 build_found : (job : BuildJob) (contents : List (List ℕ)) → AreOfBytes contents
     → Found (IsOutcome (jobs.Build job) contents)
@@ -210,7 +188,7 @@ build_found job contents bytes =
     (λ p is linked l.
     let rules = rules_of_program inputs p is in
     let k = modules_known (build_files job) contents inputs p.modules bytes read rules.chosen in
-    let start = startable inputs p rules k.valid k.kept in
+    let start = startable inputs p rules k in
     let kept = graph_kept p.modules inputs.controls p.graph k.resolved rules.drawn in
     let weight = has_weight (segments_of p.modules) p.graph kept in
     let w = weights_agree p.modules inputs.controls p.graph p.placing weight.weight k.valid k.resolved k.kept kept
@@ -222,6 +200,7 @@ build_found job contents bytes =
         heaviest = subst (λ (x : LayoutParts). AreHeaviest x w.chains) (sym l.layout) w.heaviest;
         is = refl;
       },
+      event_keeps _ _,
     )))
 
 -- what becomes of a layout and an image, where the layout is sound and has a root at 0000H
@@ -239,7 +218,7 @@ module _ (job : LinkJob) (contents : List (List ℕ)) (Is : LayoutParts → List
 dis_found : (job : LinkJob) (contents : List (List ℕ)) → AreOfBytes contents
     → Found (IsOutcome (jobs.Dis job) contents)
 dis_found job contents =
-    looked_at job contents IsDisassembled (λ layout image ok. (text_outcome (disassembled layout image), refl))
+    looked_at job contents IsDisassembled (λ layout image ok. (_, refl, text_keeps (disassembled layout image)))
 
 stack_found : (job : LinkJob) (contents : List (List ℕ)) → AreOfBytes contents
     → Found (IsOutcome (jobs.Stack job) contents)
@@ -248,12 +227,13 @@ stack_found job contents =
     let b = has_bound layout image ok.sound ok.root in (
       bound_outcome layout b.answer,
       record { sound = ok.sound; answer = b.answer; tied = b.tied; answers = b.answers; is = refl },
+      bound_keeps layout b.answer,
     ))
 
 -- ---- the boards of a party
 
 -- a program that is linked is started
-one_board : (script : Script) (m : ModuleParts) (p : Program) → IsValid m → sole_program m ≡ Ok p
+one_board : (script : Script) (m : ModuleParts) (p : Program) → HasBytes m → sole_program m ≡ Ok p
     → (board : BoardState) × IsBoardOf script p board
 one_board script m p valid is =
     let l = has_linked p IMAGE_LEN refl in
@@ -261,7 +241,7 @@ one_board script m p valid is =
     let b = started_board l.0.layout ok l.0.image script in
     (b.0, record { linked = l.0; is = l.1; started = b.1 })
 
-all_boards : (script : Script) (modules : List ModuleParts) (programs : List Program) → All IsValid modules
+all_boards : (script : Script) (modules : List ModuleParts) (programs : List Program) → Every HasBytes modules
     → programs_of modules ≡ Ok programs → (boards : List BoardState) × AreBoardsOf script programs boards
 all_boards script [] programs valid h = rw (← same_Ok {A = List Program} {E = Refusal} [] programs h) ([], tt)
 all_boards script (m ∷ modules) programs valid h =
@@ -269,87 +249,65 @@ all_boards script (m ∷ modules) programs valid h =
     (λ p is later.
     on_value (programs_of modules) _ programs ((boards : List BoardState) × AreBoardsOf script programs boards)
     (λ more are done.
-    let first = one_board script m p (All-head IsValid m modules valid) is in
-    let rest = all_boards script modules more (All-tail IsValid m modules valid) are in
+    let first = one_board script m p valid.0 is in
+    let rest = all_boards script modules more valid.1 are in
     rw (← same_Ok {A = List Program} {E = Refusal} (p ∷ more) programs done)
     (first.0 ∷ rest.0, (first.1, rest.1))) later) h
 
-party_work : (steps : ℕ) (inputs : InputsTree) → All IsValid inputs.modules → Found (IsPartyWork steps inputs)
+party_work : (steps : ℕ) (inputs : InputsTree) → Every HasBytes inputs.modules → Found (IsPartyWork steps inputs)
 party_work steps inputs valid = by (programs_of inputs.modules) refl
   where
     by : (r : Result (List Program) Refusal) → programs_of inputs.modules ≡ r → Found (IsPartyWork steps inputs)
-    by (Err why) is = (link_outcome why, parties.Unlinked why is refl)
+    by (Err why) is = (link_outcome why, parties.Unlinked why is refl, link_keeps why)
     by (Ok programs) is =
         let b = all_boards inputs.script inputs.modules programs valid is in
         let one = only_family b.0 steps (all_fresh inputs.script programs b.0 b.1) in (
           party_outcome b.0 steps,
           parties.Ran programs b.0 is b.1 (record { family = family_of b.0 steps; belongs = one.is; is = refl }),
+          party_keeps _ None,
         )
 
 party_found : (job : PartyJob) (contents : List (List ℕ)) → AreOfBytes contents
     → Found (IsOutcome (jobs.Party job) contents)
 party_found job contents bytes =
     files_found (party_files job) contents (IsPartyWork job.steps)
-    (λ inputs read. party_work job.steps inputs (valid_modules (party_files job) contents inputs bytes read))
+    (λ inputs read. party_work job.steps inputs (inputs_known (party_files job) contents inputs bytes read).modules)
 
 -- ---- what is generated
 
 generated_found : (source : SourceFile) (steps : ℕ) (a : AnswerTree) → Found (IsGenerated source steps a)
-generated_found source steps (answers.Faults faults) = (refused reason.Source (fault_lines source.name [] faults), refl)
+generated_found source steps (answers.Faults faults) = (_, refl, refl)
 generated_found source steps (answers.Gives parts rows) =
     program_found (sole_program parts) (IsCounted steps)
-    (λ p is linked l. (summary_outcome linked.layout linked.image steps, refl))
+    (λ p is linked l. (summary_outcome linked.layout linked.image steps, refl, event_keeps _ None))
 
 gen_found : (job : GenJob) → Found (IsGenOutcome job)
 gen_found job =
     let source : SourceFile = generated job.units job.start in
     let one = one_text source.name (text_of source []) in
     let o = generated_found source job.steps one.answer in
-    (o.0, record { answer = one.answer; answered = one.is; is = o.1 })
+    (o.0, record { answer = one.answer; answered = one.is; is = o.1 }, o.2)
 
 -- ---- what is assembled
 
-counted_on : (name : List ℕ) (names : List (List ℕ))
-    → cond (is_source name) 1 0 + count_by is_source names ≡ count_by is_source (name ∷ names)
-counted_on name names = sym (sum_by-cons (λ (n : List ℕ). cond (is_source n) 1 0) name names)
-
-no_source : (names contents : List (List ℕ)) → count_by is_source names ≡ 0 → sources_of names contents ≡ []
-no_source [] contents none = refl
-no_source (name ∷ names) [] none = refl
-no_source (name ∷ names) (bytes ∷ contents) none =
-    let counted = counted_on name names ∙ none in
-    elim (cases_Bool (is_source name)) [
-      | inl is ↦ absurd (omega (arith, rw is at counted))
-      | inr other ↦ rw other (no_source names contents (omega (arith, rw other at counted)))
-    ]
-
-one_source : (names contents : List (List ℕ)) → count_by is_source names ≡ 1 → length contents ≡ length names
-    → (source : SourceFile) × (sources_of names contents ≡ source ∷ [])
-one_source [] contents one count = absurd (omega (arith, one))
-one_source (name ∷ names) [] one count = absurd (omega (arith, count))
-one_source (name ∷ names) (bytes ∷ contents) one count =
-    let counted = counted_on name names ∙ one in
-    elim (cases_Bool (is_source name)) [
-      | inl is ↦
-          let none : count_by is_source names ≡ 0 = omega (arith, rw is at counted) in
-          rw (is, no_source names contents none) (_, refl)
-      | inr other ↦
-          rw other (one_source names contents (omega (arith, rw other at counted)) (omega (arith, count)))
-    ]
-
-assembled_found : (files : List (List ℕ)) (source : SourceFile) (includes : List SourceFile)
-    → Found (IsOneOutcome files (source ∷ []) includes)
-assembled_found files source includes =
+assembled_found : (files : List (List ℕ)) (sources includes : List SourceFile) → length sources ≡ 1
+    → Found (IsOneOutcome files sources includes)
+assembled_found files [] includes one = absurd (omega (arith, one))
+assembled_found files (source ∷ other ∷ more) includes one = absurd (omega (arith, one))
+assembled_found files (source ∷ []) includes count =
     let one = one_text source.name (text_of source includes) in (
       assembled_outcome files source includes one.answer,
       record { answer = one.answer; answered = one.is; is = refl },
+      assembled_keeps one.answer,
     )
+  where
+    assembled_keeps : (a : AnswerTree) → Keeps (assembled_outcome files source includes a)
+    assembled_keeps a = grind arith
 
 asm_found : (job : AsmJob) (contents : List (List ℕ)) → count_by is_source job.files ≡ 1
     → length contents ≡ length job.files → Found (IsOutcome (jobs.Asm job) contents)
 asm_found job contents fit count =
-    let s = one_source job.files contents fit count in
-    rw s.1 (assembled_found job.files s.0 (includes_of job.files contents))
+    assembled_found job.files _ _ (count-files_that is_source job.files contents count ∙ fit)
 
 -- ---- what is run on one memory
 
@@ -357,15 +315,15 @@ scripted_found : (job : FlatJob) (image : List ℕ) (file : Option (List ℕ)) �
 scripted_found job image file = by (script_in file) refl
   where
     by : (r : Result Script ScriptError) → script_in file ≡ r → Found (IsScripted job image file)
-    by (Err error) is = (script_outcome error, flats.ScriptRefused error is refl)
-    by (Ok with) is = (flat_report image with job.steps, flats.Ran with is refl)
+    by (Err error) is = (script_outcome error, flats.ScriptRefused error is refl, script_keeps error)
+    by (Ok with) is = (flat_report image with job.steps, flats.Ran with is refl, event_keeps _ None)
 
 flat_by : (job : FlatJob) (file : List ℕ) (script : Option (List ℕ)) (size : ℕ) → size ≡ IMAGE_LEN
     → (r : Result Memory HexError) → memory_from file ≡ r → Found (IsFlatWork job file script)
-flat_by job file script size whole (Err error) is = (hex_outcome job.file error, flats.HexRefused error is refl)
+flat_by job file script size whole (Err error) is = (hex_outcome job.file error, flats.HexRefused error is refl, refl)
 flat_by job file script size whole (Ok m) is =
     let o = scripted_found job (image_of m size) script in
-    (o.0, flats.HexRead (image_of m size) (image_length m size ∙ whole) (image_read file m size whole is) o.1)
+    (o.0, flats.HexRead (image_of m size) (image_length m size ∙ whole) (image_read file m size whole is) o.1, o.2)
 
 flat_found : (job : FlatJob) (contents : List (List ℕ)) (count : ℕ) → length contents ≡ suc count
     → Found (IsFlatOutcome job contents)
@@ -380,20 +338,64 @@ only_one : (job : Job) (contents : List (List ℕ)) → Found (IsOutcome job con
 only_one job contents found =
     (found.0, record { is = found.1; only = λ other h. one_outcome job contents other found.0 h found.1 })
 
-pub one_of_each : (job : BuildJob) (contents : List (List ℕ)) → AreOfBytes contents
-    → (outcome : Outcome) × IsOnly (jobs.Build job) contents outcome
+pub one_of_each : EachHasOneOutcome
 one_of_each job contents bytes = only_one (jobs.Build job) contents (build_found job contents bytes)
 
-pub one_of_job : (job : Job) (contents : List (List ℕ)) → IsReady job contents
-    → (outcome : Outcome) × IsOnly job contents outcome
-one_of_job job contents ready = only_one job contents (found job contents ready)
-  where
-    found : (job : Job) (contents : List (List ℕ)) → IsReady job contents → Found (IsOutcome job contents)
-    found (jobs.Build job) contents ready = build_found job contents ready.bytes
-    found (jobs.Asm job) contents ready = asm_found job contents ready.fit ready.count
-    found (jobs.Library job) contents ready = (_, refl)
-    found (jobs.Flat job) contents ready = flat_found job contents _ ready.count
-    found (jobs.Gen job) contents ready = gen_found job
-    found (jobs.Dis job) contents ready = dis_found job contents ready.bytes
-    found (jobs.Stack job) contents ready = stack_found job contents ready.bytes
-    found (jobs.Party job) contents ready = party_found job contents ready.bytes
+pub job_found : (job : Job) (contents : List (List ℕ)) → IsReady job contents → Found (IsOutcome job contents)
+job_found (jobs.Build job) contents ready = build_found job contents ready.bytes
+job_found (jobs.Asm job) contents ready = asm_found job contents ready.fit ready.count
+job_found (jobs.Library job) contents ready = (_, refl, library_keeps job contents)
+job_found (jobs.Flat job) contents ready = flat_found job contents _ ready.count
+job_found (jobs.Gen job) contents ready = gen_found job
+job_found (jobs.Dis job) contents ready = dis_found job contents ready.bytes
+job_found (jobs.Stack job) contents ready = stack_found job contents ready.bytes
+job_found (jobs.Party job) contents ready = party_found job contents ready.bytes
+
+pub one_of_job : EachJobHasOne
+one_of_job job contents ready = only_one job contents (job_found job contents ready)
+
+-- ---- the answer
+
+abbrev Answered : List (List ℕ) → Files → Type 0
+Answered words files = (answer : Answer) × IsAnswer words files answer
+
+module _ (words : List (List ℕ)) (files : Files) (bytes : HoldBytes files) where
+  worked : (job : Job) (contents : List (List ℕ)) → job_of words ≡ Some job → file_count job ≤ MOST_FILES
+      → read_of files (names_read job) ≡ Whole contents → Answered words files
+  worked job contents asked few read =
+      let given = are_read files bytes (names_read job) contents read in
+      let o = job_found job contents (record {
+        fit = asked_fit words job asked;
+        count = given.0;
+        bytes = given.1;
+      }) in
+      let has : HasOutcome job contents (named_answer (name_kept job) o.0) =
+      record { outcome = o.0; work = o.1; keeps = o.2; is = refl } in
+      (named_answer (name_kept job) o.0, Worked job contents asked few read has)
+
+  by_reading : (job : Job) (r : Reading) → job_of words ≡ Some job → file_count job ≤ MOST_FILES
+      → read_of files (names_read job) ≡ r → Answered words files
+  by_reading job (Whole contents) asked few read = worked job contents asked few read
+  by_reading job TooLong asked few read = (long_answer, LongFile job asked few read refl)
+  by_reading job (Absent name) asked few read =
+      (unread_answer name, NoFile job name asked few read refl)
+
+  by_job : (asked : Option Job) → job_of words ≡ asked → Answered words files
+  by_job None asked = (usage_answer, Faulty asked refl)
+  by_job (Some job) asked = elim (leb_tells (file_count job) MOST_FILES) [
+    | inl few ↦ by_reading job (read_of files (names_read job)) asked few.1 refl
+    | inr many ↦ (many_answer, Many job asked (omega (arith, many.1)) refl)
+  ]
+
+  answered : Answered words files
+  answered = by_job (job_of words) refl
+
+pub one_of_words : EachHasOneAnswer
+one_of_words words files bytes =
+    let a = answered words files bytes in
+    (a.0, record { is = a.1; only = λ other h. one_answer words files other a.0 h a.1 })
+
+pub chain_complete : ChainIsComplete
+chain_complete words files c told bytes it =
+    let one = one_of_words words files bytes in
+    (one.0, one.1, completed words files c one.0 told it one.1.is)

@@ -1,6 +1,5 @@
 pub mod Common
 pub mod Weights
-pub mod EarlierRules
 pub mod Reported
 pub mod Erased
 pub mod Verdicts
@@ -8,9 +7,6 @@ pub mod ReadBodies
 pub mod PieceBytes
 pub mod Promised
 pub mod Known
-pub mod Refusing
-pub mod Keeping
 pub mod BoundFound
 pub mod StartedBoards
 pub mod Existing
-pub mod Answered

@@ -1,42 +1,35 @@
 -- What sources give and what objects have are bytes, and so is the image.
-use Rattle.m51_build_proof.proofs.Common.{Value, IsTree, ModuleParts, SourceFile, option_map_or, option_or, Placing}
+use Rattle.m51_build_proof.proofs
+use proofs.Common.{Value, IsTree, ModuleParts, SourceFile, option_map_or, Placing, Instr, IsBytes, fit_back, fit_front}
+use proofs.Common.{Tree, AllByRecursion, flat_map, All, range_with_len, cons_option, filter_map, Piece, Row, option_map}
+use proofs.Common.{slice_get, All-head, All-tail, All-from_get_or, byte_among, Stretch, stretch_at, IsValid}
+use proofs.Common.{IsBitNumber, IsFixupValid, cases_Bool, IsRead, encoded, padded, Meanings, IsByte, Each, IsItem}
+use proofs.Common.{IsOperand, MOST_PIECE_BYTES, placed_fault, FieldBytes, address_of, Fixup, Form}
+use proofs.ReadBodies.{IsSmallBody, IsTextItem, AreSmall, IfSmall, IsSmall, counted_small, value_small, SmallTree}
+use proofs.ReadBodies.{lines_small, body_small, final_small}
 use Rattle.std.proofs.Common.{ℕ, ◌<◌, arith, ◌≡◌, zero, suc, Bool, false, cond, List, [], ◌∷◌, ◌++◌, length, map, drop}
-use Rattle.std.proofs.Common.{Option, Some, None, Ok, Err, refl, sym, ◌+◌, ◌*◌, true, subst, ◌-◌, take, ◌==◌}
-use Rattle.m51_isa.specs.declared.instr.Instr.{Instr}
-use Rattle.m51_records.proofs.FieldLaws.{IsBytes, fit_back, fit_front}
-use Rattle.m51_expr.specs.Tree.{Tree}
+use Rattle.std.proofs.Common.{Option, Some, None, Ok, Err, refl, sym, ◌+◌, ◌*◌, subst, take, ◌==◌, inl, inr}
 use Rattle.m51_expr.specs.Value.{Valued}
 use Rattle.m51_stmt.specs.Statement.{BodyTree}
-use Rattle.std.specs.List.{AllByRecursion, flat_map, All, range_with_len, cons_option, filter_map}
-use Rattle.m51_module.specs.declared.content.Piece.{Piece}
-use Rattle.m51_module.specs.declared.source.Row.{Row}
 use Rattle.m51_text.specs.Answer.{LineTree, Lines, TextTree, Faults as TextFaults, text_of as source_text}
-use Rattle.m51_asm.specs.Answer.{AnswerTree, Gives, IsAnswer, IsAnswerOf, answer_of_lines, content_or_faults}
-use Rattle.m51_asm.specs.Answer.{first_fault, placed_or_fault}
-use Rattle.std.specs.Prelude.{option_map, slice_get, unwrap_or, nat_le}
-use Rattle.std.proofs.lemmas.List.Elements.{All-head, All-tail, All-from_get_or, All-get_or}
+use Rattle.m51_asm.specs.Answer.{Gives, IsAnswer, IsAnswerOf, answer_of_lines, first_fault}
 use Rattle.m51_linker.specs.Image.{IsImage, byte_at, content_of, fields_of, fixup_field, module_content, module_fields}
 use Rattle.m51_linker.specs.Image.{placed_field, placed_piece}
-use Rattle.m51_linker.specs.Stretches.{byte_among, Stretch, byte_in, stretch_at}
-use Rattle.m51_module.specs.Validity.{IsValid, IsBitNumber, IsFixupValid}
-use Rattle.m51_records.proofs.ModuleLaws.{IsRead}
+use Rattle.m51_cells.proofs.Members.{Every, In, every_in, every_map, every_of, got_in, in_flat}
 use Rattle.m51_isa.specs.declared.instr.Instr.TheVariants.{Nop}
 use Rattle.m51_isa.specs.declared.look.Look.{Look}
-use Rattle.m51_isa.specs.declared.look.Look.TheVariants as look
 use Rattle.m51_isa.specs.Filling.{with_numbers}
 use Rattle.m51_isa.specs.Spelling.{look_of, text_of}
-use Rattle.m51_isa.specs.Table.{encoded, padded}
 use Rattle.m51_isa.specs.declared.generics.Jump.{Jump}
 use Rattle.m51_isa.specs.declared.slot.Field.{Field}
 use Rattle.m51_isa.specs.declared.slot.FieldSlot.{FieldSlot}
 use Rattle.m51_isa.specs.TextLaws.{HasRowText, meant_by}
 use Rattle.m51_isa.specs.Generic.{generic}
 use Rattle.m51_isa.proofs.RowsFilled.{texts_are_rows}
-use Rattle.m51_expr.specs.Meanings.{Meanings}
 use Rattle.m51_expr.specs.Evaluation.{value_of}
 use Rattle.m51_expr.specs.Operand.{OperandTree, R, AtR, ItemTree, Text, Value as ValueItem}
 use Rattle.m51_encode.specs.declared.reference.FieldValue.{FieldValue}
-use Rattle.m51_encode.specs.declared.reference.FieldValue.TheVariants.{Number, Linked}
+use Rattle.m51_encode.specs.declared.reference.FieldValue.TheVariants.{Number}
 use Rattle.m51_encode.specs.declared.item.Width.{Width}
 use Rattle.m51_encode.specs.declared.item.Width.TheVariants.{Byte, Word}
 use Rattle.m51_encode.specs.Coding.{Line, coded, coded_by, coded_line, first_of, gathered, instruction_line, line_row}
@@ -45,39 +38,25 @@ use Rattle.m51_encode.specs.FieldValues.{field_of, is_taken, taken_of}
 use Rattle.m51_encode.specs.Filling.{Answer, and_then, expression, fielded, filled, filled_by, or_out_of_range, valued}
 use Rattle.m51_encode.specs.Items.{item_field}
 use Rattle.m51_emit.specs.Content.{coded_content, content_by, item_content, item_given, joined}
-use Rattle.m51_stmt.specs.Laws.{IsByte}
-use Rattle.m51_stmt.proofs.ListWords.{Each}
-use Rattle.m51_stmt.proofs.PrintedLists.{IsItem}
-use Rattle.m51_stmt.proofs.PrintedOperands.{IsOperand}
 use Rattle.m51_asm.proofs.ContentFields.{Held}
-use Rattle.m51_build_proof.proofs.ReadBodies.{IsSmallBody, IsTextItem, AreSmall, IfSmall, IsSmall, counted_small}
-use Rattle.m51_build_proof.proofs.ReadBodies.{value_small, SmallTree, lines_small, body_small, final_small}
-use Rattle.m51_isa.specs.declared.slot.Field.TheVariants as field
-use Rattle.m51_stmt.specs.Statement as body
-use Rattle.m51_cells.specs.declared.limits.TheConstants.{MOST_PIECE_BYTES}
-use Rattle.m51_module.specs.declared.source.Fault.{Fault}
 use Rattle.m51_asm.specs.Assignment.{Assignment, body_at}
 use Rattle.m51_asm.specs.ContentFaults.{content_faults}
 use Rattle.m51_asm.specs.ObjectSegments.{final, kept, segment_number}
 use Rattle.m51_asm.specs.Parts.{parts}
 use Rattle.m51_asm.specs.Pieces.{Run, content_at, if_bytes, offset_at, piece_at, pieces, pieces_of_run, runs_from}
 use Rattle.m51_asm.specs.Pieces.{segment_pieces}
-use Rattle.m51_asm.specs.PlacedFaults.{placed_fault}
 use Rattle.m51_asm.specs.ValidTexts.{IsFaultless}
 use Rattle.m51_asm.proofs.AnAssignment.{fits, fitting}
 use Rattle.m51_asm.proofs.GoodLines.{IsClean, clean}
-use Rattle.std.proofs.lemmas.Option.{get_or_from_slice_get, slice_get_within}
-use Rattle.m51_fields.specs.declared.fields.FieldBytes.{FieldBytes}
 use Rattle.m51_fields.specs.Fields.{bytes_of_field as field_bytes, field_of as placed_field_of}
-use Rattle.m51_linker.specs.Targets.{address_of}
-use Rattle.m51_module.specs.declared.content.Fixup.{Fixup}
-use Rattle.m51_module.specs.declared.content.Form.{Form}
 use Rattle.m51_records.specs.Contents.{piece_contents}
 use Rattle.m51_frame.specs.Fields.{pair}
 use Rattle.m51_frame.specs.Frame.{checksummed_bytes, record_of}
 use Rattle.m51_records.specs.Spelling.{bytes_of, external_record, header_record, piece_record, public_record}
 use Rattle.m51_records.specs.Spelling.{segment_record}
-use Rattle.m51_module.specs.declared.content.Form.TheVariants as form
+use Rattle.m51_isa.specs.declared.look.Look.TheVariants as look
+use Rattle.m51_isa.specs.declared.slot.Field.TheVariants as field
+use Rattle.m51_stmt.specs.Statement as body
 
 -- a register is one of R0 to R7, a pointer is R0 or R1
 abbrev pub LookFits : Look → Type 0
@@ -181,9 +160,7 @@ gathered_bytes i fit (Ok a) (Ok b) (Ok c) hx hy hz =
 gathered_bytes i fit x y z hx hy hz = tt
 
 look_fits : (o : Option OperandTree) → LookFits (look_in o)
-look_fits (Some (R n)) = grind arith
-look_fits (Some (AtR n)) = grind arith
-look_fits o = tt
+look_fits o = grind arith
 
 abbrev OperandsAre : Line → Type 0
 OperandsAre l = IfOperand l.first × (IfOperand l.second × IfOperand l.third)
@@ -215,16 +192,12 @@ line_operands mnemonic operands jump h = grind arith
 
 content_line_bytes : (names : Meanings) → AreSmall names → (o : Option Line) → IfLine o
     → IsBytes (coded_content (coded_line names o)).bytes
-content_line_bytes names are None h = tt
-content_line_bytes names are (Some l) h = row_coded names are l h (line_row l) refl
+content_line_bytes names are o h = grind (arith, row_coded names are)
 
 -- items of DB and DW
 byte_bytes : (item : ItemTree) (r : Answer (Option FieldValue)) → IsTextItem item
     → IsBytes (item_given Byte item r).bytes
-byte_bytes (Text characters) (Ok held) h = each_bytes characters h
-byte_bytes (ValueItem e) (Ok (Some (Number n))) h = (omega arith, tt)
-byte_bytes (ValueItem e) (Ok (Some (Linked r))) h = (omega arith, tt)
-byte_bytes item r h = tt
+byte_bytes item r h = grind (arith, each_bytes)
 
 items_bytes : (names : Meanings) (width : Width) (P : ItemTree → Type 0)
     → ((item : ItemTree) → P item → IsBytes (item_content names width item).bytes) → (items : List ItemTree)
@@ -235,15 +208,11 @@ items_bytes names width P is (item ∷ items) h =
 
 word_field : (e : Tree) (o : Option FieldValue) → IfField o
     → IsBytes (item_given Word (ValueItem e) (and_then (or_out_of_range o) (λ held. Ok (Some held)))).bytes
-word_field e None h = tt
-word_field e (Some (Number n)) h = (omega (arith, h.holds n refl), (omega arith, tt))
-word_field e (Some (Linked r)) h = (omega arith, (omega arith, tt))
+word_field e o h = grind arith
 
 word_by : (names : Meanings) (e : Tree) (v : Valued Value) → IfSmall v
     → IsBytes (item_given Word (ValueItem e) (and_then (fielded names 0 field.Data16 v) (λ held. Ok (Some held)))).bytes
-word_by names e (Ok v) h =
-    word_field e (field_of names field.Data16 0 v) (field_small names field.Data16 0 v (h.holds v refl))
-word_by names e (Err k) h = tt
+word_by names e v h = grind (arith, word_field, field_small names field.Data16 0)
 
 word_bytes : (names : Meanings) → AreSmall names → (item : ItemTree) → IsItem false item
     → IsBytes (item_content names Word item).bytes
@@ -263,49 +232,29 @@ content_bytes names are jump (body.Dw items) h =
 content_bytes names are jump b h = tt
 
 -- each piece is of bytes
-abbrev pub ArePieces : List Piece → Type 0
-ArePieces [] = Unit {0}
-ArePieces (p ∷ more) = IsBytes p.bytes × ArePieces more
+abbrev pub HasOwn : Piece → Type 0
+HasOwn p = IsBytes p.bytes
 
-pieces_append : (xs ys : List Piece) → ArePieces xs → ArePieces ys → ArePieces (xs ++ ys)
-pieces_append [] ys h k = k
-pieces_append (x ∷ xs) ys h k = (h.0, pieces_append xs ys h.1 k)
-
-pieces_flat : {A : Type 0} (f : A → List Piece) → ((x : A) → ArePieces (f x)) → (xs : List A)
-    → ArePieces (flat_map f xs)
-pieces_flat f each [] = tt
-pieces_flat f each (x ∷ xs) = pieces_append (f x) (flat_map f xs) (each x) (pieces_flat f each xs)
+-- what holds of all that each element gives holds of all
+pub every_flat : {A B : Type 0} (P : B → Type 0) (f : A → List B) (xs : List A) → ((x : A) → In x xs → Every P (f x))
+    → Every P (flat_map f xs)
+every_flat P f xs each = every_of P (flat_map f xs)
+    (λ y h. let of = in_flat f xs y h in every_in P (f of.0) y (each of.0 of.1) of.2)
 
 -- runs
-abbrev AreRuns : List Run → Type 0
-AreRuns [] = Unit {0}
-AreRuns (r ∷ more) = IsBytes r.1 × AreRuns more
+abbrev IsRun : Run → Type 0
+IsRun r = IsBytes r.1
 
-joined_runs : (at : ℕ) (bytes : List ℕ) (next : Run) (more : List Run) (b : Bool) → IsBytes bytes
-    → AreRuns (next ∷ more)
-    → AreRuns (cond b ((at, bytes ++ next.1) ∷ more) ((at, bytes) ∷ next ∷ more))
-joined_runs at bytes next more true h k = (bytes_append bytes next.1 h k.0, k.1)
-joined_runs at bytes next more false h k = (h, k)
+runs_before : (at : ℕ) (bytes : List ℕ) (runs : List Run) → IsBytes bytes → Every IsRun runs
+    → Every IsRun (if_bytes at bytes runs)
+runs_before at bytes runs h k = grind (arith, bytes_append)
 
-runs_before : (at : ℕ) (bytes : List ℕ) (runs : List Run) → IsBytes bytes → AreRuns runs
-    → AreRuns (if_bytes at bytes runs)
-runs_before at [] runs h k = k
-runs_before at (byte ∷ bytes) [] h k = (h, tt)
-runs_before at (byte ∷ bytes) (next ∷ more) h k =
-    joined_runs at (byte ∷ bytes) next more (at + length (byte ∷ bytes) == next.0) h k
-
-run_pieces : (segment : ℕ) (run : Run) (ks : List ℕ) → IsBytes run.1 → ArePieces (map (piece_at segment run) ks)
-run_pieces segment run [] h = tt
-run_pieces segment run (k ∷ ks) h = (
-  bytes_take MOST_PIECE_BYTES (drop (MOST_PIECE_BYTES * k) run.1) (bytes_drop (MOST_PIECE_BYTES * k) run.1 h),
-  run_pieces segment run ks h,
-)
-
-all_pieces : (segment : ℕ) (runs : List Run) → AreRuns runs → ArePieces (flat_map (pieces_of_run segment) runs)
-all_pieces segment [] h = tt
-all_pieces segment (r ∷ runs) h =
-    pieces_append (pieces_of_run segment r) (flat_map (pieces_of_run segment) runs) (run_pieces segment r _ h.0)
-    (all_pieces segment runs h.1)
+all_pieces : (segment : ℕ) (runs : List Run) → Every IsRun runs
+    → Every HasOwn (flat_map (pieces_of_run segment) runs)
+all_pieces segment runs h = every_flat HasOwn (pieces_of_run segment) runs (λ run there.
+    every_map (piece_at segment run) HasOwn _ (every_of _ _ (λ k _.
+    bytes_take MOST_PIECE_BYTES (drop (MOST_PIECE_BYTES * k) run.1)
+    (bytes_drop (MOST_PIECE_BYTES * k) run.1 (every_in IsRun runs run h there)))))
 
 module _ (lines : List LineTree) (a : Assignment) (c : IsClean lines a) (all : AllByRecursion SmallTree lines) where
   line_bytes : (k : ℕ) → IsBytes (content_at lines a k).bytes
@@ -313,71 +262,45 @@ module _ (lines : List LineTree) (a : Assignment) (c : IsClean lines a) (all : A
   line_bytes k = content_bytes (final lines a k) (final_small lines a c all k) (a.form k) (body_at lines k)
       (body_small lines a c all k)
 
-  runs_by : (id k : ℕ) (rest : List Run) (b : Bool) → AreRuns rest
-      → AreRuns (cond b (if_bytes (offset_at lines a k) (content_at lines a k).bytes rest) rest)
-  runs_by id k rest true h = runs_before (offset_at lines a k) (content_at lines a k).bytes rest (line_bytes k) h
-  runs_by id k rest false h = h
-
-  all_runs : (id k : ℕ) (ls : List LineTree) → AreRuns (runs_from lines a id k ls)
+  all_runs : (id k : ℕ) (ls : List LineTree) → Every IsRun (runs_from lines a id k ls)
   all_runs id k [] = tt
-  all_runs id k (l ∷ ls) =
-      runs_by id k (runs_from lines a id (suc k) ls) ((a.segment k).id == id) (all_runs id (suc k) ls)
+  all_runs id k (l ∷ ls) = elim (cases_Bool ((a.segment k).id == id)) [
+    | inl here ↦ rw here (runs_before (offset_at lines a k) (content_at lines a k).bytes _ (line_bytes k)
+        (all_runs id (suc k) ls))
+    | inr other ↦ rw other (all_runs id (suc k) ls)
+  ]
 
-  text_pieces : ArePieces (pieces lines a)
-  text_pieces = pieces_flat (segment_pieces lines a)
-      (λ s. all_pieces (segment_number lines a s.id) (runs_from lines a s.id 0 lines) (all_runs s.id 0 lines))
-      (kept lines a)
-
-  pub parts_pieces : (file : List ℕ) → ArePieces (parts file lines a).pieces
+  pub parts_pieces : (file : List ℕ) → Every HasOwn (parts file lines a).pieces
   unfolding parts
-  parts_pieces file = text_pieces
+  parts_pieces file = every_flat HasOwn (segment_pieces lines a) (kept lines a)
+      (λ s _. all_pieces (segment_number lines a s.id) (runs_from lines a s.id 0 lines) (all_runs s.id 0 lines))
 
--- the module of an answer
-module _ (source : SourceFile) (includes : List SourceFile) where
-  abbrev gives : ModuleParts → List Row → AnswerTree
-  gives m given = Gives m given
+-- a module that is given is that of the parts of the lines, none of which has a fault
+given_by : (file : List ℕ) (lines : List LineTree) (a : Assignment) (m : ModuleParts) (rows : List Row)
+    → answer_of_lines file lines a ≡ Gives m rows
+    → (first_fault (placed_fault lines a) 0 lines ≡ None) × (content_faults lines a ≡ []) × (m ≡ parts file lines a)
+unfolding answer_of_lines
+given_by file lines a m rows h = grind arith
 
-  -- the module of this answer, if it is one, has pieces of bytes
-  abbrev HasPieces : AnswerTree → Type 0
-  HasPieces (Gives m given) = ArePieces m.pieces
-  HasPieces other = Unit {0}
+module _ (source : SourceFile) (includes : List SourceFile) (m : ModuleParts) (rows : List Row) where
+  of_text : (text : TextTree) → source_text source includes ≡ text → IsAnswerOf source.name text (Gives m rows)
+      → Every HasOwn m.pieces
+  of_text (TextFaults faults) read h = absurd (cc h)
+  of_text (Lines lines) read h =
+      let a = fitting lines in
+      let by = given_by source.name lines a m rows (sym (h a (fits lines))) in
+      let faultless : IsFaultless lines a = record {
+        source = source;
+        includes = includes;
+        read = read;
+        fits = fits lines;
+        placed = by.0;
+        content = by.1;
+      } in
+      rw by.2 (parts_pieces lines a (clean lines a faultless) (lines_small source includes lines read) source.name)
 
-  module _ (lines : List LineTree) (read : source_text source includes ≡ Lines lines) where
-    abbrev a : Assignment
-    a = fitting lines
-
-    by_content : (faults : List Fault) → first_fault (placed_fault lines a) 0 lines ≡ None
-        → content_faults lines a ≡ faults → HasPieces (content_or_faults source.name lines a faults)
-    by_content [] placed content =
-        let faultless : IsFaultless lines a =
-        record {
-          source = source;
-          includes = includes;
-          read = read;
-          fits = fits lines;
-          placed = placed;
-          content = content;
-        } in
-        parts_pieces lines a (clean lines a faultless) (lines_small source includes lines read) source.name
-    by_content (f ∷ faults) placed content = tt
-
-    by_place : (o : Option Fault) → first_fault (placed_fault lines a) 0 lines ≡ o
-        → HasPieces (placed_or_fault source.name lines a o)
-    by_place None placed = by_content (content_faults lines a) placed refl
-    by_place (Some f) placed = tt
-
-    of_lines : HasPieces (answer_of_lines source.name lines a)
-    unfolding answer_of_lines
-    of_lines = by_place (first_fault (placed_fault lines a) 0 lines) refl
-
-  of_text : (text : TextTree) (m : ModuleParts) (given : List Row) → source_text source includes ≡ text
-      → IsAnswerOf source.name text (gives m given) → ArePieces m.pieces
-  of_text (TextFaults faults) m given read h = absurd (cc h)
-  of_text (Lines lines) m given read h = subst HasPieces (sym (h (fitting lines) (fits lines))) (of_lines lines read)
-
-  pub source_pieces : (m : ModuleParts) (given : List Row) → IsAnswer source includes (Gives m given)
-      → ArePieces m.pieces
-  source_pieces m given h = of_text (source_text source includes) m given refl h
+  pub source_pieces : IsAnswer source includes (Gives m rows) → Every HasOwn m.pieces
+  source_pieces h = of_text (source_text source includes) refl h
 
 -- an object that is of bytes spells pieces of bytes
 framed : (type : ℕ) (contents : List ℕ) → IsBytes (record_of type contents) → IsBytes contents
@@ -387,14 +310,12 @@ framed type contents h =
 one_piece : (p : Piece) → IsBytes (piece_record p) → IsBytes p.bytes
 one_piece p h = fit_back (pair p.offset) p.bytes (framed _ (piece_contents p) h).1
 
-pieces_bytes : (pieces : List Piece) → IsBytes (flat_map piece_record pieces) → ArePieces pieces
+pieces_bytes : (pieces : List Piece) → IsBytes (flat_map piece_record pieces) → Every HasOwn pieces
 pieces_bytes [] h = tt
-pieces_bytes (p ∷ pieces) h = (
-  one_piece p (fit_front (piece_record p) (flat_map piece_record pieces) h),
-  pieces_bytes pieces (fit_back (piece_record p) (flat_map piece_record pieces) h),
-)
+pieces_bytes (p ∷ pieces) h =
+    grind (arith, one_piece p, fit_front (piece_record p), fit_back (piece_record p), pieces_bytes pieces)
 
-module_pieces : (m : ModuleParts) → IsBytes (bytes_of m) → ArePieces m.pieces
+module_pieces : (m : ModuleParts) → IsBytes (bytes_of m) → Every HasOwn m.pieces
 unfolding bytes_of
 module_pieces m h =
     let one = fit_back (header_record m.name m.version) _ h in
@@ -404,14 +325,13 @@ module_pieces m h =
     pieces_bytes m.pieces (fit_front (flat_map piece_record m.pieces) _ four)
 
 pub object_pieces : (bytes : List ℕ) (m : ModuleParts) (rest : List ℕ) → IsBytes bytes → IsRead bytes m rest
-    → ArePieces m.pieces
+    → Every HasOwn m.pieces
 object_pieces bytes m rest fits is =
     module_pieces m (fit_front (bytes_of m) rest (subst IsBytes is.bytes_are fits))
 
 -- stretches of bytes
-AreStretches : List Stretch → Type 0
-AreStretches [] = Unit {0}
-AreStretches (s ∷ more) = IsBytes s.bytes × AreStretches more
+abbrev IsStretch : Stretch → Type 0
+IsStretch s = IsBytes s.bytes
 
 record IfByte (o : Option ℕ) : Type 0 where
   holds : (byte : ℕ) → o ≡ Some byte → byte < 256
@@ -419,37 +339,14 @@ record IfByte (o : Option ℕ) : Type 0 where
 no_byte : IfByte None
 no_byte = grind arith
 
-some_byte : (x : ℕ) → x < 256 → IfByte (Some x)
-some_byte x h = grind arith
-
-byte_cond : (b : Bool) (o p : Option ℕ) → IfByte o → IfByte p → IfByte (cond b o p)
-byte_cond b o p h k = grind arith
-
-byte_or : (o p : Option ℕ) → IfByte o → IfByte p → IfByte (option_or o p)
-byte_or o p h k = grind arith
-
 get_byte : (xs : List ℕ) (k : ℕ) → IsBytes xs → IfByte (slice_get xs k)
-get_byte [] k h = no_byte
-get_byte (x ∷ xs) zero h = some_byte x h.0
+get_byte [] k h = grind arith
+get_byte (x ∷ xs) zero h = grind arith
 get_byte (x ∷ xs) (suc k) h = get_byte xs k h.1
 
-among_byte : (xs : List Stretch) (address : ℕ) → AreStretches xs → IfByte (byte_among xs address)
-unfolding AreStretches
-among_byte [] address h = no_byte
-among_byte (s ∷ more) address h =
-    byte_or (byte_among more address) (byte_in s address) (among_byte more address h.1)
-    (byte_cond (nat_le s.at address) (slice_get s.bytes (address - s.at)) None (grind (arith, get_byte))
-    no_byte)
-
-stretches_append : (xs ys : List Stretch) → AreStretches xs → AreStretches ys → AreStretches (xs ++ ys)
-unfolding AreStretches
-stretches_append [] ys h k = k
-stretches_append (x ∷ xs) ys h k = (h.0, stretches_append xs ys h.1 k)
-
-stretches_flat : (f : ℕ → List Stretch) → ((k : ℕ) → AreStretches (f k)) → (ks : List ℕ) → AreStretches (flat_map f ks)
-unfolding AreStretches
-stretches_flat f each [] = tt
-stretches_flat f each (k ∷ ks) = stretches_append (f k) (flat_map f ks) (each k) (stretches_flat f each ks)
+among_byte : (xs : List Stretch) (address : ℕ) → Every IsStretch xs → IfByte (byte_among xs address)
+among_byte [] address h = grind arith
+among_byte (s ∷ more) address h = grind (arith, get_byte, among_byte more address)
 
 -- fields are of bytes
 record IfFieldBytes (o : Option FieldBytes) : Type 0 where
@@ -457,54 +354,38 @@ record IfFieldBytes (o : Option FieldBytes) : Type 0 where
 
 field_is_bytes : (shape : Form) (bit target address first : ℕ) → target < 65536 → IsBitNumber shape bit
     → IfFieldBytes (placed_field_of shape bit target address first)
-field_is_bytes form.Low bit target address first h n = grind arith
-field_is_bytes form.Byte bit target address first h n = grind arith
-field_is_bytes form.Relative bit target address first h n = grind arith
-field_is_bytes form.High bit target address first h n = grind arith
-field_is_bytes form.Word bit target address first h n = grind arith
-field_is_bytes form.Inblock bit target address first h n = grind arith
-field_is_bytes form.Bit bit target address first h n = grind arith
-field_is_bytes form.Conv bit target address first h n = grind arith
+field_is_bytes shape bit target address first h n = grind arith
 
 -- what holds of a module
 pub record HasBytes (m : ModuleParts) : Type 0 where
   pub valid : IsValid m
-  pub pieces : ArePieces m.pieces
+  pub pieces : Every HasOwn m.pieces
 
-module _ (modules : List ModuleParts) (placing : Placing) (all : All HasBytes modules) where
+module _ (modules : List ModuleParts) (placing : Placing) (all : Every HasBytes modules) where
   known_at : (m : ℕ) (parts : ModuleParts) → slice_get modules m ≡ Some parts → HasBytes parts
-  known_at m parts is =
-      rw (get_or_from_slice_get modules m parts parts is) at
-      (All-get_or HasBytes modules m parts (slice_get_within modules m parts is) all)
-
-  placed_bytes : (m : ℕ) (pieces : List Piece) → ArePieces pieces
-      → AreStretches (map (placed_piece modules placing m) pieces)
-  unfolding AreStretches
-  placed_bytes m [] h = tt
-  placed_bytes m (p ∷ pieces) h = (h.0, placed_bytes m pieces h.1)
+  known_at m parts is = every_in HasBytes modules parts all (got_in modules m parts is)
 
   content_of_module : (m : ℕ) (o : Option ModuleParts) → slice_get modules m ≡ o
-      → AreStretches (option_map_or (λ (parts : ModuleParts). map (placed_piece modules placing m) parts.pieces) o [])
-  unfolding AreStretches
+      → Every IsStretch (option_map_or (λ (parts : ModuleParts). map (placed_piece modules placing m) parts.pieces) o
+      [])
   content_of_module m None is = tt
-  content_of_module m (Some parts) is = placed_bytes m parts.pieces (known_at m parts is).pieces
+  content_of_module m (Some parts) is =
+      every_map (placed_piece modules placing m) IsStretch parts.pieces (known_at m parts is).pieces
 
-  content_are : AreStretches (content_of modules placing)
-  content_are = stretches_flat (module_content modules placing) (λ m. content_of_module m (slice_get modules m) refl)
-      (range_with_len 0 (length modules))
+  content_are : Every IsStretch (content_of modules placing)
+  content_are = every_flat IsStretch (module_content modules placing) (range_with_len 0 (length modules))
+      (λ m _. content_of_module m (slice_get modules m) refl)
 
   fixup_bytes : (m : ℕ) (f : Fixup) → IsBitNumber f.form f.bit → IfFieldBytes (fixup_field modules placing m f)
   fixup_bytes m f bit = grind (arith, field_is_bytes)
 
-  option_bytes : (at : ℕ) (o : Option FieldBytes) (rest : List Stretch) → IfFieldBytes o → AreStretches rest
-      → AreStretches (cons_option (option_map (stretch_at at) o) rest)
-  unfolding AreStretches
+  option_bytes : (at : ℕ) (o : Option FieldBytes) (rest : List Stretch) → IfFieldBytes o → Every IsStretch rest
+      → Every IsStretch (cons_option (option_map (stretch_at at) o) rest)
   option_bytes at o rest h k = grind arith
 
   fixups_bytes : (m : ℕ) (parts : ModuleParts) (fixups : List Fixup)
       → All (IsFixupValid parts.segments parts.externals parts.pieces) fixups
-      → AreStretches (filter_map (placed_field modules placing m) fixups)
-  unfolding AreStretches
+      → Every IsStretch (filter_map (placed_field modules placing m) fixups)
   fixups_bytes m parts [] valid = tt
   fixups_bytes m parts (f ∷ fixups) valid =
       option_bytes (address_of modules placing m f.segment f.offset) (fixup_field modules placing m f)
@@ -513,24 +394,21 @@ module _ (modules : List ModuleParts) (placing : Placing) (all : All HasBytes mo
       (fixups_bytes m parts fixups (All-tail (IsFixupValid parts.segments parts.externals parts.pieces) f fixups valid))
 
   fields_by : (m : ℕ) (o : Option ModuleParts) → slice_get modules m ≡ o
-      → AreStretches (option_map_or (λ (parts : ModuleParts). filter_map (placed_field modules placing m) parts.fixups)
-      o [])
-  unfolding AreStretches
+      → Every IsStretch (option_map_or (λ (parts : ModuleParts).
+      filter_map (placed_field modules placing m) parts.fixups) o [])
   fields_by m None is = tt
   fields_by m (Some parts) is = fixups_bytes m parts parts.fixups (known_at m parts is).valid.fixups
 
-  fields_are : AreStretches (fields_of modules placing)
-  fields_are = stretches_flat (module_fields modules placing) (λ m. fields_by m (slice_get modules m) refl)
-      (range_with_len 0 (length modules))
-
-  or_erased : (o : Option ℕ) → IfByte o → unwrap_or o 0xFF < 256
-  or_erased o h = grind arith
+  fields_are : Every IsStretch (fields_of modules placing)
+  fields_are = every_flat IsStretch (module_fields modules placing) (range_with_len 0 (length modules))
+      (λ m _. fields_by m (slice_get modules m) refl)
 
   byte_is : (address : ℕ) → byte_at modules placing address < 256
-  byte_is address = or_erased _
-      (byte_or (byte_among (fields_of modules placing) address) (byte_among (content_of modules placing) address)
-      (among_byte (fields_of modules placing) address fields_are)
-      (among_byte (content_of modules placing) address content_are))
+  byte_is address = grind (
+    arith,
+    among_byte (fields_of modules placing) address fields_are,
+    among_byte (content_of modules placing) address content_are,
+  )
 
   pub image_bytes : (image : List ℕ) → IsImage modules placing image → All (λ byte. byte < 256) image
   image_bytes image is =

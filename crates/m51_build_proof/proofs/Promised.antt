@@ -1,37 +1,24 @@
 -- The headline, and that the top call keeps it: the kept file runs alike, and flat repeats the run.
-use Rattle.m51_build_proof.proofs.Common.{same_Some, Linked, Script, BuildJob, Outcome, same_Ok, InputError, InputsTree}
-use Rattle.m51_build_proof.proofs.Common.{build_files, status_by}
+use Rattle.m51_build_proof.proofs
+use proofs.Common.{same_Some, Linked, Script, BuildJob, build_files, AreOfBytes, IsBuilt, separate_run, flat_run}
+use proofs.Common.{IsByteList, script_content, All-cons, All-nil, memory_in, memory_from, hex_of, inputs_of}
+use proofs.Common.{flat_runs_agree, hex_kept, IsOutcome, Event, script_in, FlatJob, content_if, one_outcome, Job}
+use proofs.Common.{names_read, job_of, Status, Files, ChainKeepsPromise, HoldBytes, KeepsPromise}
+use proofs.Erased.{erased_outside}
+use proofs.PieceBytes.{image_bytes}
+use proofs.Known.{inputs_known, known}
+use proofs.Verdicts.{is_run, prints_record, reported as build_reported, links_exactly}
+use proofs.StartedBoards.{one_live_segment}
+use Rattle.m51_chain.specs.Outcome.{Outcome, status_by, Answer, long_answer, many_answer, unread_answer}
 use Rattle.std.proofs.Common.{◌≡◌, ℕ, List, Option, Some, None, Ok, sym, subst, ◌∙◌, zero, suc, ◌+◌, ◌-◌, ◌<◌, [], ◌∷◌}
-use Rattle.std.proofs.Common.{◌++◌, codes, Result, Err, refl, ap, arith, ◌⊎◌, inl, inr, Bool, true, false, cond, nat_le}
-use Rattle.std.proofs.Common.{length, append-nil}
+use Rattle.std.proofs.Common.{◌++◌, codes, Result, refl, ap, arith, ◌⊎◌, inl, inr, Bool, true, false, cond, length}
+use Rattle.std.proofs.Common.{append-nil}
 use Rattle.m51_jobs.specs.declared.job.Job.TheVariants.{Build, Flat}
-use Rattle.m51_build_proof.specs.Builds.{AreOfBytes, IsBuilt, separate_run, flat_run, IsByteList}
-use Rattle.m51_asm.specs.Answer.{AnswerTree}
-use Rattle.m51_chain.specs.ProgramFiles.{ProgramFiles, control_content, script_content, word_contents}
-use Rattle.std.proofs.lemmas.List.Elements.{All-cons, All-nil}
-use Rattle.m51_hex.specs.Memory.{memory_in}
-use Rattle.m51_hex.specs.Reading.{memory_from}
-use Rattle.m51_hex.specs.Writing.{hex_of}
 use Rattle.m51_hex.proofs.RoundTrip.{written_is_read}
-use Rattle.m51_sim.specs.Cycles.{inputs_of}
-use Rattle.m51_sim.proofs.Keeping.{flat_runs_agree}
-use Rattle.m51_chain.specs.Programs.{hex_kept}
-use Rattle.m51_chain.specs.Verbs.{IsOutcome}
 use Rattle.m51_build_proof.specs.Headline.{RunsAlike, FlatGives, FlatRepeats, IfShared, Headline}
-use Rattle.m51_build_proof.proofs.Erased.{erased_outside}
-use Rattle.m51_build_proof.proofs.PieceBytes.{image_bytes}
-use Rattle.m51_build_proof.proofs.Known.{known}
-use Rattle.m51_build_proof.proofs.Verdicts.{is_run, tests_apart, prints_record, reported as build_reported}
-use Rattle.m51_build_proof.proofs.Verdicts.{links_exactly}
 use Rattle.std.specs.Prelude.{flat_map}
 use Rattle.m51_cells.specs.declared.event.Entry.{Entry}
-use Rattle.m51_cells.specs.declared.event.Event.{Event}
-use Rattle.m51_cells.specs.declared.event.Event.TheVariants.{Outside, PowerDown, Reserved, Transfer, Unwritten}
 use Rattle.m51_flat.specs.Reads.{CellMap}
-use Rattle.m51_inputs.specs.Inputs.{controls_in, inputs_of as all_inputs, or_script, script_in}
-use Rattle.m51_inputs.specs.Files.{source_words}
-use Rattle.m51_inputs.specs.Objects.{linked_from}
-use Rattle.m51_inputs.specs.Sources.{faults_in, modules_in, unless_faults}
 use Rattle.m51_print.specs.Lines.{entry_line, last_line, titles_of}
 use Rattle.m51_sim.specs.FlatMachine.{filled_map, flat_machine, reset_with}
 use Rattle.m51_sim.specs.Laws.{IsSameRun, IsSharedEvent}
@@ -41,59 +28,21 @@ use Rattle.m51_sim.specs.Runs.{Machine, Performed, Record, State, no_step, recor
 use Rattle.m51_sim.specs.SeparateMachine.{Separate}
 use Rattle.m51_sim.proofs.Agreeing.{filled_has}
 use Rattle.m51_sim.proofs.Sums.{appended, record_sum}
-use Rattle.m51_script.specs.declared.error.ScriptError.{ScriptError}
-use Rattle.m51_script.specs.Reading.{script_of}
-use Rattle.m51_jobs.specs.declared.job.FlatJob.{FlatJob}
-use Rattle.m51_chain.specs.FlatRuns as flats
-use Rattle.m51_chain.specs.FlatRuns.{HexRead, Ran, flat_report}
-use Rattle.m51_chain.specs.Optional.{content_if}
-use Rattle.m51_chain.proofs.Accepted.{on_value}
-use Rattle.m51_chain.proofs.OneOutcome.{one_outcome}
-use Rattle.m51_build_proof.proofs.StartedBoards.{one_live_segment}
-use Rattle.m51_cells.specs.declared.limits.TheConstants.{MOST_FILE_BYTES}
-use Rattle.m51_jobs.specs.declared.job.Job.{Job}
-use Rattle.m51_jobs.specs.Files.{names_read}
-use Rattle.m51_args.specs.Jobs.{job_of}
-use Rattle.m51_chain.specs.declared.status.Status.{Status}
-use Rattle.m51_chain.specs.declared.status.Status.TheVariants as status
-use Rattle.m51_chain.specs.Carried.{Cut, Unkept, UnkeptCut, Whole as WholeEnd}
+use Rattle.m51_chain.specs.FlatRuns.{HexRead, Ran}
 use Rattle.m51_chain.specs.Expected.{Faulty, HasOutcome, IsAnswer, LongFile, Many, NoFile, Worked}
-use Rattle.m51_chain.specs.Outcome.{Answer, long_answer, many_answer, unread_answer}
 use Rattle.m51_chain.specs.Outside.{Change}
-use Rattle.m51_chain.specs.Reading.{Absent, Reading, TooLong, Whole, read_of, read_one, with_file}
-use Rattle.m51_shelf.specs.Shelf.{Files}
+use Rattle.m51_chain.specs.Reading.{Reading, TooLong, Whole, read_of, read_one, with_file}
 use Rattle.m51_chain.specs.Told.{Ended, IsTold, IsUnread, Written}
-use Rattle.m51_build_proof.specs.FromChain.{ChainKeepsPromise, HoldBytes, KeepsPromise}
+use Rattle.m51_chain.specs.FlatRuns as flats
+use Rattle.m51_chain.specs.declared.status.Status.TheVariants as status
 
 kept_is : (name : Option (List ℕ)) (linked : Linked) (kept : List ℕ) → hex_kept name linked ≡ Some kept
     → hex_of linked.image linked.written ≡ kept
-kept_is None linked kept h = absurd (cc h)
-kept_is (Some name) linked kept h = same_Some (hex_of linked.image linked.written) kept h
-
-accepted_script : (r : Result Script ScriptError) (s : Script) → or_script r ≡ Ok s → r ≡ Ok s
-accepted_script (Ok x) s h = cc h
-accepted_script (Err e) s h = absurd (cc h)
+kept_is name linked kept h = grind arith
 
 -- the script of the files of a program is that of the verb flat
 script_is : (file : Option (List ℕ)) (s : Script) → script_in file ≡ Ok s → flats.script_in file ≡ Ok s
-script_is None s h = cc h
-script_is (Some bytes) s h = accepted_script (script_of bytes) s h
-
-given_script : (files contents : List (List ℕ)) (control script : Option (List ℕ)) (answers : List AnswerTree)
-    (inputs : InputsTree)
-    → all_inputs files contents control script answers ≡ Ok inputs → flats.script_in script ≡ Ok inputs.script
-unfolding all_inputs
-given_script files contents control script answers inputs h =
-    on_value (unless_faults (faults_in (source_words 0 files) answers) (modules_in answers)) _ inputs
-    (flats.script_in script ≡ Ok inputs.script) (λ sources one h1.
-    on_value (linked_from 0 files contents sources) _ inputs (flats.script_in script ≡ Ok inputs.script)
-    (λ linked two h2.
-    on_value (controls_in control) _ inputs (flats.script_in script ≡ Ok inputs.script) (λ lines three h3.
-    on_value (script_in script) _ inputs (flats.script_in script ≡ Ok inputs.script) (λ board four h4.
-    let made : InputsTree =
-    record { modules = linked.modules; libraries = linked.libraries; controls = lines; script = board } in
-    script_is script board four ∙ ap (λ (i : InputsTree). Ok i.script) (same_Ok {E = InputError} made inputs h4)) h3)
-    h2) h1) h
+script_is file s h = grind arith
 
 -- all steps that are asked for are performed, or an event comes before the last of them
 abbrev AreCounted : ℕ → Option Event → ℕ → Type 0
@@ -101,16 +50,14 @@ AreCounted n None steps = steps ≡ n
 AreCounted n (Some event) steps = steps < n
 
 one_more : (n steps : ℕ) (o : Option Event) → AreCounted n o steps → AreCounted (suc n) o (suc steps)
-one_more n steps None h = ap suc h
-one_more n steps (Some event) h = omega (arith, h)
+one_more n steps o h = grind arith
 
 -- a record of steps
 module _ {M : Type 0} (machine : Machine M) where
   counted_by : (n : ℕ) (s : State M) (r : Result (Performed M) Event)
       → ((t : State M) → AreCounted n (record_of machine n t).event (record_of machine n t).steps)
       → AreCounted (suc n) (record_from s (record_of machine n) r).event (record_from s (record_of machine n) r).steps
-  counted_by n s (Ok done) rest = one_more n _ _ (rest done.state)
-  counted_by n s (Err other) rest = omega arith
+  counted_by n s r rest = grind (arith, one_more)
 
   counted : (n : ℕ) (s : State M) → AreCounted n (record_of machine n s).event (record_of machine n s).steps
   unfolding record_of
@@ -122,8 +69,7 @@ module _ {M : Type 0} (machine : Machine M) where
       → (record_from s (record_of machine 0) r).event ≡ Some event
       → record_from s (record_of machine j) r ≡ no_step (Some event) s
   unfolding record_of
-  stopped_by j s event (Ok done) h = absurd (cc h)
-  stopped_by j s event (Err other) h = let same : other ≡ event = cc h in ap (λ (e : Event). no_step (Some e) s) same
+  stopped_by j s event r h = grind arith
 
   stopped_at : (j : ℕ) (s : State M) (event : Event) → (record_of machine 1 s).event ≡ Some event
       → record_of machine (suc j) s ≡ no_step (Some event) s
@@ -137,11 +83,8 @@ module _ {M : Type 0} (machine : Machine M) where
   longer k j n s event on stops is =
       let t = (record_of machine k s).last in
       let next : suc k ≡ k + 1 = omega arith in
-      let sum = record_sum machine k 1 s on in
-      let here : (record_of machine 1 t).event ≡ Some event =
-      sym (ap (λ (r : Record M). r.event) sum) ∙ ap (λ m. (record_of machine m s).event) (sym next) ∙ stops in
-      ap (λ m. record_of machine m s) is ∙ record_sum machine k (suc j) s on
-      ∙ ap (appended (record_of machine k s)) (stopped_at j t event here)
+      let here : (record_of machine 1 t).event ≡ Some event = rw (next, record_sum machine k 1 s on) at stops in
+      rw (is, record_sum machine k (suc j) s on, stopped_at j t event here)
 
 -- the report of a record with these entries, event, steps and cycle
 abbrev report_with : List Entry → Option Event → ℕ → ℕ → Report
@@ -156,24 +99,7 @@ report_is r entries event steps cycle e v s c = rw (← e, ← v, ← s, ← c)
 -- the lines of events at which the flat machine stops name no segment
 same_last : (titles : List (List ℕ)) (event : Event) (steps cycle : ℕ) → IsSharedEvent event
     → last_line [] (Some event) steps cycle ≡ last_line titles (Some event) steps cycle
-same_last titles (Transfer why from to) steps cycle h = absurd h
-same_last titles (Outside cell at) steps cycle h = absurd h
-same_last titles (Unwritten cell segment at) steps cycle h = absurd h
-same_last titles (Reserved at) steps cycle h = refl
-same_last titles (PowerDown at) steps cycle h = refl
-
--- what flat answers, by its report
-abbrev answer_by : Report → Outcome
-answer_by r = record { status = status_by r.event; text = codes "RUN\n" ++ r.text; keeps = None }
-
-abbrev report : Option Event → List ℕ → Report
-report event text = record { event = event; text = text }
-
-module _ (image : List ℕ) (script : Script) where
-  flat_is : (n : ℕ) → flat_report image script n
-      ≡ answer_by (reported [] (flat_run image script (filled_map script.fill) n))
-  unfolding flat_report_of
-  flat_is n = refl
+same_last titles event steps cycle h = grind arith
 
 module _ (job : BuildJob) (contents : List (List ℕ)) (outcome : Outcome) (script : Script) (linked : Linked)
     (kept : List ℕ) (bytes : AreOfBytes contents) (h : IsOutcome (Build job) contents outcome)
@@ -210,36 +136,29 @@ module _ (job : BuildJob) (contents : List (List ℕ)) (outcome : Outcome) (scri
 
     read_script : flats.script_in (content_if flat.script others) ≡ Ok script
     read_script =
-        let files : ProgramFiles = build_files job in
-        let inputs : InputsTree = b.accepted.inputs in
-        let given = b.accepted.read in
-        ap flats.script_in same_script
-        ∙ given_script files.words (word_contents files contents) (control_content files contents)
-        (script_content files contents) given.answers inputs (sym given.is)
-        ∙ ap (λ (s : Script). Ok s) (sym b.script_is)
+        let a = b.accepted in
+        rw (same_script, b.script_is)
+        (script_is (script_content (build_files job) contents) a.inputs.script
+        (inputs_known (build_files job) contents a.inputs bytes a.read).script_is)
 
     -- flat has one outcome, which is this
-    one_outcome_is : (r : Report)
-        → answer_by (reported [] (flat_run linked.image script cells flat.steps)) ≡ answer_by r
+    one_outcome_is : (r : Report) → reported [] (flat_run linked.image script cells flat.steps) ≡ r
         → FlatGives flat (kept ∷ others) r.event r.text
+    unfolding flat_report_of
     one_outcome_is r same =
-        let one : IsOutcome (Flat flat) (kept ∷ others) (flat_report linked.image script flat.steps) =
-        HexRead linked.image b.linked_is.image.len alike.read (Ran script read_script refl) in
-        let is = flat_is linked.image script flat.steps ∙ same in
-        let here : IsOutcome (Flat flat) (kept ∷ others) (answer_by r) =
-        subst (IsOutcome (Flat flat) (kept ∷ others)) is one in
-        record { is = here; only = λ other h. one_outcome (Flat flat) (kept ∷ others) other (answer_by r) h here }
+        let here = subst (λ (x : Report). IsOutcome (Flat flat) (kept ∷ others)
+        (record { status = status_by x.event; text = codes "RUN\n" ++ x.text; keeps = None })) same
+        (HexRead linked.image b.linked_is.image.len alike.read (Ran script read_script refl)) in
+        record { is = here; only = λ other h. one_outcome (Flat flat) (kept ∷ others) other _ h here }
 
     same : IsSameRun run (flat_run linked.image script cells run.steps)
     same = alike.steps cells (filled_has linked.layout script.fill)
 
     performed : flat.steps ≡ run.steps
         → FlatGives flat (kept ∷ others) None (entry_lines run ++ last_line [] None run.steps run.last.cycle)
-    performed steps =
-        one_outcome_is (report None (entry_lines run ++ last_line [] None run.steps run.last.cycle))
-        (ap (λ n. answer_by (reported [] (flat_run linked.image script cells n))) steps
-        ∙ ap answer_by (report_is (flat_run linked.image script cells run.steps) run.entries None run.steps
-        run.last.cycle same.entries same.event same.steps same.cycle))
+    performed steps = one_outcome_is (report_with run.entries None run.steps run.last.cycle) (rw steps
+        (report_is (flat_run linked.image script cells run.steps) run.entries None run.steps run.last.cycle same.entries
+        same.event same.steps same.cycle))
 
     abbrev titles : List (List ℕ)
     titles = titles_of linked.layout.placed
@@ -257,13 +176,11 @@ module _ (job : BuildJob) (contents : List (List ℕ)) (outcome : Outcome) (scri
         let all = longer (flat_machine linked.image (inputs_of script)) k (job.steps - suc k) job.steps
         (reset_with (inputs_of script) cells) event same.event stops count in
         let none_more : flat_k.steps + 0 ≡ run.steps = omega (arith, same.steps) in
-        one_outcome_is (report (Some event) (entry_lines run ++ last_line titles (Some event) run.steps run.last.cycle))
-        (ap (λ n. answer_by (reported [] (flat_run linked.image script cells n))) steps
-        ∙ ap (λ (r : Record CellMap). answer_by (reported [] r)) all
-        ∙ ap answer_by (report_is (appended flat_k (no_step (Some event) flat_k.last)) run.entries (Some event)
-        run.steps run.last.cycle (append-nil flat_k.entries ∙ same.entries) refl none_more same.cycle)
-        ∙ ap (λ line. answer_by (report (Some event) (entry_lines run ++ line)))
-        (same_last titles event run.steps run.last.cycle shared))
+        subst (λ line. FlatGives flat (kept ∷ others) (Some event) (entry_lines run ++ line))
+        (same_last titles event run.steps run.last.cycle shared)
+        (one_outcome_is (report_with run.entries (Some event) run.steps run.last.cycle) (rw (steps, all)
+        (report_is (appended flat_k (no_step (Some event) flat_k.last)) run.entries (Some event) run.steps
+        run.last.cycle (append-nil flat_k.entries ∙ same.entries) refl none_more same.cycle)))
 
     whole : flat.steps ≡ job.steps → IfShared run.event
         → FlatGives flat (kept ∷ others) run.event (record_text titles run)
@@ -276,7 +193,7 @@ pub headline : Headline
 headline job contents outcome bytes h = record {
   links = links_exactly job contents outcome h;
   prints = λ script linked b. prints_record job contents outcome h script linked b;
-  live = λ script linked n b. one_live_segment job contents outcome h script linked b bytes n;
+  live = λ script linked n b. one_live_segment job contents script linked b bytes n;
   alike = λ script linked kept b keeps. alike job contents outcome script linked kept bytes h b keeps;
   repeats = λ script linked kept flat others b keeps same. repeats job contents outcome script linked kept bytes h b
       keeps flat others same;
@@ -289,17 +206,12 @@ AreRead n other = Unit {0}
 
 more_read : (n : ℕ) (file : List ℕ) (rest : Reading) (fits : Bool) → IsByteList file → AreRead n rest
     → AreRead (suc n) (cond fits (with_file file rest) TooLong)
-more_read n file (Whole contents) true is h = (ap suc h.0, All-cons IsByteList file contents is h.1)
-more_read n file TooLong true is h = tt
-more_read n file (Absent name) true is h = tt
-more_read n file rest false is h = tt
+more_read n file rest fits is h = grind (arith, All-cons IsByteList)
 
 module _ (held : Files) (bytes : HoldBytes held) where
   one_read : (n : ℕ) (name : List ℕ) (o : Option (List ℕ)) (rest : Reading) → held name ≡ o → AreRead n rest
       → AreRead (suc n) (read_one name o rest)
-  one_read n name None rest is h = tt
-  one_read n name (Some file) rest is h =
-      more_read n file rest (nat_le (length file) MOST_FILE_BYTES) (bytes name file is) h
+  one_read n name o rest is h = grind (arith, more_read, bytes name)
 
   all_read : (names : List (List ℕ)) → AreRead (length names) (read_of held names)
   all_read [] = (refl, All-nil IsByteList)
@@ -314,14 +226,10 @@ module _ (held : Files) (bytes : HoldBytes held) where
 module _ (words : List (List ℕ)) (held : Files) (c : Change) (told : Status) (job : BuildJob)
     (asked : job_of words ≡ Some (Build job)) (bytes : HoldBytes held) (run : is_run told ≡ true) where
   ended_whole : (answer : Answer) → Ended answer c told → Written answer c told
-  ended_whole answer (WholeEnd whole) = whole
-  ended_whole answer (Cut e cut) = absurd (tests_apart is_run told status.WriteFault e run refl)
-  ended_whole answer (Unkept e unkept text) = absurd (tests_apart is_run told status.WriteFault e run refl)
-  ended_whole answer (UnkeptCut e unkept rose text) = absurd (tests_apart is_run told status.WriteFault e run refl)
+  ended_whole answer h = grind arith
 
   other_answer : (answer other : Answer) → answer ≡ other → Written answer c told → is_run other.status ≡ false → ⊥
-  other_answer answer other same w stays =
-      tests_apart is_run told other.status (w.status ∙ ap (λ (a : Answer). a.status) same) run stays
+  other_answer answer other same w stays = grind arith
 
   of_outcome : (asks : Job) (contents : List (List ℕ)) (answer : Answer) → asks ≡ Build job
       → read_of held (names_read asks) ≡ Whole contents → HasOutcome asks contents answer → Written answer c told

@@ -1,44 +1,30 @@
 -- What the lines of a source say: values and names of 16 bits, and texts of bytes.
-use Rattle.m51_build_proof.proofs.Common.{and_then, Value, IsTree, SourceFile}
+use Rattle.m51_build_proof.proofs
+use proofs.Common.{and_then, Value, IsTree, SourceFile, Tree, Name, One, Two, AllByRecursion, list_all, slice_get}
+use proofs.Common.{codes, Meanings, bytes_eq, All-from_recursion, IsByte, Each, some_each, IsItem, IsOperand, cases_lt}
+use proofs.Common.{ltb-true, slice_get_past, operand_fault}
 use Rattle.std.proofs.Common.{◌≡◌, ℕ, ◌<◌, Bool, ◌&&◌, cond, List, Option, Some, Ok, arith, inl, inr, nat_lt, true}
-use Rattle.std.proofs.Common.{false, [], ◌∷◌, drop, None, Result, Err, refl, subst, zero, suc, ◌≤◌, ◌++◌, length, take}
-use Rattle.std.proofs.Common.{option_map}
+use Rattle.std.proofs.Common.{false, [], ◌∷◌, drop, None, Result, refl, subst, zero, suc, ◌≤◌, ◌++◌, length, option_map}
 use Rattle.m51_cells.specs.declared.kind.Kind.{Kind}
-use Rattle.m51_expr.specs.Tree.{Tree, Name, One, Two}
 use Rattle.m51_expr.specs.Value.{Valued, is_whole, bit_address, counted, part_value}
-use Rattle.std.specs.List.{AllByRecursion, list_all, prefix_len}
 use Rattle.m51_stmt.specs.Statement.{BodyTree, ItemTree, StmtTree, Text, Value as ValueItem}
 use Rattle.m51_text.specs.Answer.{LineTree, Lines, statements_of, text_of, with_statement}
-use Rattle.std.specs.Prelude.{slice_get, codes}
 use Rattle.std.proofs.Math.Nat.{div-le_self, mod-le}
 use Rattle.std.proofs.lemmas.Nat.{and_le_l, or_of_16, xor_of_16}
 use Rattle.m51_cells.specs.declared.kind.Base.{Base}
 use Rattle.m51_expr.specs.declared.value.Part.{Part}
 use Rattle.m51_expr.specs.declared.tree.Unary.{Unary}
 use Rattle.m51_expr.specs.declared.tree.Binary.{Binary}
-use Rattle.m51_expr.specs.Meanings.{Meanings}
 use Rattle.m51_expr.specs.Operators.{unary, settled, beside, arithmetic, class_of, base_of, on_base, of_numbers}
 use Rattle.m51_expr.specs.Operators.{of_wholes, binary}
 use Rattle.m51_expr.specs.Bits.{dotted_bit, dot}
 use Rattle.m51_expr.specs.Evaluation.{is_dot, applied, value_of}
-use Rattle.std.specs.Char.{is_ascii_alphanumeric}
-use Rattle.std.specs.Str.{bytes_eq}
-use Rattle.std.proofs.lemmas.List.Elements.{All-from_recursion}
-use Rattle.m51_cells.specs.declared.fault.TheConstants.{BAD_FORM}
-use Rattle.m51_cells.specs.Name.{name_of}
 use Rattle.m51_expr.specs.declared.symbol.Symbol.{Symbol}
-use Rattle.m51_stmt.specs.Control as control
-use Rattle.m51_stmt.specs.Control.{by_name, ends, ignored_if, include_of, is_ignored_word, parenthesized}
-use Rattle.m51_stmt.specs.Grammar as grammar
-use Rattle.m51_stmt.specs.Laws.{IsByte}
-use Rattle.m51_stmt.specs.Lines.{any_line, statement_of, symbols_of}
-use Rattle.m51_stmt.specs.Statement as body
+use Rattle.m51_stmt.specs.Control.{by_name, ends, ignored_if, include_of, parenthesized}
+use Rattle.m51_stmt.specs.Lines.{any_line, statement_of}
 use Rattle.m51_stmt.proofs.IfRead.{IfRead, err_is, ok_cond, ok_if, ok_is}
 use Rattle.m51_stmt.proofs.LinesRead.{line_derived}
-use Rattle.m51_stmt.proofs.ListWords.{Each, some_each}
 use Rattle.m51_stmt.proofs.PrintedBodies.{IsBody}
-use Rattle.m51_stmt.proofs.PrintedLists.{IsItem}
-use Rattle.m51_stmt.proofs.PrintedOperands.{IsOperand}
 use Rattle.m51_stmt.proofs.PrintedStatements.{IsControl, IsLine}
 use Rattle.m51_stmt.proofs.ReadStatements.{each_back, each_byte, each_front, written_is_good}
 use Rattle.m51_stmt.proofs.ReadSymbols.{IsGood, symbols_good, tokens_good}
@@ -46,21 +32,21 @@ use Rattle.m51_text.specs.Faults.{faults_of}
 use Rattle.m51_text.specs.Said.{is_character, said}
 use Rattle.m51_text.specs.Text.{TextLine, text_lines}
 use Rattle.m51_asm.proofs.GoodLines.{bytes_all, found_are, passes, short, IsClean, free}
-use Rattle.std.proofs.lemmas.Bool.{cases_lt, ltb-true}
 use Rattle.std.proofs.lemmas.List.Quantifiers.{position-Some}
-use Rattle.std.proofs.lemmas.Option.{slice_get_past}
 use Rattle.m51_expr.specs.Words.{bank_registers}
 use Rattle.m51_predefined.specs.Predefined.{absolute_register_of}
 use Rattle.m51_sfr.specs.Registers.{Row, address_in, bits, registers, table}
-use Rattle.m51_asm.specs.Definitions.{Definition, EquOf, SetOf, AddressOf, definitions_in, label_defined, defined_by}
-use Rattle.m51_asm.specs.Definitions.{externals_from, found_in, definition_from, definition_of}
+use Rattle.m51_asm.specs.Definitions.{Definition, EquOf, SetOf, AddressOf, label_defined, defined_by, externals_from}
+use Rattle.m51_asm.specs.Definitions.{found_in, definition_from, definition_of}
 use Rattle.m51_asm.specs.Assignment.{Assignment, body_at, defined_of, line_definitions, here_at, if_before, above}
 use Rattle.m51_asm.specs.Assignment.{value_or_none}
 use Rattle.m51_asm.specs.Fitting.{set_by, last_set, mod51, bank_by, bank_before, register_or_predefined}
 use Rattle.m51_asm.specs.Fitting.{undefined_value, externals_before, with_class, value_by, named_value}
 use Rattle.m51_asm.specs.ObjectSegments.{final}
-use Rattle.m51_asm.specs.PlacedFaults.{operand_fault}
 use Rattle.m51_asm.proofs.KnownSegments.{later_is}
+use Rattle.m51_stmt.specs.Control as control
+use Rattle.m51_stmt.specs.Grammar as grammar
+use Rattle.m51_stmt.specs.Statement as body
 
 pub record IsSmall (v : Value) : Type 0 where
   pub number : v.number < 65536
@@ -178,13 +164,11 @@ small_control : (b : BodyTree) → IsControl b → IsSmallBody b
 small_control b is = grind arith
 
 small_line : (label : Option (List ℕ)) (b : BodyTree) → IsLine label b → HasTexts b → IsSmallBody b
-small_line None b is texts = elim is [ inl c ↦ small_control b c | inr d ↦ small_body 0 b d texts ]
-small_line (Some name) b is texts = small_body 2 b is.1 texts
+small_line label b is texts = grind (arith, small_control, small_body)
 
 -- texts come from symbols, which are of bytes
 item_texts : (l : List Symbol) (i : ItemTree) → grammar.IsItem l i → Each IsGood l → IsTextItem i
-item_texts l i grammar.Text h = h.0
-item_texts l i (grammar.Value other is) h = tt
+item_texts l i is h = grind arith
 
 items_texts : (l : List Symbol) (xs : List ItemTree) → grammar.IsList grammar.IsItem l xs → Each IsGood l
     → Each IsTextItem xs
@@ -220,33 +204,25 @@ included : (o : Option (List ℕ)) → IfRead (include_of o) IsNoContent
 included o = grind (arith, err_is, ok_is)
 
 ignored : (o : Option (List ℕ)) → IfRead (ignored_if o) IsNoContent
-ignored None = err_is
-ignored (Some text) = ok_is tt
+ignored o = grind (arith, err_is, ok_is)
 
 control_word : (word rest : List ℕ) → IfRead (control.body_by_word word rest) IsNoContent
 unfolding control.body_by_word
 control_word word rest =
     ok_cond (bytes_eq word (codes "INCLUDE")) (λ _. included (parenthesized rest)) (λ _.
     ok_cond (bytes_eq word (codes "TITLE"))
-    (λ _. ok_cond (ends rest) (λ _. ok_is tt) (λ _. ignored (parenthesized rest))) (λ _.
-    ok_cond (bytes_eq word (codes "MOD51")) (λ _. ok_if BAD_FORM (ends rest) (λ _. ok_is tt)) (λ _.
-    ok_cond (bytes_eq word (codes "NOMOD51")) (λ _. ok_if BAD_FORM (ends rest) (λ _. ok_is tt)) (λ _.
-    ok_if BAD_FORM (is_ignored_word word) (λ _. ok_if BAD_FORM (ends rest) (λ _. ok_is tt))))))
+    (grind (arith, ends, ok_is, ignored)) (grind (arith, ok_cond, bytes_eq, ok_if, ends, ok_is)))
 
 control_name : (o : Option (List ℕ)) (rest : List ℕ) → IfRead (by_name o rest) IsNoContent
-control_name None rest = err_is
-control_name (Some word) rest = control_word word rest
+control_name o rest = grind (arith, err_is, control_word)
 
 control_plain : (rest : List ℕ) → IfRead (control.control rest) IsNoContent
-control_plain rest = let len = prefix_len is_ascii_alphanumeric rest in
-    control_name (name_of (take len rest)) (drop len rest)
+control_plain rest = grind (arith, control_name)
 
 line_texts : (line : List ℕ) (s : StmtTree) → grammar.IsLine line s → Each IsByte line → HasTexts s.body
-line_texts line s (grammar.Control {b = b} dollar read') bytes =
-    no_content b ((control_plain (drop 1 line)).holds b read')
+line_texts line s (grammar.Control {b = b} dollar read') bytes = grind (arith, no_content, control_plain (drop 1 line))
 line_texts line s (grammar.Statement {tokens = tokens} no_dollar no_percent cut is) bytes =
-    statement_texts (symbols_of line tokens) s is
-    (symbols_good line tokens bytes ((tokens_good line 0 0).holds tokens cut))
+    grind (arith, statement_texts, symbols_good, tokens_good)
 
 -- lines
 small_said : (line : List ℕ) (s : StmtTree) → said line ≡ Ok s → IsSmallBody s.body
@@ -264,8 +240,7 @@ SmallTree l = IsSmallBody l.stmt.body
 
 one_small : (line : TextLine) (r : Result StmtTree ℕ) (more : List LineTree) → said line.bytes ≡ r
     → AllByRecursion SmallTree more → AllByRecursion SmallTree (with_statement line r more)
-one_small line (Ok s) more e all = (small_said line.bytes s e, all)
-one_small line (Err number) more e all = all
+one_small line r more e all = grind (arith, small_said)
 
 all_small : (ls : List TextLine) → AllByRecursion SmallTree (statements_of ls)
 all_small [] = tt
@@ -295,8 +270,7 @@ extern_found (x ∷ xs) n name found h = grind (arith, extern_found xs (suc n) n
 
 body_found : (b : BodyTree) (name : List ℕ) (found : Definition) → IsSmallBody b
     → found_in (defined_by b) name ≡ some_definition found → IsSmallDefinition found
-body_found (body.Extrn xs) name found is h = extern_found xs 0 name found h
-body_found b name found is h = grind arith
+body_found b name found is h = grind (arith, extern_found)
 
 line_found : (label : Option (List ℕ)) (b : BodyTree) (name : List ℕ) (found : Definition) → IsSmallBody b
     → found_in (label_defined label ++ defined_by b) name ≡ some_definition found → IsSmallDefinition found
@@ -304,23 +278,17 @@ line_found label b name found is h = grind (arith, body_found b name found is)
 
 from_found : (ls : List LineTree) (n : ℕ) (name : List ℕ) (line : ℕ) (found : Definition) → AllByRecursion SmallTree ls
     → definition_from n ls name ≡ Some (line, found) → IsSmallDefinition found
-from_found [] n name line found all h = absurd (cc h)
+from_found [] n name line found all h = grind arith
 from_found (l ∷ ls) n name line found all h =
-    elim (later_is n (found_in (definitions_in l.stmt) name) (definition_from (suc n) ls name) line found h) [
-      | inl p ↦ line_found l.stmt.label l.stmt.body name found all.0 p.1
-      | inr e ↦ from_found ls (suc n) name line found all.1 e
-    ]
+    grind (arith, later_is, line_found l.stmt.label l.stmt.body, from_found ls (suc n) name line found)
 
 small_at : (ls : List LineTree) (k : ℕ) → AllByRecursion SmallTree ls → IsSmallBody (body_at ls k)
 small_at [] k all = tt
-small_at (l ∷ ls) zero all = all.0
-small_at (l ∷ ls) (suc k) all = small_at ls k all.1
+small_at (l ∷ ls) k all = grind (arith, small_at ls)
 
 there_found : (ls : List LineTree) (k : ℕ) (name : List ℕ) (found : Definition) → AllByRecursion SmallTree ls
     → found_in (defined_of (slice_get ls k)) name ≡ some_definition found → IsSmallDefinition found
-there_found [] k name found all h = absurd (cc h)
-there_found (l ∷ ls) zero name found all h = line_found l.stmt.label l.stmt.body name found all.0 h
-there_found (l ∷ ls) (suc k) name found all h = there_found ls k name found all.1 h
+there_found ls k name found all h = grind (arith, small_at ls k all, line_found)
 
 -- predefined names
 abbrev fits : Row → Bool
@@ -328,7 +296,7 @@ fits r = nat_lt r.address 65536
 
 rows_small : (rows : List Row) (name : List ℕ) (n : ℕ) → list_all fits rows ≡ true → address_in rows name ≡ Some n
     → n < 65536
-rows_small [] name n all h = absurd (cc h)
+rows_small [] name n all h = grind arith
 rows_small (r ∷ rows) name n all h = grind (arith, rows_small rows name n)
 
 registers_fit : list_all fits registers ≡ true
@@ -384,10 +352,8 @@ module _ (lines : List LineTree) (a : Assignment) (c : IsClean lines a) (all : A
       → AreSmall (above lines a d)
       → IfSomeSmall (value_by (here_at a d) (above lines a d) (last_set lines a name k) (externals_before lines d) d
       definition)
-  defined_small k name d (EquOf e) is above_it are = tree_small d e is are
-  defined_small k name d (SetOf e) is above_it are = last_small name k above_it
-  defined_small k name d (AddressOf kind e) is above_it are = classed kind _ (tree_small d e is are)
-  defined_small k name d definition is above_it are = grind (arith, here_small d)
+  defined_small k name d definition is above_it are =
+      grind (arith, tree_small d, last_small name k, classed, here_small d)
 
   register_small : (on : Bool) (bank : ℕ) (name : List ℕ) (o : Option ℕ) → bank ≤ 3 → absolute_register_of name ≡ o
       → IfSomeSmall (register_or_predefined on bank name o)

@@ -1,25 +1,25 @@
 -- What build writes of the overlay: the figure of the map is the weight, and no sound layout has a smaller one.
-use Rattle.m51_build_proof.proofs.Common.{LayoutParts, Chain, vectors, option_map_or, Control, L12, ModuleParts}
-use Rattle.m51_build_proof.proofs.Common.{segments_of, GraphParts, IsGraph, graph_of, Placing, Refusal, Linked, Script}
-use Rattle.m51_build_proof.proofs.Common.{BuildJob, build_files, link_outcome, Outcome}
-use Rattle.m51_linker.specs.Link.{Program, placed_of}
-use Rattle.std.proofs.Common.{◌≡◌, ℕ, zero, suc, ◌+◌, cond, List, ◌++◌, ap, ◌∙◌, arith, inl, inr, ◌≤◌, Bool, true, ◌||◌}
-use Rattle.std.proofs.Common.{[], ◌∷◌, Some, refl, subst, codes, Option, Err, Ok, sym, append_assoc}
-use Rattle.std.specs.List.{list_any, All, AllZip}
+use Rattle.m51_build_proof.proofs
+use proofs.Common.{LayoutParts, Chain, vectors, Control, L12, ModuleParts, segments_of, GraphParts, IsGraph, Placing}
+use proofs.Common.{Refusal, Linked, Script, BuildJob, build_files, link_outcome, Program, placed_of, list_any, All}
+use proofs.Common.{AllZip, slice_get, length, IsRootAt, layout_graph, IsValid, AreResolved, located_of, placing_of}
+use proofs.Common.{place_after, of_located, figure_is_weight, weights_agree, refusal_text, IsReport, filled_by, IsRun}
+use proofs.Common.{Edges, tally_mono, unless_none}
+use proofs.Known.{graph_kept, modules_known}
+use proofs.Verdicts.{has_placing, lacks_placing, not_link, not_run, outcome_of_graph, of_stopped, stays_unplaced}
+use proofs.Verdicts.{line_of_l12}
+use proofs.Weights.{has_weight}
+use Rattle.m51_graph.specs.Graphs.{graph_of}
+use Rattle.m51_chain.specs.Outcome.{Outcome}
+use Rattle.std.proofs.Common.{◌≡◌, ℕ, zero, suc, ◌+◌, cond, List, ◌++◌, ap, ◌∙◌, arith, inl, inr, ◌≤◌, Bool, true, []}
+use Rattle.std.proofs.Common.{◌∷◌, Some, refl, subst, codes, Err, Ok, sym, append_assoc}
 use Rattle.std.specs.Fmt.{decimal}
 use Rattle.m51_place.specs.Bound.{overlaid_bytes, IsWeight, count_below, overlays_byte, bytes_passing, covered_bytes}
 use Rattle.m51_place.specs.Bound.{covers_byte}
-use Rattle.std.specs.Prelude.{slice_get, flat_map, length}
-use Rattle.m51_module.specs.Plan.{IsRootAt, UnitLiesUnder, layout_graph}
+use Rattle.std.specs.Prelude.{flat_map}
+use Rattle.m51_module.specs.Plan.{UnitLiesUnder}
 use Rattle.m51_control.specs.Controls.{AreKept}
-use Rattle.m51_module.specs.Validity.{IsValid}
-use Rattle.m51_resolve.specs.Rules.{AreResolved}
-use Rattle.m51_place.specs.Placement.{located_of, placing_of, base_for, located_at, place_after}
-use Rattle.m51_place.proofs.Tight.{of_located, figure_is_weight, weights_agree}
-use Rattle.m51_print.specs.Refusals.{refusal_text}
 use Rattle.m51_chain.specs.Linking.{Follows, IsProgramOutcome, Unlinked}
-use Rattle.m51_chain.specs.Programs.{IsReport, filled_by}
-use Rattle.m51_build_proof.specs.Builds.{IsRun}
 use Rattle.m51_module.specs.declared.placed.Placed.{Placed}
 use Rattle.m51_print.specs.Map.{overlaid_below, overlays, overlaid_line, image_line, line_of_chain, map_of}
 use Rattle.m51_print.specs.Map.{segment_line, unit_lines}
@@ -27,8 +27,6 @@ use Rattle.m51_print.proofs.Ranges.{counted_more}
 use Rattle.m51_print.proofs.Steps.{none_overlaid}
 use Rattle.m51_build_proof.specs.Laws.{PrintedFigureIsWeight}
 use Rattle.m51_module.specs.Chains.{ChainsFrom, data_of, weight_of}
-use Rattle.m51_module.specs.Walks.{Edges}
-use Rattle.m51_graph.proofs.Climbing.{tally_mono}
 use Rattle.m51_place.proofs.Weights.{count_is, least}
 use Rattle.m51_build_proof.specs.Layouts.{HasOtherBase, HasSameSegments, CoversLeast}
 use Rattle.m51_place.specs.declared.numbered.Numbered.{Numbered}
@@ -36,18 +34,12 @@ use Rattle.m51_place.specs.declared.ranked.Ranked.{Ranked}
 use Rattle.m51_place.specs.Fixed.{fixed_of, shared_extents}
 use Rattle.m51_place.specs.Order.{order_of}
 use Rattle.m51_place.specs.Overlay.{FindsRun, LeavesRun, before_overlaid, ExceedsRun, RefusesOverlaid}
-use Rattle.m51_place.proofs.Free.{place_step}
+use Rattle.m51_place.proofs.Free.{both_ok, place_append}
 use Rattle.m51_place.proofs.Ordered.{from_overlaid, split}
-use Rattle.m51_place.proofs.Whole.{unless_none}
 use Rattle.m51_build_proof.specs.Overlay.{IsPremise, BuildHasWeight, BuildPrintsLeast, BuildRefusesOverlay}
 use Rattle.m51_build_proof.specs.Overlay.{ReachesPlacing, PrintsLeast, PrintsWeight, RefusesOverlay}
 use Rattle.m51_place.proofs.Refused.{overlay_is_refused}
 use Rattle.m51_sim.specs.Report.{report_of}
-use Rattle.m51_build_proof.proofs.Known.{graph_kept, modules_known}
-use Rattle.m51_build_proof.proofs.Verdicts.{has_placing, lacks_placing, not_link, not_run, outcome_of_graph}
-use Rattle.m51_build_proof.proofs.Verdicts.{stays_unplaced}
-use Rattle.m51_build_proof.proofs.EarlierRules.{line_of_l12}
-use Rattle.m51_build_proof.proofs.Weights.{has_weight}
 
 -- both count the same bytes
 one_more : (placed : List Placed) (n : ℕ)
@@ -59,11 +51,7 @@ count_same : (placed : List Placed) (n : ℕ)
     → overlaid_below placed n ≡ count_below (λ byte. list_any (overlays_byte byte) placed) n
 unfolding count_below
 count_same placed zero = none_overlaid placed
-count_same placed (suc n) =
-    let next : suc n ≡ n + 1 = omega arith in
-    let more : overlaid_below placed (suc n) ≡ overlaid_below placed n + cond (list_any (overlays n) placed) 1 0 =
-    ap (overlaid_below placed) next ∙ one_more placed n in
-    omega (arith, more, count_same placed n)
+count_same placed (suc n) = grind (arith, one_more placed n, count_same placed n)
 
 -- the figure of a map is that of the laws on placing
 pub figure_is_same : (l : LayoutParts) → overlaid_below l.placed 256 ≡ overlaid_bytes l
@@ -81,11 +69,6 @@ record HasOther (p : Placed) (ys : List Placed) (k : ℕ) : Type 0 where
   there : slice_get ys k ≡ Some q
   other : HasOtherBase p q
 
-record IsOther (xs : List Placed) (q : Placed) (k : ℕ) : Type 0 where
-  p : Placed
-  there : slice_get xs k ≡ Some p
-  other : HasOtherBase p q
-
 out_at : (xs ys : List Placed) (k : ℕ) (p : Placed) → AllZip HasOtherBase xs ys → slice_get xs k ≡ Some p
     → HasOther p ys k
 out_at [] [] k p h at = absurd (cc at)
@@ -93,12 +76,11 @@ out_at (x ∷ xs) (y ∷ ys) zero p h at = grind arith
 out_at (x ∷ xs) (y ∷ ys) (suc k) p h at = grind (arith, out_at xs ys k p h.1 at)
 out_at xs ys k p h at = absurd h
 
-in_at : (xs ys : List Placed) (k : ℕ) (q : Placed) → AllZip HasOtherBase xs ys → slice_get ys k ≡ Some q
-    → IsOther xs q k
-in_at [] [] k q h at = absurd (cc at)
-in_at (x ∷ xs) (y ∷ ys) zero q h at = grind arith
-in_at (x ∷ xs) (y ∷ ys) (suc k) q h at = grind (arith, in_at xs ys k q h.1 at)
-in_at xs ys k q h at = absurd h
+-- so has each extent of the other list
+turned : (xs ys : List Placed) → AllZip HasOtherBase xs ys → AllZip HasOtherBase ys xs
+turned [] [] h = tt
+turned (x ∷ xs) (y ∷ ys) h = (grind arith, turned xs ys h.1)
+turned xs ys h = absurd h
 
 -- the layout with these extents
 abbrev parts_with : List Placed → List ℕ → Edges → List (ℕ × ℕ) → LayoutParts
@@ -108,56 +90,57 @@ module _ (l : LayoutParts) (placed : List Placed) (moved : AllZip HasOtherBase l
   abbrev other : LayoutParts
   other = parts_with placed l.units l.edges l.owners
 
-  same_data : (unit number : ℕ) (xs ys : List Placed) → AllZip HasOtherBase xs ys
-      → data_of l unit number xs ≡ data_of other unit number ys
-  same_data unit number [] [] h = refl
-  same_data unit number (x ∷ xs) (y ∷ ys) h = grind (arith, same_data unit (number + 1) xs ys h.1)
-  same_data unit number xs ys h = absurd h
-
-  same_passing : (free : ℕ → Bool) (number : ℕ) (xs ys : List Placed) → AllZip HasOtherBase xs ys
-      → bytes_passing l free number xs ≡ bytes_passing other free number ys
-  same_passing free number [] [] h = refl
-  same_passing free number (x ∷ xs) (y ∷ ys) h = grind (arith, same_passing free (number + 1) xs ys h.1)
-  same_passing free number xs ys h = absurd h
-
   -- the roots are absolute segments, which have their own bases
   root_out : (vector unit : ℕ) → IsRootAt l vector unit → IsRootAt other vector unit
   root_out vector unit h =
       let o = out_at l.placed placed h.unit_is.segment h.is moved h.unit_is.placed in
       grind arith
 
-  root_in : (vector unit : ℕ) → IsRootAt other vector unit → IsRootAt l vector unit
-  root_in vector unit h =
-      let o = in_at l.placed placed h.unit_is.segment h.is moved h.unit_is.placed in
-      grind arith
-
   lies_out : (vector unit : ℕ) → UnitLiesUnder l vector unit → UnitLiesUnder other vector unit
   lies_out vector unit h = grind (arith, root_out)
 
-  lies_in : (vector unit : ℕ) → UnitLiesUnder other vector unit → UnitLiesUnder l vector unit
-  lies_in vector unit h = grind (arith, root_in)
+module _ (l : LayoutParts) (placed : List Placed) (moved : AllZip HasOtherBase l.placed placed) where
+  abbrev moved_layout : LayoutParts
+  moved_layout = other l placed moved
+
+  root_in : (vector unit : ℕ) → IsRootAt moved_layout vector unit → IsRootAt l vector unit
+  root_in vector unit h = root_out moved_layout l.placed (turned l.placed placed moved) vector unit h
+
+  lies_in : (vector unit : ℕ) → UnitLiesUnder moved_layout vector unit → UnitLiesUnder l vector unit
+  lies_in vector unit h = lies_out moved_layout l.placed (turned l.placed placed moved) vector unit h
+
+  same_data : (unit number : ℕ) (xs ys : List Placed) → AllZip HasOtherBase xs ys
+      → data_of l unit number xs ≡ data_of moved_layout unit number ys
+  same_data unit number [] ys h = grind arith
+  same_data unit number (x ∷ xs) ys h = grind (arith, same_data unit (number + 1) xs)
+
+  same_passing : (free : ℕ → Bool) (number : ℕ) (xs ys : List Placed) → AllZip HasOtherBase xs ys
+      → bytes_passing l free number xs ≡ bytes_passing moved_layout free number ys
+  same_passing free number [] [] h = refl
+  same_passing free number (x ∷ xs) (y ∷ ys) h = grind (arith, same_passing free (number + 1) xs ys h.1)
+  same_passing free number xs ys h = absurd h
 
   chains_out : (w : ℕ → ℕ) (at : List ℕ) (chains : List Chain) → ChainsFrom (layout_graph l) w at chains
-      → ChainsFrom (layout_graph other) w at chains
+      → ChainsFrom (layout_graph moved_layout) w at chains
   chains_out w [] [] h = tt
   chains_out w [] (c ∷ chains) h = absurd h
   chains_out w (v ∷ more) [] h = (λ unit root. h.0 unit (root_in v unit root), chains_out w more [] h.1)
   chains_out w (v ∷ more) (c ∷ chains) h = elim h [
     | inl without ↦ inl (λ unit root. without.0 unit (root_in v unit root), chains_out w more (c ∷ chains) without.1)
-    | inr chain ↦ grind (arith, root_out, chains_out w more chains chain.2)
+    | inr chain ↦ grind (arith, root_out l placed moved, chains_out w more chains chain.2)
   ]
 
-  weight_out : (weight : ℕ) → IsWeight l weight → IsWeight other weight
+  weight_out : (weight : ℕ) → IsWeight l weight → IsWeight moved_layout weight
   weight_out weight h =
-      let same : weight_of l ≡ weight_of other = grind (arith, same_data) in
+      let same : weight_of l ≡ weight_of moved_layout = grind (arith, same_data) in
       record {
         chains = h.chains;
-        heaviest = chains_out (weight_of other) vectors h.chains
+        heaviest = chains_out (weight_of moved_layout) vectors h.chains
             (subst (λ (w : ℕ → ℕ). ChainsFrom (layout_graph l) w vectors h.chains) same h.heaviest);
         free = h.free;
         tells = λ unit. (
           λ f vector lies. (h.tells unit).0 f vector (lies_in vector unit lies),
-          λ none. (h.tells unit).1 (λ vector lies. none vector (lies_out vector unit lies)),
+          λ none. (h.tells unit).1 (λ vector lies. none vector (lies_out l placed moved vector unit lies)),
         );
         is = grind (arith, same_passing);
       }
@@ -170,16 +153,10 @@ same_weight l other weight h w = grind (arith, weight_out)
 covers_too : (byte : ℕ) (p : Placed) → covers_byte byte p ≡ true → overlays_byte byte p ≡ true
 covers_too byte p h = grind arith
 
--- if each element that passes one test passes another, at least as many pass the other
-or_too : (a b c d : Bool) → (a ≡ true → c ≡ true) → (b ≡ true → d ≡ true) → (a || b) ≡ true → (c || d) ≡ true
-or_too a b c d f g h = grind arith
-
 any_too : (byte : ℕ) (placed : List Placed) → list_any (covers_byte byte) placed ≡ true
     → list_any (overlays_byte byte) placed ≡ true
 any_too byte [] h = h
-any_too byte (p ∷ ps) h =
-    or_too (covers_byte byte p) (list_any (covers_byte byte) ps) (overlays_byte byte p)
-    (list_any (overlays_byte byte) ps) (covers_too byte p) (any_too byte ps) h
+any_too byte (p ∷ ps) h = grind (arith, covers_too byte p, any_too byte ps)
 
 count_too : (p q : ℕ → Bool) (n : ℕ) → ((k : ℕ) → p k ≡ true → q k ≡ true) → count_below p n ≤ count_below q n
 count_too p q n h = omega (arith, count_is p n, count_is q n, tally_mono p q n h)
@@ -190,29 +167,14 @@ overlaid_at_least l =
     (λ byte. any_too byte l.placed)
 
 -- where all of an order are placed, its first ones are
-record PlacesFirst (g : GraphParts) (earlier : List Numbered) (first : List Ranked) : Type 0 where
-  extents : List Numbered
-  is : place_after g earlier first ≡ Ok extents
-
-first_placed : (g : GraphParts) (first later : List Ranked) (earlier located : List Numbered)
-    → place_after g earlier (first ++ later) ≡ Ok located → PlacesFirst g earlier first
-first_placed g [] later earlier located h = record { extents = earlier; is = refl }
-first_placed g (t ∷ more) later earlier located h =
-    let step = place_step g earlier t (more ++ later) located (base_for g earlier t) refl h in
-    let rest = first_placed g more later (earlier ++ located_at t step.0 ∷ []) located step.2 in
-    record {
-      extents = rest.extents;
-      is = ap (λ (o : Option ℕ). option_map_or (λ base. place_after g (earlier ++ located_at t base ∷ []) more) o
-          (Err (L12 t.segment.title))) step.1 ∙ rest.is;
-    }
-
 finds_run : (g : GraphParts) (fixed : List Numbered) (order : List Ranked) (low high : ℕ) (located : List Numbered)
     → place_after g fixed order ≡ Ok located → LeavesRun g fixed order low high
     → FindsRun g fixed order low high
 finds_run g fixed order low high located h leaves =
-    let first = first_placed g (before_overlaid order) (from_overlaid order) fixed located
-    (subst (λ (ts : List Ranked). place_after g fixed ts ≡ Ok located) (split order) h) in
-    record { extents = first.extents; placed = first.is; run = leaves first.extents first.is }
+    let first = both_ok (place_after g fixed (before_overlaid order)) (λ es. place_after g es (from_overlaid order))
+    located (sym (place_append g (before_overlaid order) (from_overlaid order) fixed)
+    ∙ subst (λ (ts : List Ranked). place_after g fixed ts ≡ Ok located) (split order) h) in
+    record { extents = first.0; placed = first.1; run = leaves first.0 first.1 }
 
 -- what is known of modules, control lines and a graph that are accepted
 pub record AreKnown (modules : List ModuleParts) (controls : List (ℕ × Control)) (g : GraphParts) : Type 0 where
@@ -224,7 +186,7 @@ pub record AreKnown (modules : List ModuleParts) (controls : List (ℕ × Contro
 
 no_less : (weight covered overlaid figure : ℕ) → weight ≤ covered → covered ≤ overlaid → figure ≡ overlaid
     → weight ≤ figure
-no_less weight covered overlaid figure h k same = omega (arith, h, k, same)
+no_less weight covered overlaid figure h k same = omega arith
 
 module _ (modules : List ModuleParts) (controls : List (ℕ × Control)) (g : GraphParts) (low high weight : ℕ)
     (known : AreKnown modules controls g)
@@ -273,10 +235,6 @@ known job contents modules controls g r =
       graph = r.graph;
     }
 
--- the text of a report, at the line of overlaid bytes
-regroup : (a o i r t : List ℕ) → (((a ++ o) ++ i) ++ r) ++ t ≡ (a ++ o) ++ (i ++ (r ++ t))
-regroup a o i r t = append_assoc ((a ++ o) ++ i) r t ∙ append_assoc (a ++ o) i (r ++ t)
-
 abbrev before : LayoutParts → List ℕ → List Chain → List ℕ
 before l roots chains =
     codes "SEGMENTS\n" ++ flat_map segment_line l.placed ++ codes "UNITS\n" ++ unit_lines l roots (length l.units)
@@ -290,9 +248,7 @@ map_is : (l : LayoutParts) (roots : List ℕ) (chains : List Chain) (bytes : ℕ
     → (map_of l roots chains bytes ++ codes "RUN\n") ++ rest ≡ (before l roots chains ++ line)
     ++ after_overlaid bytes rest
 unfolding map_of
-map_is l roots chains bytes rest line h =
-    regroup (before l roots chains) (overlaid_line l.placed) (image_line bytes) (codes "RUN\n") rest
-    ∙ ap (λ (o : List ℕ). (before l roots chains ++ o) ++ after_overlaid bytes rest) h
+map_is l roots chains bytes rest line h = grind (arith, append_assoc)
 
 report_prints : (linked : Linked) (l : LayoutParts) (job : BuildJob) (script : Script) (weight : ℕ) (outcome : Outcome)
     → linked.layout ≡ l
@@ -364,26 +320,19 @@ module _ (job : BuildJob) (contents : List (List ℕ)) (outcome : Outcome) (modu
       (sym (ap (λ (o : Outcome). o.status) report.is) ∙ refused.status))
 
   refuses : Comes → Exceeds → RefusesOverlay modules g outcome
-  refuses (Unlinked why is one) e =
+  refuses comes e =
       let by = decides.1 e in
-      let stopped : placed_of modules controls g ≡ Err (L12 by.segment.title) =
-      stays_unplaced modules controls g by.segment.title by.refused in
-      let same : why ≡ L12 by.segment.title = cc (is, stopped) in
-      let comes : outcome ≡ link_outcome (L12 by.segment.title) = one ∙ ap link_outcome same in
+      let is : outcome ≡ link_outcome (L12 by.segment.title) = of_stopped _ _ outcome (L12 by.segment.title)
+      (stays_unplaced modules controls g by.segment.title by.refused) comes in
       record {
         number = by.number;
         unit = by.unit;
         segment = by.segment;
         is = by.is;
         overlaid = by.own;
-        status = ap (λ (o : Outcome). o.status) comes;
-        text = ap (λ (o : Outcome). o.text) comes;
+        status = ap (λ (o : Outcome). o.status) is;
+        text = ap (λ (o : Outcome). o.text) is;
       }
-  refuses (Follows p linked is linked_is report) e =
-      let by = decides.1 e in
-      let stopped : placed_of modules controls g ≡ Err (L12 by.segment.title) =
-      stays_unplaced modules controls g by.segment.title by.refused in
-      absurd (cc (is, stopped))
 
 pub build_prints_least : BuildPrintsLeast
 build_prints_least job contents outcome modules controls g low high weight h run r premise =

@@ -1,44 +1,47 @@
 -- Each graph has a weight: without cycles there is a heaviest walk from each unit.
-use Rattle.m51_build_proof.proofs.Common.{Chain, vectors, GraphParts, IsGraph, leads}
+use Rattle.m51_build_proof.proofs
+use proofs.Common.{Chain, vectors, GraphParts, IsGraph, LeadWithin, UnitLiesUnder, joined_graph, leads, list_any}
+use proofs.Common.{Contains, sum_by, flat_map, false≢true, cases_Bool, cases_order, eq-eqb, eqb-true, not-true, Edges}
+use proofs.Common.{HasEdge, IsWalk, Reaches, same_or_not, JoinedSegment, rank, rank_edge, tally_le, above_tells}
 use Rattle.std.proofs.Common.{◌≡◌, ◌⊎◌, inl, inr, ℕ, zero, suc, ◌+◌, ◌<◌, ◌≤◌, true, Bool, List, [], ◌∷◌, length, map}
-use Rattle.std.proofs.Common.{refl, arith, sym, ap, ◌∙◌, false, not}
-use Rattle.std.specs.List.{list_any, Contains, sum_by}
-use Rattle.std.proofs.lemmas.Bool.{false≢true, cases_Bool, cases_lt, not-true}
+use Rattle.std.proofs.Common.{refl, arith, sym, ap, ◌∙◌, false, not, cond, subst, ◌==◌}
 use Rattle.std.proofs.lemmas.List.Folds.{Any-from_list_any, list_any-from_Any}
-use Rattle.std.proofs.lemmas.List.Sums.{sum_by-cons}
-use Rattle.m51_cells.proofs.Small.{contains_after, contains_first, first_or_after, none_in_empty}
+use Rattle.m51_cells.proofs.Members.{In, Every, contains_in, every_in, every_weaker, flat_in, in_contains, in_flat}
+use Rattle.m51_cells.proofs.Members.{in_map, map_in}
 use Rattle.m51_module.specs.Chains.{ChainsFrom, ComesFirst, IsHeaviestWalk, LacksRoot, sum_along}
-use Rattle.m51_module.specs.Walks.{Edges, HasEdge, IsWalk, Reaches}
-use Rattle.m51_module.proofs.Units.{same_or_not}
-use Rattle.m51_resolve.specs.declared.segment.JoinedSegment.{JoinedSegment}
-use Rattle.m51_graph.specs.Graph.{LeadWithin, UnitLiesUnder, joined_graph}
 use Rattle.m51_graph.specs.Graphs.{lies_under}
-use Rattle.m51_graph.proofs.Climbing.{rank, rank_edge, tally_le}
-use Rattle.m51_graph.proofs.Relations.{above_tells}
 use Rattle.m51_place.specs.Overlay.{bytes_joined, unit_weight}
 use Rattle.m51_build_proof.specs.Overlay.{HasWeight}
+
+-- an element that is so, in a list
+abbrev pub Some_in : {X : Type 0} → (X → Type 0) → List X → Type 0
+Some_in P [] = ⊥
+Some_in P (x ∷ xs) = P x ⊎ Some_in P xs
+
+pub element : {X : Type 0} (P : X → Type 0) (xs : List X) → Some_in P xs → (x : X) × In x xs × P x
+element P [] h = absurd h
+element P (x ∷ xs) (inl here) = (x, inl refl, here)
+element P (x ∷ xs) (inr later) = let e = element P xs later in (e.0, inr e.1, e.2)
+
+pub some_in : {X : Type 0} (P : X → Type 0) (xs : List X) (x : X) → In x xs → P x → Some_in P xs
+some_in P [] x h is = absurd h
+some_in P (y ∷ xs) x (inl same) is = inl (rw same is)
+some_in P (y ∷ xs) x (inr later) is = inr (some_in P xs x later is)
+
+-- of each element one of two things is known: one of them somewhere, or the other of all
+pub seek : {X : Type 0} (P Q : X → Type 0) → ((x : X) → P x ⊎ Q x) → (xs : List X) → Some_in P xs ⊎ Every Q xs
+seek P Q tells [] = inr tt
+seek P Q tells (x ∷ xs) = grind (arith, tells x, seek P Q tells xs)
 
 -- one number is less than the other, or they are the same and this holds
 abbrev Lesser : ℕ → ℕ → Type 0 → Type 0
 Lesser a b P = (a < b) ⊎ ((a ≡ b) × P)
 
 lesser_or : (a b : ℕ) {P Q : Type 0} → P ⊎ Q → Lesser a b P ⊎ Lesser b a Q
-lesser_or a b same = elim (cases_lt a b) [
-  | inl less ↦ inl (inl less)
-  | inr not_less ↦ elim (cases_lt b a) [
-    | inl less ↦ inr (inl less)
-    | inr also_not ↦ elim same [
-      | inl h ↦ inl (inr (omega (arith, not_less, also_not), h))
-      | inr h ↦ inr (inr (omega (arith, not_less, also_not), h))
-    ]
-  ]
-]
+lesser_or a b same = grind (arith, cases_order a b)
 
 lesser_over : (a b c : ℕ) {P Q R : Type 0} → (P → Q → R) → Lesser a b P → Lesser b c Q → Lesser a c R
-lesser_over a b c on (inl h) (inl k) = inl (omega (arith, h, k))
-lesser_over a b c on (inl h) (inr k) = inl (omega (arith, h, k.0))
-lesser_over a b c on (inr h) (inl k) = inl (omega (arith, h.0, k))
-lesser_over a b c on (inr h) (inr k) = inr (h.0 ∙ k.0, on h.1 k.1)
+lesser_over a b c on h k = grind arith
 
 -- of two lists one comes first
 first_self : (xs : List ℕ) → ComesFirst xs xs
@@ -52,143 +55,88 @@ first_of_two (x ∷ xs) (y ∷ ys) = lesser_or x y (first_of_two xs ys)
 
 first_over : (xs ys zs : List ℕ) → ComesFirst xs ys → ComesFirst ys zs → ComesFirst xs zs
 first_over [] ys zs h k = tt
-first_over (x ∷ xs) [] zs h k = absurd h
-first_over (x ∷ xs) (y ∷ ys) [] h k = absurd k
 first_over (x ∷ xs) (y ∷ ys) (z ∷ zs) h k = lesser_over x y z (first_over xs ys zs) h k
+first_over (x ∷ xs) ys zs h k = grind arith
 
 module _ (weight : ℕ → ℕ) where
-  abbrev total : ℕ → List ℕ → ℕ
-  total unit more = sum_along weight (unit ∷ more)
-
-  total_on : (unit next : ℕ) (more : List ℕ) → total unit (next ∷ more) ≡ weight unit + total next more
-  total_on unit next more = sum_by-cons (λ n. n) (weight unit) (map weight (next ∷ more))
-
   -- the first walk from the unit weighs more, or as much and comes first
   abbrev Beats : ℕ → List ℕ → List ℕ → Type 0
-  Beats unit more other = Lesser (total unit other) (total unit more) (ComesFirst more other)
-
-  beats_self : (unit : ℕ) (more : List ℕ) → Beats unit more more
-  beats_self unit more = inr (refl, first_self more)
-
-  beats_or : (unit : ℕ) (one two : List ℕ) → Beats unit one two ⊎ Beats unit two one
-  beats_or unit one two = lesser_or (total unit two) (total unit one) (first_of_two one two)
+  Beats unit more other =
+      Lesser (sum_along weight (unit ∷ other)) (sum_along weight (unit ∷ more)) (ComesFirst more other)
 
   beats_over : (unit : ℕ) (one two three : List ℕ) → Beats unit one two → Beats unit two three → Beats unit one three
-  beats_over unit one two three h k =
-      lesser_over (total unit three) (total unit two) (total unit one) (λ q p. first_over one two three p q) k h
+  beats_over unit one two three h k = lesser_over _ _ _ (λ q p. first_over one two three p q) k h
 
-  beats_on : (unit next : ℕ) (more other : List ℕ) → Beats next more other → Beats unit (next ∷ more) (next ∷ other)
-  beats_on unit next more other (inl h) = inl (omega (arith, h, total_on unit next more, total_on unit next other))
-  beats_on unit next more other (inr h) =
-      inr (omega (arith, h.0, total_on unit next more, total_on unit next other), inr (refl, h.1))
+  -- one of these walks beats all
+  top_of : (unit : ℕ) (more : List ℕ) (others : List (List ℕ))
+      → (top : List ℕ) × In top (more ∷ others) × Every (Beats unit top) (more ∷ others)
+  top_of unit more [] = (more, inl refl, (inr (refl, first_self more), tt))
+  top_of unit more (other ∷ others) =
+      let t = top_of unit other others in
+      elim (lesser_or _ _ (first_of_two more t.0)) [
+        | inl wins ↦
+            let over = λ (one : List ℕ) (k : Beats unit t.0 one). beats_over unit more t.0 one wins k in
+            let all = every_weaker (Beats unit t.0) (Beats unit more) (other ∷ others) over t.2 in
+            (more, inl refl, (inr (refl, first_self more), all))
+        | inr loses ↦ (t.0, inr t.1, (loses, t.2))
+      ]
 
-  module _ (edges : Edges) where
-    -- the walk takes no edge, or begins with one of these
-    abbrev BeginsIn : Edges → ℕ → List ℕ → Type 0
-    BeginsIn es unit [] = Unit {0}
-    BeginsIn es unit (next ∷ more) = Contains es (unit, next)
+  module _ (n : ℕ) (edges : Edges) (within : LeadWithin n edges) (no_cycle : (u : ℕ) → Reaches edges u u → ⊥) where
+    height : ℕ → ℕ
+    height unit = rank n edges within no_cycle unit
 
-    -- a walk from the unit that beats all others which begin in these
-    record HasBestIn (es : Edges) (unit : ℕ) : Type 0 where
+    rises : (u v : ℕ) → HasEdge edges u v → height u < height v
+    unfolding height
+    rises u v e = rank_edge n edges within no_cycle u v e
+
+    lies_low : (u : ℕ) → height u ≤ n
+    unfolding height
+    lies_low u = tally_le (λ w. leads edges w u) n
+
+    -- the walks from a unit that take an edge, up to a length
+    abbrev walks_of : ℕ → ℕ → List (List ℕ)
+    walks_of zero unit = []
+    walks_of (suc left) unit = flat_map
+        (λ e. cond (e.0 == unit) (map (λ more. e.1 ∷ more) ([] ∷ walks_of left e.1)) []) edges
+
+    -- a unit has more above it the fewer there are below
+    is_listed : (left unit : ℕ) (more : List ℕ) → n ≤ height unit + left → IsWalk edges unit more
+        → In more ([] ∷ walks_of left unit)
+    is_listed left unit [] high walk = inl refl
+    is_listed zero unit (v ∷ more) high walk = absurd (omega (arith, rises unit v walk.0, lies_low v, high))
+    is_listed (suc left) unit (v ∷ more) high walk =
+        let rest = is_listed left v more (omega (arith, rises unit v walk.0, high)) walk.1 in
+        inr (flat_in _ edges (unit, v) (v ∷ more) (in_contains edges (unit, v) walk.0)
+        (rw (eq-eqb unit unit refl) (map_in (λ (more : List ℕ). v ∷ more) ([] ∷ walks_of left v) more rest)))
+
+    is_walk : (left unit : ℕ) (more : List ℕ) → In more ([] ∷ walks_of left unit) → IsWalk edges unit more
+    is_walk left unit more (inl same) = subst (IsWalk edges unit) same tt
+    is_walk zero unit more (inr h) = absurd h
+    is_walk (suc left) unit more (inr h) =
+        let of = in_flat _ edges more h in
+        elim (cases_Bool (of.0.0 == unit)) [
+          | inl is ↦
+              let by = in_map _ ([] ∷ walks_of left of.0.1) more (rw is at of.2) in
+              let edge = subst (λ u. HasEdge edges u of.0.1) (eqb-true of.0.0 unit is) (contains_in edges of.0 of.1) in
+              subst (IsWalk edges unit) by.2 (edge, is_walk left of.0.1 by.0 by.1)
+          | inr other ↦ absurd (rw other at of.2)
+        ]
+
+    -- a walk from the unit that beats all others
+    record HasBest (unit : ℕ) : Type 0 where
       more : List ℕ
       walk : IsWalk edges unit more
-      most : (other : List ℕ) → IsWalk edges unit other → BeginsIn es unit other → Beats unit more other
+      most : (other : List ℕ) → IsWalk edges unit other → Beats unit more other
 
-    abbrev HasBest : ℕ → Type 0
-    HasBest unit = HasBestIn edges unit
-
-    begins : (unit : ℕ) (other : List ℕ) → IsWalk edges unit other → BeginsIn edges unit other
-    begins unit [] walk = tt
-    begins unit (next ∷ other) walk = walk.0
-
-    none_yet : (unit : ℕ) (other : List ℕ) → IsWalk edges unit other → BeginsIn [] unit other → Beats unit [] other
-    none_yet unit [] walk h = beats_self unit []
-    none_yet unit (next ∷ other) walk h = absurd (none_in_empty (unit, next) h)
-
-    -- what beats the walks that take the edge first, and those that begin in the others, beats both
-    with_edge : (unit : ℕ) (e : ℕ × ℕ) (es : Edges) (rest : HasBestIn es unit) (more : List ℕ) → IsWalk edges unit more
-        → (e.0 ≡ unit → (other : List ℕ) → IsWalk edges e.1 other → Beats unit more (e.1 ∷ other))
-        → Beats unit more rest.more → HasBestIn (e ∷ es) unit
-    with_edge unit e es rest more walk first two = record { more = more; walk = walk; most = most }
-      where
-        most : (other : List ℕ) → IsWalk edges unit other → BeginsIn (e ∷ es) unit other → Beats unit more other
-        most [] walk h = beats_over unit more rest.more [] two (rest.most [] tt tt)
-        most (next ∷ other) walk h = elim (first_or_after e es (unit, next) h) [
-          | inl here ↦
-              let same = ap (λ (p : ℕ × ℕ). p.1) here in
-              rw (← same) (first (ap (λ (p : ℕ × ℕ). p.0) here) other (rw same walk.1))
-          | inr later ↦ beats_over unit more rest.more (next ∷ other) two (rest.most (next ∷ other) walk later)
-        ]
-
-    by_step : (unit : ℕ) (e : ℕ × ℕ) (step : HasBest e.1) (more : List ℕ) → Beats unit more (e.1 ∷ step.more)
-        → (other : List ℕ) → IsWalk edges e.1 other → Beats unit more (e.1 ∷ other)
-    by_step unit e step more one other walk =
-        beats_over unit more (e.1 ∷ step.more) (e.1 ∷ other) one
-        (beats_on unit e.1 step.more other (step.most other walk (begins e.1 other walk)))
-
-    best_in : (es : Edges) (unit : ℕ) → ((e : ℕ × ℕ) → Contains es e → Contains edges e)
-        → ((next : ℕ) → HasEdge edges unit next → HasBest next) → HasBestIn es unit
-    best_in [] unit among steps = record { more = []; walk = tt; most = none_yet unit }
-    best_in (e ∷ es) unit among steps =
-        let rest = best_in es unit (λ x h. among x (contains_after e es x h)) steps in
-        elim (same_or_not e.0 unit) [
-          | inl same ↦
-              let there : HasEdge edges unit e.1 = rw (← same) (among e (contains_first e es)) in
-              let step = steps e.1 there in
-              elim (beats_or unit (e.1 ∷ step.more) rest.more) [
-                | inl wins ↦ with_edge unit e es rest (e.1 ∷ step.more) (there, step.walk)
-                    (λ _. by_step unit e step (e.1 ∷ step.more) (beats_self unit (e.1 ∷ step.more))) wins
-                | inr loses ↦ with_edge unit e es rest rest.more rest.walk
-                    (λ _. by_step unit e step rest.more loses) (beats_self unit rest.more)
-              ]
-          | inr differs ↦ with_edge unit e es rest rest.more rest.walk (λ same. absurd (differs same))
-              (beats_self unit rest.more)
-        ]
-
-    module _ (n : ℕ) (within : LeadWithin n edges) (no_cycle : (u : ℕ) → Reaches edges u u → ⊥) where
-      height : ℕ → ℕ
-      height unit = rank n edges within no_cycle unit
-
-      rises : (u v : ℕ) → HasEdge edges u v → height u < height v
-      unfolding height
-      rises u v e = rank_edge n edges within no_cycle u v e
-
-      lies_low : (u : ℕ) → height u ≤ n
-      unfolding height
-      lies_low u = tally_le (λ w. leads edges w u) n
-
-      no_other : (unit : ℕ) → n ≤ height unit → (other : List ℕ) → IsWalk edges unit other → Beats unit [] other
-      no_other unit high [] walk = beats_self unit []
-      no_other unit high (next ∷ other) walk = absurd (omega (arith, rises unit next walk.0, lies_low next, high))
-
-      -- a unit has more above it the fewer there are below
-      has_best : (left unit : ℕ) → n ≤ height unit + left → HasBest unit
-      has_best zero unit high = record {
-        more = [];
-        walk = tt;
-        most = λ other walk _. no_other unit (omega (arith, high)) other walk;
-      }
-      has_best (suc left) unit high =
-          best_in edges unit (λ e h. h) (λ next e. has_best left next (omega (arith, rises unit next e, high)))
-
-      best_of : (unit : ℕ) → HasBest unit
-      best_of unit = has_best n unit (omega arith)
-
--- the root at a vector, or that there is none
-root_at : (roots : List (ℕ × ℕ)) (vector : ℕ)
-    → ((unit : ℕ) × Contains roots (vector, unit)) ⊎ ((unit : ℕ) → Contains roots (vector, unit) → ⊥)
-root_at [] vector = inr (λ unit h. none_in_empty (vector, unit) h)
-root_at (r ∷ roots) vector =
-    elim (same_or_not r.0 vector) [
-      | inl same ↦ inl (r.1, rw (← same) (contains_first r roots))
-      | inr differs ↦ elim (root_at roots vector) [
-        | inl found ↦ inl (found.0, contains_after r roots (vector, found.0) found.1)
-        | inr none ↦ inr (λ unit h. elim (first_or_after r roots (vector, unit) h) [
-          | inl here ↦ differs (ap (λ (p : ℕ × ℕ). p.0) here)
-          | inr later ↦ none unit later
-        ])
-      ]
-    ]
+    best_of : (unit : ℕ) → HasBest unit
+    best_of unit =
+        let t = top_of unit [] (walks_of n unit) in
+        record {
+          more = t.0;
+          walk = is_walk n unit t.0 t.1;
+          most = λ other walk. every_in (Beats unit t.0) ([] ∷ walks_of n unit) other t.2
+              (is_listed n unit other (omega arith) walk);
+        }
 
 module _ (g : GraphParts) (is : IsGraph g) (weight : ℕ → ℕ) where
   record HasChains (at : List ℕ) : Type 0 where
@@ -205,20 +153,24 @@ module _ (g : GraphParts) (is : IsGraph g) (weight : ℕ → ℕ) where
   has_chains [] = record { chains = []; are = tt }
   has_chains (vector ∷ more) =
       let rest = has_chains more in
-      elim (root_at g.roots vector) [
-        | inl found ↦
-            let best = best_of weight g.edges (length g.units) is.units.edges is.no_cycle found.0 in
-            let most = λ (other : List ℕ) (walk : IsWalk g.edges found.0 other).
-            best.most other walk (begins weight g.edges found.0 other walk) in
-            let chain : Chain = record {
-              root = found.0;
-              bytes = sum_along weight (found.0 ∷ best.more);
-              units = found.0 ∷ best.more;
-            } in
+      let Is : ℕ × ℕ → Type 0 = λ root. root.0 ≡ vector in
+      let IsNot : ℕ × ℕ → Type 0 = λ root. root.0 ≡ vector → ⊥ in
+      elim (seek Is IsNot (λ root. same_or_not root.0 vector) g.roots) [
+        | inl some ↦
+            let found = element Is g.roots some in
+            let unit = found.0.1 in
+            let best = best_of weight (length g.units) g.edges is.units.edges is.no_cycle unit in
+            let chain : Chain =
+            record { root = unit; bytes = sum_along weight (unit ∷ best.more); units = unit ∷ best.more } in
             let walk : IsHeaviestWalk g.edges weight chain =
-            record { more = best.more; units = refl; walk = best.walk; bytes = refl; most = most } in
-            record { chains = chain ∷ rest.chains; are = inr (found.1, walk, rest.are) }
-        | inr lacks ↦ record { chains = rest.chains; are = without vector more rest.chains lacks rest.are }
+            record { more = best.more; units = refl; walk = best.walk; bytes = refl; most = best.most } in
+            let root = subst (λ v. Contains g.roots (v, unit)) found.2 (contains_in g.roots found.0 found.1) in
+            record { chains = chain ∷ rest.chains; are = inr (root, walk, rest.are) }
+        | inr none ↦ record {
+          chains = rest.chains;
+          are = without vector more rest.chains (λ unit h. every_in IsNot g.roots (vector, unit) none
+              (in_contains g.roots (vector, unit) h) refl) rest.are;
+        }
       ]
 
   under : ℕ → ℕ → Bool

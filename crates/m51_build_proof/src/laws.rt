@@ -22,6 +22,7 @@ pub fn headline()
 /// Each build has an outcome, and only one, out of memory aside.
 ///
 /// Source: own choice ("The headline").
+#[tactic(auto, using(crate::proofs::Existing::one_of_each))]
 pub fn each_build_has_one_outcome()
     ensures { EachHasOneOutcome }
 {}

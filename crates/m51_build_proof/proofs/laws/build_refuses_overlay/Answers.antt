@@ -1,4 +1,4 @@
-use Rattle.m51_build_proof.proofs.EarlierRules.{l12_only_at_placing}
+use Rattle.m51_build_proof.proofs.Verdicts.{l12_only_at_placing}
 use Rattle.m51_build_proof.proofs.Reported.{build_refuses_overlay}
 use Rattle.m51_build_proof.proofs.laws.build_refuses_overlay.Goals as goal
 

@@ -29,7 +29,7 @@ use Rattle.m51_irq.proofs.Kept.{acknowledged_kept, shape_before}
 use Rattle.m51_irq.proofs.Taken.{vector_control, vector_parity}
 use Rattle.m51_irq.specs.Choice.{chosen, is_allowed}
 use Rattle.m51_irq.specs.Sources.{level_of}
-use Rattle.m51_irq.specs.Vectoring.{IsVectoring, acknowledged, cleared, entered, interrupted, vectored, vectoring}
+use Rattle.m51_irq.specs.Vectoring.{IsVectoring, cleared, entered, interrupted, vectored, vectoring}
 use Rattle.m51_isa.specs.Table.{flow_of, length_of}
 use Rattle.m51_isa.specs.declared.instr.Flow.{Flow}
 use Rattle.m51_isa.specs.declared.instr.Instr.{Instr}
@@ -162,12 +162,6 @@ counted_by : (cpu : Cpu) (e : Effect) (next : ℕ) (w : Bool) (n : ℕ) (f : Flo
     → LevelsFollow f w cpu e → CountsInterrupts e.transfer (length (levels cpu)) n → n ≡ length (levels e.cpu)
 counted_by cpu e next w n f k v c = grind (arith, common_steps, same_levels w cpu e, ended_levels cpu e)
 
-plan_right_of : (cpu : Cpu) (instr : Instr) (image : List ℕ) (ext : Pins) → length cpu.regs ≡ 128 → HasParity cpu
-    → Always (λ e. IsRight e.cpu) (plan_of cpu instr image ext)
-plan_right_of cpu instr image ext len parity =
-    let r = right_of cpu len parity in
-    plan_right image ext (started cpu instr) (action_of instr) (grind arith)
-
 -- an effect and a move that are allowed
 abbrev pub Held : LayoutParts → Separate → Type 0
 Held l m = taken_by (memory_after l m)
@@ -197,21 +191,15 @@ record IsVectored (cpu : Cpu) (s : Source) (e : Effect) : Type 0 where
   counted : length (levels e.cpu) ≡ length (levels cpu) + 1
   parity : HasParity e.cpu
 
-vectored_levels : (cpu : Cpu) (s : Source) → length cpu.regs ≡ 128
-    → (length (vectoring cpu s).cpu.regs ≡ 128) × (levels (vectoring cpu s).cpu ≡ levels (acknowledged s cpu))
-unfolding vectoring
-vectored_levels cpu s len =
-    let e = interrupted cpu s in
-    grind (arith, pc_is_stacked e (acknowledged_kept s cpu len).len)
-
 vectored_is : (cpu : Cpu) (barred : Cell → Bool) (s : Source) (e : Effect) → length cpu.regs ≡ 128 → HasParity cpu
     → chosen cpu ≡ Some s → vectored cpu barred s ≡ outcome.Done e → IsVectored cpu s e
+unfolding vectoring
 vectored_is cpu barred s e len parity taken h =
     grind (
       arith,
       vectored_done (shut_of barred (vectoring cpu s).first) (shut_of barred (vectoring cpu s).second)
           (vectoring cpu s) e h,
-      vectored_levels cpu s len,
+      pc_is_stacked (interrupted cpu s) (acknowledged_kept s cpu len).len,
       level_added (level_of cpu s) cpu
           (with_flag (cleared s cpu) pcon idl false) (shape_before s cpu).low (shape_before s cpu).high
           (is_taken cpu s taken).ready.allowed,
@@ -272,7 +260,9 @@ module _ {l : LayoutParts} {image : List ℕ} {b : StackBound} (g : IsBounded l 
         let fact = λ (P : Effect → Type 0) (all : Always P (plan_of cpu instr image pins)).
         done_fact P cpu cells (outside_of cells) instr image pins x.effect all j.done in
         let spoiled = spoiled_none g cpu h.step count at in
-        let right = fact (λ e. IsRight e.cpu) (plan_right_of cpu instr image pins h.len h.parity) in
+        let r = right_of cpu h.len h.parity in
+        let right = fact (λ e. IsRight e.cpu) (plan_right image pins (started cpu instr) (action_of instr)
+        (record { len = r.len; parity = r.parity })) in
         then_in_order
         (runs instr at x.effect.transfer
         (fact (λ e. Does cpu instr e e.transfer) (instr_does cpu instr image pins h.len
@@ -284,9 +274,7 @@ module _ {l : LayoutParts} {image : List ℕ} {b : StackBound} (g : IsBounded l 
         (fact (λ e. LevelsFollow (flow_of instr) (writes_ie_or_ip cpu instr) cpu e)
         (levels_are_kept cpu instr image pins)))
         right.len (parity_of_right x.effect.cpu right)
-    by_instr None is done =
-        let inside = inside_ok (lie_inside l (current a) cpu.pc 1) _ _ x done in
-        absurd (cc inside.1)
+    by_instr None is done = absurd (cc (inside_ok (lie_inside l (current a) cpu.pc 1) _ _ x done).1)
 
     by_idle : separate_effect l image cpu m pins (attempt_by image cpu None) ≡ Ok x → Then
     unfolding separate_effect

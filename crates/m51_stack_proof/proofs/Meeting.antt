@@ -44,10 +44,10 @@ use Rattle.m51_stackbound.specs.Points.{at_next, at_target, call_by, call_of, en
 use Rattle.m51_stackbound.specs.Points.{instruction, point_at, successors}
 use Rattle.m51_stackbound.specs.Units.{counts, handlers, in_one_unit, interrupts, lie_inside, root_of, unit_of}
 use Rattle.m51_stackbound.specs.declared.point.Point.{Point}
-use Rattle.std.proofs.Common.{Bool, List, Option, Some, [], ap, arith, cond, false, get_or, get_or-set_other, length}
+use Rattle.std.proofs.Common.{Bool, List, Option, Some, [], ap, arith, false, get_or, get_or-set_other, length}
 use Rattle.std.proofs.Common.{lit<, not, refl, rules, subst, suc, sym, true, zero, ℕ, ◌%◌, ◌*◌, ◌+◌, ◌-◌, ◌/◌, ◌<◌, ◌∙◌}
 use Rattle.std.proofs.Common.{◌∷◌, ◌≡◌, ◌≢◌, ◌≤◌, ◌⊎◌}
-use Rattle.std.proofs.lemmas.Bool.{eq-eqb, eqb-true, ne_eqb}
+use Rattle.std.proofs.lemmas.Bool.{cond_both, eq-eqb, eqb-true, ne_eqb}
 use Rattle.std.proofs.lemmas.Bool.Decides.{nat_tests}
 use Rattle.std.proofs.lemmas.Grind.{common_steps}
 use Rattle.std.proofs.lemmas.List.Elements.{Contains-append_right}
@@ -135,11 +135,6 @@ module _ (cpu : Cpu) (instr : Instr)
   follows_then (Ends a) go h = h a
   follows_then (Read x more) go h = λ v. follows_then (more v) go h
 
-  -- a direct address is in internal RAM, or a register
-  either_follows : {L : Type 0} (write : L → ℕ → Effect → Effect) (ram sfr : L) (v : ℕ) (b : Bool) (e : Effect)
-      → Continues (write ram v e) → Continues (write sfr v e) → Continues (write (cond b ram sfr) v e)
-  either_follows write ram sfr v b e h k = grind arith
-
   -- SP is written
   sp_follows : (v : ℕ) → length cpu.regs ≡ 128 → instr_top instr (latch cpu sp) ≡ v
       → Continues (with_sfr sp v (started cpu instr))
@@ -151,9 +146,6 @@ module _ (cpu : Cpu) (instr : Instr)
   plain_follows a v e ne h =
       one_of Continues (a == sbuf) (has_register a) _ _ e h (regs_kept e.cpu.regs a v ne ∙ h.0, h.1, h.2) h
 
-  register_before : (a v : ℕ) (b : Bool) (e : Effect) → is_sp a ≡ b → Continues e → Before b (with_sfr a v e)
-  register_before a v b e is h = grind (arith, plain_follows)
-
   ends_after : (b : Bool) (e : Effect) → Before b e → After b e
   ends_after b e h = grind arith
 
@@ -163,7 +155,7 @@ module _ (cpu : Cpu) (instr : Instr)
   jumps_after b to e is h = grind arith
 
   leads_kept : IsKept is_sp Before After following (IsTarget (target_of instr following))
-  leads_kept = grind (arith, ne_eqb, sp, register_before, ends_after, jumps_after)
+  leads_kept = grind (arith, ne_eqb, sp, plain_follows, ends_after, jumps_after)
 
   module _ (image : List ℕ) (ext : Pins) where
     continued : AlwaysContinues (plan_of cpu instr image ext)
@@ -190,8 +182,7 @@ module _ (cpu : Cpu) (instr : Instr)
         ∙ apart_from_sp begin.cpu (written_of instr) p in
         subst (λ b. Always (λ e. After b e) (plan_of cpu instr image ext)) none
         (walk is_sp Before After following (IsTarget (target_of instr following)) leads_kept image ext begin
-        (action_of instr) refl m
-        (same, refl, refl))
+        (action_of instr) refl m (same, refl, refl))
 
 target_itself : (o : Option ℕ) → IfSome o (λ to. o ≡ Some to)
 target_itself o = grind arith
@@ -201,8 +192,7 @@ value_does : (cpu : Cpu) (a v : ℕ) (image : List ℕ) (ext : Pins) → length 
     → Always (λ e. Does cpu (names.MovDirectData a v) e e.transfer) (plan_of cpu (names.MovDirectData a v) image ext)
 unfolding location_of operand_value with_location assigned with_sfr has_register
 value_does cpu a v image ext len true is =
-    rw (eqb-true a sp is)
-    (refl, refl, refl, refl, sp_written v (started cpu (names.MovDirectData sp v)) len)
+    rw (eqb-true a sp is) (refl, refl, refl, refl, sp_written v (started cpu (names.MovDirectData sp v)) len)
 value_does cpu a v image ext len false ne =
     walked cpu (names.MovDirectData a v) (refl, refl, refl) image ext (ap (λ b. b && true) ne) (rw ne refl) tt
 
@@ -217,8 +207,9 @@ popped_follows cpu direct image ext len ne =
     let pop = names.PopDirect direct in
     let e : Effect = with_sfr sp ((latch cpu sp + 255) % 256) (started cpu pop) in
     let k = sp_follows cpu pop (refl, refl, refl) ((latch cpu sp + 255) % 256) len refl in
-    λ v. either_follows cpu pop (refl, refl, refl) with_location _ _ v (nat_lt direct 128) e k
-    (plain_follows cpu pop (refl, refl, refl) direct v e ne k)
+    λ v. cond_both (nat_lt direct 128) _ _ (λ at. Continues cpu pop (refl, refl, refl) (with_location at v e))
+    (λ low. k)
+    (λ high. plain_follows cpu pop (refl, refl, refl) direct v e ne k)
 
 -- An instruction that is no computed jump, and does not write SP by an operand but for an immediate value.
 pub instr_does : (cpu : Cpu) (instr : Instr) (image : List ℕ) (ext : Pins) → length cpu.regs ≡ 128

@@ -91,18 +91,9 @@ module _ (l : LayoutParts) (image : List ℕ) where
         → (vs : List ℕ) (more : ℕ) → Above vs more → ((v : ℕ) → Contains vs v → is_busy rs v ≡ false)
         → length vs + interrupts rs ≤ 2 → base + bytes + more ≤ b.total
     most reset _ _ _ AtReset path bytes t vs more a fresh few =
+        let adds = adds_of vs more a (omega (arith, few)) in
         let comes : ComesTo l image (bytes + more) =
-        record {
-          path = path;
-          reset = bytes;
-          more = more;
-          takes = t;
-          adds = adds_of vs more a (omega (
-            arith,
-            few,
-          ));
-          value_is = refl;
-        } in
+        record { path = path; reset = bytes; more = more; takes = t; adds = adds; value_is = refl } in
         omega (arith, bound.total.most (bytes + more) comes)
     most reset _ _ _ (AfterCall back top units rs p base to instr below is calls at back_is high) path bytes t vs more a
         fresh few =

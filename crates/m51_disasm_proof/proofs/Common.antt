@@ -46,7 +46,6 @@ pub use Rattle.std.proofs.Common.{Bool, List, None, Ok, Option, Some, [], ap, ap
 pub use Rattle.std.proofs.Common.{false, flat_map, length, length-append, map, nat_lt, not, option_map, refl}
 pub use Rattle.std.proofs.Common.{slice_index, subst, suc, sym, take, true, zero, ℕ, ◌%◌, ◌&&◌, ◌++◌, ◌+◌, ◌-◌, ◌/◌}
 pub use Rattle.std.proofs.Common.{◌<◌, ◌==◌, ◌||◌, ◌∙◌, ◌∷◌, ◌≡◌, ◌≢◌, ◌≤◌}
-pub use Rattle.std.proofs.lemmas.Bool.{cond_both}
 pub use Rattle.std.proofs.lemmas.Bool.Decides.{nat_tests}
 pub use Rattle.std.proofs.lemmas.Grind.{common_steps}
 pub use Rattle.std.specs.List.{AllByRecursion, list_all}

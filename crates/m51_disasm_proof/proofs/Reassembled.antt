@@ -4,9 +4,9 @@ use Rattle.m51_disasm_proof.proofs
 use proofs.Common.{AllByRecursion, AreBytes, Assignment, CodeRange, Fits, GivesBytes, HaveSizes, IsNamed, IsSoundLayout}
 use proofs.Common.{IsSpot, LayoutParts, LineGives, LineTree, List, None, Ok, Option, Some, SourceFile, SourceLine, Spot}
 use proofs.Common.{Stands, StandsAt, Statement, Target, TextSegment, [], above, ap, append-nil, append_assoc, arith}
-use proofs.Common.{beginnings, body_at, body_of, bytes_at, code_ranges, code_value, common_steps, cond, cond_both}
-use proofs.Common.{disassembled, false, filled, flat_map, is_among, label_text, length, length_in, lines_of, map, meant}
-use proofs.Common.{opening, option_map, outcomes, read_from, refl, runs_from, slice_get, slice_index, spots_from}
+use proofs.Common.{beginnings, body_at, body_of, bytes_at, code_ranges, code_value, common_steps, cond, disassembled}
+use proofs.Common.{false, filled, flat_map, is_among, label_text, length, length_in, lines_of, map, meant, opening}
+use proofs.Common.{option_map, outcomes, read_from, refl, runs_from, slice_get, slice_index, spots_from}
 use proofs.Common.{statement_target, statements_of, subst, suc, sym, targets, true, written_target, zero, ℕ, ◌++◌, ◌+◌}
 use proofs.Common.{◌-◌, ◌<◌, ◌||◌, ◌∙◌, ◌∷◌, ◌≡◌, ◌≢◌, ◌≤◌}
 use Rattle.m51_asm.proofs.AnAssignment.{fits, fitting}
@@ -30,7 +30,6 @@ use Rattle.m51_emit.specs.Pieces.{if_bytes}
 use Rattle.m51_encode.specs.declared.outcome.OperandOutcome.{OperandOutcome}
 use Rattle.std.proofs.lemmas.List.FromFn.{length-map-range_with_len}
 use Rattle.m51_disasm.specs.declared.line.SourceLine.TheVariants as line
-use Rattle.m51_disasm.specs.declared.line.Target.TheVariants as target
 use proofs.LinesStand.{AreInOrder, IsCode, LinesFrom, State, adds, at_start, body_is, body_read, is_open, next}
 use proofs.LinesStand.{other_segment, parts_in_order, parts_small, passes, read_at, read_is, skips, spot_here}
 use proofs.LinesStand.{spots_are, state}
@@ -220,9 +219,8 @@ module _ (lines : List LineTree) (a : Assignment) (image : List ℕ) (bytes : Ar
   unfolding final
   named k None lead = tt
   named k (Some address) lead =
-      cond_both (is_among (begin_of image part) address) (target.Label address) (target.Number address)
-      (IsNamed (final lines a k) id)
-      (λ yes. grind (arith, common_steps, known address yes (lead address refl) k)) (λ no. tt)
+      let value = λ (yes : is_among (begin_of image part) address ≡ true). known address yes (lead address refl) k in
+      grind (arith, common_steps, value)
 
   -- statements give their bytes, if what follows them does
   statements_give : (statements : List Statement) {parts : List CodeRange} {n at k : ℕ} {s : State}

@@ -4,16 +4,17 @@ use Rattle.m51_disasm_proof.proofs
 use proofs.Common.{AreBytes, AreSlots, AtR, Bool, CodeRange, Content, Field, HasRoom, IfSome, Imm, Instr, IsAddress}
 use proofs.Common.{IsContent, IsLabel, IsSlot, IsTarget, List, None, Nop, NotBit, Option, Plain, R, Slot, Some}
 use proofs.Common.{SourceLine, Statement, Target, Text, [], ap, append_assoc, arith, beginnings, common_steps, cond}
-use proofs.Common.{cond_both, encoded, false, field_in, flat_map, is_among, length_in, length_of, map, nat_lt}
-use proofs.Common.{nat_tests, near, not, number_of_slot, option_map, refl, relative, slice_index, slot_address}
-use proofs.Common.{statement_lines, statements_of, suc, sym, take, target_by, targets, text_of, true, written_target}
-use proofs.Common.{zero, ℕ, ◌%◌, ◌&&◌, ◌++◌, ◌+◌, ◌-◌, ◌/◌, ◌<◌, ◌==◌, ◌||◌, ◌∙◌, ◌∷◌, ◌≡◌, ◌≤◌}
+use proofs.Common.{encoded, false, field_in, flat_map, is_among, length_in, length_of, map, nat_lt, nat_tests, near}
+use proofs.Common.{not, number_of_slot, option_map, refl, relative, slice_index, slot_address, statement_lines}
+use proofs.Common.{statements_of, suc, sym, take, target_by, targets, text_of, true, written_target, zero, ℕ, ◌%◌, ◌&&◌}
+use proofs.Common.{◌++◌, ◌+◌, ◌-◌, ◌/◌, ◌<◌, ◌==◌, ◌||◌, ◌∙◌, ◌∷◌, ◌≡◌, ◌≤◌}
 use Rattle.m51_disasm.specs.Lines.{line_of, lines_of, part_lines}
 use Rattle.m51_disasm.specs.Statements.{address_by, address_of, can_stand, content_of, instr_in_image, statement_at}
 use Rattle.m51_disasm.specs.Statements.{statement_target, statements_from}
 use Rattle.m51_isa.proofs.Codes.{rows_are_short}
 use Rattle.m51_isa.specs.Table.{decoded_at}
 use Rattle.std.proofs.Common.{get_or, ◌*◌}
+use Rattle.std.proofs.lemmas.Bool.{cond_both}
 use Rattle.std.proofs.lemmas.List.FromFn.{get_or-map-range_with_len}
 use Rattle.std.specs.List.{range_with_len}
 use Rattle.std.specs.Option.{option_or}
@@ -132,12 +133,10 @@ module _ (first second third : ℕ) (f : first < 256) (s : second < 256) (t : th
       let fit = and_all (is_fit (text_of i).first) (is_fit (text_of i).second) (is_fit (text_of i).third)
       (ap (λ (x : Seen second third). x.2) same) in
       let numbers = ap (λ (x : Seen second third). x.1) same in
-      record {
-        row = grind (arith, common_steps, written_is);
-        first = slot_fits (text_of i).first fit.0 (cc numbers);
-        second = slot_fits (text_of i).second fit.1 (cc numbers);
-        third = slot_fits (text_of i).third fit.2 (cc numbers);
-      }
+      let x = text_of i in
+      let row : encoded i ≡ take (length_of i) (first ∷ second ∷ third ∷ []) =
+      grind (arith, common_steps, written_is) in
+      grind (arith, fit, numbers, slot_fits x.first, slot_fits x.second, slot_fits x.third)
 
   -- what three bytes are decoded as is written with them, and its numbers have room
   pub decoded_rows : IfSome (decoded_at first second third) (IsDecoded (first ∷ second ∷ third ∷ []))

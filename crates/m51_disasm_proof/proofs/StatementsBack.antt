@@ -219,9 +219,8 @@ module _ (names : Meanings) (segment at : ℕ) (s : StandsAt names segment at) (
       → IsLed t (slot_address (at + row_length i) (field_in x))
       → filled names (address_after names (row_length row)) (field_in y) (operand_of t x) ≡ Ok (held_in x)
   given x y m same usual room in_memory leads =
-      let own = same_filled names ((at + row_length i) % 65536) m y (operand_of t x) in
       let is_given = slot_given names segment at s t (at + row_length i) x usual room in_memory leads named in
-      grind (arith, common_steps, next_is)
+      grind (arith, common_steps, next_is, same_filled names ((at + row_length i) % 65536) m y (operand_of t x))
 
   -- an instruction is coded as the row that it was decoded from, and no operand has a fault or is left to the linker
   code_back : let m = (text_of i).mnemonic in

@@ -77,10 +77,7 @@ module _ (p q r s : ℕ) (a : IsGlyph p) (b : IsGlyph q) (c : IsGlyph r) (d : Is
 
   free_name : IsFree label
   unfolding operator_of prefix_word relation_word arithmetic_word is_reserved
-  free_name = record {
-    leaf = record { written = grind (arith, common_steps); leaf = grind (arith, common_steps, no_word) };
-    free = grind (arith, common_steps, no_word);
-  }
+  free_name = grind (arith, common_steps, no_word)
 
 -- a statement may define the name of a label, and an expression may have it
 pub label_is_free : (address : ℕ) → address < 65536 → IsFree (label_text address)
@@ -268,12 +265,11 @@ module _ (t : Target) (i : Instr) (h : AreSlots t (text_of i)) where
   unfolding has_row
   is_code =
       let last = cons_option (operand_of t (text_of i).third) [] in
+      let given = all_given in
       record {
         written = (mnemonic_is i).0;
         word = (mnemonic_is i).1;
-        form =
-            let given = all_given in
-            grind (arith, common_steps, first_read.look, second_read.look, third_read.look, found_length i);
+        form = grind (arith, common_steps, first_read.look, second_read.look, third_read.look, found_length i);
         each = each_given first_read (cons_option (operand_of t (text_of i).second) last)
             (each_given second_read last (each_given third_read [] tt));
       }
@@ -290,15 +286,12 @@ module _ (t : Target) (i : Instr) (h : AreSlots t (text_of i)) where
 content_size : (names : Meanings) (form : Jump) (t : Target) (c : Content) → IsContent t c
     → size_by names form (body_of t c) ≡ length_in c
 unfolding length_of
-content_size names form t (content.Byte byte) h = refl
-content_size names form t (content.Code i) h =
-    grind (arith, common_steps, line_is t i h form, row_is t i h form, found_length i)
+content_size names form t c h = grind (arith, common_steps, line_is t, row_is t, found_length)
 
 -- the size of a line of a disassembly
 pub size_is : (names : Meanings) (form : Jump) (l : SourceLine) → IsSound l
     → size_by names form (meant l).body ≡ line_size l
-size_is names form (source.Statement s) h = content_size names form s.target s.content h.content
-size_is names form l h = refl
+size_is names form l h = grind (arith, common_steps, content_size names form)
 
 -- ---- each line is short
 

@@ -214,8 +214,7 @@ module _ {lines : List LineTree} {a : Assignment} (image : List ℕ) (none : (j 
   parts_free [] {k} low order sizes h address small few =
       let count = count_next h in
       let last = (next h).count in
-      free_here h (none (suc k)) (omega arith) (omega arith) (omega arith)
-      (λ j le less. absurd (omega arith))
+      free_here h (none (suc k)) (omega arith) (omega arith) (omega arith) (λ j le less. absurd (omega arith))
   parts_free (part ∷ parts) {k} low order sizes h address small few =
       let inside = order.1.ends in
       let size = sizes part (in_first part parts) in

@@ -6,8 +6,8 @@ use proofs.Common.{LayoutParts, StackBound, StackError, IsRootAt, IsUnitAt, IsSo
 use proofs.Common.{last_of}
 use proofs.Weights.{Some_in, element, seek, some_in}
 use Rattle.std.proofs.Common.{◌≡◌, ◌≢◌, ◌<◌, ◌≤◌, ◌+◌, ◌⊎◌, inl, inr, ℕ, zero, suc, nat_lt, Bool, true, false, List, []}
-use Rattle.std.proofs.Common.{◌∷◌, ◌++◌, length, get_or, set, take, take_all, replicate, sum, Option, Some, None}
-use Rattle.std.proofs.Common.{Result, Ok, Err, refl, sym, subst, ◌∙◌, arith, flat_map}
+use Rattle.std.proofs.Common.{◌∷◌, length, get_or, set, take, take_all, replicate, sum, Option, Some, None, Result, Ok}
+use Rattle.std.proofs.Common.{Err, refl, sym, subst, ◌∙◌, arith, flat_map}
 use Rattle.std.proofs.lemmas.List.{get_or-set_other, get_or-set_same, length-set}
 use Rattle.std.proofs.lemmas.List.Sums.{sum_by-set}
 use Rattle.m51_cells.proofs.Members.{In, contains_in, every_in, flat_in, in_contains, in_flat}
@@ -415,11 +415,8 @@ module _ (l : LayoutParts) (image : List ℕ) (sound : IsSound l) (points : List
           | inr e ↦ (h.0, listed_same l starts depths end h.0 e h.1)
           | inl e ↦
               let u = covered_noted l image points depths nexts are s low n sound starts ss end e in
-              let p : Proc = record { at = end; unit = u.0; depth = depth_in depths (At end) } in (
-                h.0 ++ p ∷ [],
-                listed_more l starts depths end h.0 p refl
-                    (record { noted = e; unit = u.1; depth = refl }) h.1,
-              )
+              let p : Proc = record { at = end; unit = u.0; depth = depth_in depths (At end) } in
+              (_, listed_more l starts depths end h.0 p refl (record { noted = e; unit = u.1; depth = refl }) h.1)
         ])
 
     path_by : (fuel : ℕ) (start : Start) → depth_in depths start < fuel → (more : List Start) × Leads nexts start more

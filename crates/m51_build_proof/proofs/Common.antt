@@ -11,7 +11,7 @@ pub use Rattle.m51_cells.specs.Outcome.{and_then}
 pub use Rattle.m51_cells.specs.declared.event.Event.{Event, Event as RunEvent}
 pub use Rattle.m51_cells.specs.declared.limits.TheConstants.{MOST_POINTS, MOST_FILES, MOST_CONTROL_LINES}
 pub use Rattle.m51_cells.specs.declared.limits.TheConstants.{MOST_PIECE_BYTES}
-pub use Rattle.m51_chain.proofs.Accepted.{on_value, ok_same}
+pub use Rattle.m51_chain.proofs.Accepted.{on_value}
 pub use Rattle.m51_chain.proofs.OneOutcome.{one_outcome, one_linked}
 pub use Rattle.m51_chain.specs.Builds.{build_files, IsBuildOutcome}
 pub use Rattle.m51_chain.specs.LinkRefusals.{link_outcome}
@@ -38,11 +38,9 @@ pub use Rattle.m51_graph.specs.Units.{code_segments, unit_titles}
 pub use Rattle.m51_graph.specs.declared.parts.GraphParts.{GraphParts}
 pub use Rattle.m51_hex.specs.Memory.{Memory, memory_in}
 pub use Rattle.m51_hex.specs.Reading.{memory_from}
-pub use Rattle.m51_hex.specs.Writing.{end_of, hex_of}
 pub use Rattle.m51_inputs.proofs.OneEach.{one_answer as one_for_files}
 pub use Rattle.m51_inputs.specs.Inputs.{InputsTree, controls_in, script_in}
 pub use Rattle.m51_inputs.specs.declared.error.InputError.{InputError}
-pub use Rattle.m51_isa.specs.Table.{encoded, padded, length_of}
 pub use Rattle.m51_isa.specs.declared.instr.Instr.{Instr}
 pub use Rattle.m51_jobs.specs.Endings.{is_source, ending_of}
 pub use Rattle.m51_jobs.specs.Files.{file_count, name_kept, names_read}
@@ -82,7 +80,7 @@ pub use Rattle.m51_print.specs.Refusals.{refusal_text, after_blank}
 pub use Rattle.m51_records.proofs.FieldLaws.{IsBytes, fit_back, fit_front}
 pub use Rattle.m51_records.proofs.ModuleLaws.{IsRead, module_takes}
 pub use Rattle.m51_resolve.specs.Joining.{segments_of}
-pub use Rattle.m51_resolve.specs.Rules.{AreResolved, first_refusal, resolved_of, unless_refused}
+pub use Rattle.m51_resolve.specs.Rules.{AreResolved, resolved_of, first_refusal, unless_refused}
 pub use Rattle.m51_resolve.specs.declared.segment.JoinedSegment.{JoinedSegment}
 pub use Rattle.m51_script.specs.declared.error.ScriptError.{ScriptError}
 pub use Rattle.m51_script.specs.declared.script.Script.{Script}
@@ -95,14 +93,15 @@ pub use Rattle.m51_stmt.proofs.PrintedLists.{IsItem}
 pub use Rattle.m51_stmt.proofs.PrintedOperands.{IsOperand}
 pub use Rattle.m51_stmt.proofs.PrintedTrees.{IsTree}
 pub use Rattle.m51_stmt.specs.Laws.{IsByte}
-pub use Rattle.std.proofs.lemmas.Bool.{cases_Bool, cases_lt, false≢true, leb-true, le-leb, lt-ltb, cases_eq, ltb-false}
-pub use Rattle.std.proofs.lemmas.Bool.{ltb-true, cond_both, cases_order, eq-eqb, eqb-true, not-true}
+pub use Rattle.std.proofs.lemmas.Bool.{cases_Bool, cases_lt, false≢true, le-leb, cases_eq, ltb-true, cond_both, lt-ltb}
+pub use Rattle.std.proofs.lemmas.Bool.{cases_order, eq-eqb, eqb-true, not-true}
+pub use Rattle.std.proofs.lemmas.Bool.Decides.{nat_tests, leb_tells}
 pub use Rattle.std.proofs.lemmas.List.Elements.{Contains-get_or, All-head, All-tail, All-nil, All-cons, All-take}
 pub use Rattle.std.proofs.lemmas.List.Elements.{All-from_get_or, All-from_recursion}
 pub use Rattle.std.proofs.lemmas.Option.{slice_get-get_or, slice_get_within, same_Some, slice_get_past}
 pub use Rattle.std.specs.List.{Contains, list_any, All, flat_map, range_with_len, cons_option, filter_map}
 pub use Rattle.std.specs.List.{AllByRecursion, list_all, AllZip, sum_by}
 pub use Rattle.std.specs.Option.{option_map_or, option_or}
-pub use Rattle.std.specs.Prelude.{option_map, slice_get, unwrap_or, is_some, nat_le, nat_lt, slice_index_or, count_by}
-pub use Rattle.std.specs.Prelude.{codes, length, if◌then◌else◌}
+pub use Rattle.std.specs.Prelude.{option_map, slice_get, unwrap_or, is_some, nat_le, slice_index_or, count_by, codes}
+pub use Rattle.std.specs.Prelude.{length, if◌then◌else◌, nat_lt}
 pub use Rattle.std.specs.Str.{bytes_eq}

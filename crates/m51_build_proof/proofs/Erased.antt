@@ -1,12 +1,12 @@
 -- The image of a linked program is erased outside its runs: a field lies only where there is content.
 use Rattle.m51_build_proof.proofs
-use proofs.Common.{option_map_or, option_or, ModuleParts, Placing, option_map, slice_get, unwrap_or, is_some, nat_le}
-use proofs.Common.{nat_lt, All, flat_map, range_with_len, Contains, cons_option, filter_map, leb-true, le-leb, lt-ltb}
-use proofs.Common.{All-head, All-tail, byte_among, Stretch, byte_in, stretch_at, Piece, IsValid, IsFixupValid, IsHeld}
-use proofs.Common.{field_len, end_of, slice_get-get_or, slice_get_within, FieldBytes, AreRuns, IsInRun, address_of}
-use proofs.Common.{ends_below, Fixup, Form, Run}
+use proofs.Common.{nat_tests, option_map_or, option_or, ModuleParts, Placing, option_map, slice_get, unwrap_or, is_some}
+use proofs.Common.{nat_le, All, flat_map, range_with_len, Contains, cons_option, filter_map, le-leb, All-head, All-tail}
+use proofs.Common.{byte_among, Stretch, byte_in, stretch_at, Piece, IsValid, IsFixupValid, IsHeld, field_len}
+use proofs.Common.{slice_get-get_or, slice_get_within, FieldBytes, AreRuns, IsInRun, address_of, ends_below, Fixup}
+use proofs.Common.{Form, Run}
 use Rattle.std.proofs.Common.{◌≡◌, ◌⊎◌, inl, inr, ℕ, ◌+◌, ◌-◌, ◌<◌, ◌≤◌, true, List, [], ◌∷◌, length, map, Option, Some}
-use Rattle.std.proofs.Common.{None, refl, ap, ◌∙◌, arith, Bool, false, cond, ◌&&◌, get_or}
+use Rattle.std.proofs.Common.{None, refl, ◌∙◌, arith, Bool, cond, get_or}
 use Rattle.m51_linker.specs.Image.{IsImage, byte_at, content_of, IsFilled, fields_of, fixup_field, module_content}
 use Rattle.m51_linker.specs.Image.{module_fields, placed_field, placed_piece}
 use Rattle.std.proofs.lemmas.List.Folds.{list_any_at}
@@ -27,12 +27,7 @@ in_some s address h =
 
 in_by : (s : Stretch) (address : ℕ) (b : Bool) (o : Option ℕ) → nat_le s.at address ≡ b
     → slice_get s.bytes (address - s.at) ≡ o → is_some (cond b o None) ≡ true → IsIn s address
-in_by s address true (Some byte) from is h =
-    let at : s.at ≤ address = leb-true s.at address from in
-    let less : address - s.at < length s.bytes = slice_get_within s.bytes (address - s.at) byte is in
-    record { from = at; below = omega (arith, at, less) }
-in_by s address true None from is h = absurd (cc h)
-in_by s address false o from is h = absurd (cc h)
+in_by s address b o from is h = grind (arith, nat_tests, slice_get_within s.bytes (address - s.at))
 
 -- one of these stretches has a byte for the address
 abbrev HasAt : List Stretch → ℕ → Type 0
@@ -113,13 +108,13 @@ module _ (modules : List ModuleParts) (placing : Placing) (address : ℕ) where
       → HasAt (map (placed_piece modules placing m) parts.pieces) address
   fixups_at m parts [] valid h = absurd (cc h)
   fixups_at m parts (f ∷ fixups) valid h =
-      elim (option_at m parts f (All-head (IsFixupValid parts.segments parts.externals parts.pieces) f fixups valid)
-      (fixup_field modules placing m f) refl
-      (filter_map (placed_field modules placing m) fixups) h) [
-        | inl here ↦ here
-        | inr later ↦ fixups_at m parts fixups
-            (All-tail (IsFixupValid parts.segments parts.externals parts.pieces) f fixups valid) later
-      ]
+      grind (
+        arith,
+        option_at m parts f,
+        All-head (IsFixupValid parts.segments parts.externals parts.pieces) f fixups valid,
+        All-tail (IsFixupValid parts.segments parts.externals parts.pieces) f fixups valid,
+        fixups_at m parts fixups,
+      )
 
   of_module : (m : ℕ) (o : Option ModuleParts) → ((parts : ModuleParts) → o ≡ Some parts → IsValid parts)
       → HasAt (option_map_or (λ (parts : ModuleParts). filter_map (placed_field modules placing m) parts.fixups) o [])
@@ -150,8 +145,7 @@ module _ (modules : List ModuleParts) (placing : Placing) (address : ℕ) where
 
 -- an address of a run is in the runs
 in_run : (address : ℕ) (run : Run) → IsInRun run address → is_in_run address run ≡ true
-in_run address run h =
-    ap (λ b. b && nat_lt address (end_of run)) (le-leb run.first address h.from) ∙ lt-ltb address (end_of run) h.below
+in_run address run h = grind (arith, nat_tests)
 
 in_runs : (address : ℕ) (runs : List Run) (run : Run) → Contains runs run → IsInRun run address
     → is_in_runs address runs ≡ true

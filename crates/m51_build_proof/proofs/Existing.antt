@@ -7,8 +7,8 @@ use proofs.Common.{Program, AreRoots, IsLinked, byte_among, AreAnswered, Given, 
 use proofs.Common.{control_content, script_content, word_contents, IsFilesOutcome, IsReport, program_report, AreOfBytes}
 use proofs.Common.{is_some, slice_index_or, count_by, cases_eq, AreRootBits, bits_tell, AreRuns, runs_more, same_runs}
 use proofs.Common.{Run, IsSound, weights_agree, one_outcome, on_value, BoardState, IsOutcome, Memory, memory_from}
-use proofs.Common.{FlatJob, Job, is_source, SourceFile, ScriptError, content_if, script_outcome, job_of, HoldBytes}
-use proofs.Common.{MOST_FILES, file_count, name_kept, names_read, Files}
+use proofs.Common.{FlatJob, Job, is_source, SourceFile, ScriptError, content_if, script_outcome, leb_tells, job_of}
+use proofs.Common.{HoldBytes, MOST_FILES, file_count, name_kept, names_read, Files}
 use proofs.Known.{graph_kept, IsStartable, sole_startable, files_startable, inputs_known, modules_known, startable}
 use proofs.Weights.{has_weight}
 use proofs.Verdicts.{rules_of_program, Keeps, bound_keeps, event_keeps, input_keeps, library_keeps, link_keeps}
@@ -54,7 +54,6 @@ use Rattle.m51_cells.proofs.Members.{Every}
 use Rattle.m51_build_proof.specs.Answers.{EachJobHasOne, IsReady, ChainIsComplete, EachHasOneAnswer}
 use Rattle.m51_hex.proofs.LowRecords.{image_length, image_of, image_read}
 use Rattle.m51_jobs.specs.declared.job.AsmJob.{AsmJob}
-use Rattle.std.proofs.lemmas.Bool.Decides.{leb_tells}
 use Rattle.m51_chain.proofs.Completed.{completed, one_answer}
 use Rattle.m51_chain.proofs.FitJobs.{asked_fit}
 use Rattle.m51_chain.specs.Expected.{Faulty, HasOutcome, IsAnswer, LongFile, Many, NoFile, Worked}

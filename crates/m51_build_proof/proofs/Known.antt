@@ -1,19 +1,18 @@
 -- What is known of the modules that are linked of files of bytes, of their control lines, graph and layout.
 use Rattle.m51_build_proof.proofs
-use proofs.Common.{same_Ok, Control, Refusal, ModuleParts, segments_of, L6, L7, GraphParts, IsGraph, leads, SourceFile}
-use proofs.Common.{InputError, InputsTree, controls_in, script_in, Linked, LayoutParts, BuildJob, build_files, Script}
-use proofs.Common.{Placing, All, ltb-false, All-nil, All-cons, All-take, option_map, AreResolved, first_refusal}
-use proofs.Common.{resolved_of, unless_refused, Row, IsBytes, fit_back, IsRead, module_takes, AreAnswered, ProgramFiles}
-use proofs.Common.{script_content, word_contents, AreOfBytes, IsAccepted, IsBuilt, MeetsRules, IsByteList, IsValid}
-use proofs.Common.{IsRootAt, Program, of_located, located_of, MOST_CONTROL_LINES, JoinedSegment, edges_of, fixup_edges}
-use proofs.Common.{bad_line, lost_segment, code_segments, unit_titles, unless_none, placed_whole, ending_of, on_value}
-use proofs.Common.{IsSound}
+use proofs.Common.{nat_tests, same_Ok, Control, Refusal, ModuleParts, segments_of, L6, L7, GraphParts, IsGraph, leads}
+use proofs.Common.{SourceFile, InputError, InputsTree, controls_in, script_in, Linked, LayoutParts, BuildJob}
+use proofs.Common.{build_files, Script, Placing, All, All-nil, All-cons, All-take, option_map, AreResolved, resolved_of}
+use proofs.Common.{Row, IsBytes, fit_back, IsRead, module_takes, AreAnswered, ProgramFiles, script_content}
+use proofs.Common.{word_contents, AreOfBytes, IsAccepted, IsBuilt, MeetsRules, IsByteList, IsValid, IsRootAt, Program}
+use proofs.Common.{of_located, located_of, MOST_CONTROL_LINES, JoinedSegment, edges_of, fixup_edges, bad_line}
+use proofs.Common.{lost_segment, code_segments, unit_titles, unless_none, placed_whole, ending_of, on_value, IsSound}
 use proofs.PieceBytes.{every_flat, HasBytes, object_pieces, source_pieces}
 use proofs.Verdicts.{rules_of_program}
 use Rattle.m51_graph.specs.Graphs.{graph_of, cyclic_from, first_under_two, lacks_reset, on_cycles, parts_of}
 use Rattle.m51_inputs.specs.Inputs.{inputs_of}
-use Rattle.std.proofs.Common.{◌≡◌, ℕ, suc, ◌+◌, ◌≤◌, Bool, true, false, cond, nat_lt, List, [], ◌∷◌, length, Option}
-use Rattle.std.proofs.Common.{Some, None, Ok, Err, refl, sym, subst, arith, Result, zero, ◌<◌, ◌++◌}
+use Rattle.std.proofs.Common.{◌≡◌, ℕ, suc, ◌+◌, ◌≤◌, Bool, cond, nat_lt, List, [], ◌∷◌, length, Option, Some, None, Ok}
+use Rattle.std.proofs.Common.{Err, refl, sym, subst, arith, Result, zero, ◌<◌, ◌++◌}
 use Rattle.m51_control.specs.Controls.{AreKept, IsAllowed, Read, controls_of, controls_from, with_line}
 use Rattle.m51_resolve.proofs.Answering.{meets}
 use Rattle.m51_resolve.proofs.Choices.{one_choice}
@@ -33,7 +32,7 @@ use Rattle.m51_records.specs.declared.types.TheConstants.{LIBRARY_HEADER}
 use Rattle.m51_records.specs.Reading.{module_at, one_at}
 use Rattle.m51_records.specs.Spelling.{records_in}
 use Rattle.m51_records.proofs.Tools.{on_ok, ok_is}
-use Rattle.m51_library.specs.Reading.{count_in, library_of, module_in, modules_at, modules_of, nothing_after, or_object}
+use Rattle.m51_library.specs.Reading.{count_in, library_of, module_in, modules_at, modules_of, nothing_after}
 use Rattle.m51_library.specs.Spelling.{count_record}
 use Rattle.m51_library.proofs.Accepting.{makes_all}
 use Rattle.m51_library.proofs.LibraryLaws.{first_takes}
@@ -81,20 +80,11 @@ are_allowed number (line ∷ more) =
 
 within : (b : Bool) (all : List (List ℕ)) (controls : List (ℕ × Control)) → nat_lt MOST_CONTROL_LINES (length all) ≡ b
     → cond b (Err TooMany) (controls_from 1 all) ≡ Ok controls → AreKept controls
-within true all controls few h = absurd (cc h)
-within false all controls few h =
-    let read : AreAllowed (length all) (Ok controls) = subst (AreAllowed (length all)) h (are_allowed 1 all) in
-    let most : length all ≤ MOST_CONTROL_LINES = ltb-false MOST_CONTROL_LINES (length all) few in
-    record { few = omega (arith, read.0, most); each = read.1 }
+within b all controls few h = grind (arith, nat_tests, are_allowed 1 all)
 
 pub controls_kept : (bytes : List ℕ) (controls : List (ℕ × Control)) → controls_of bytes ≡ Ok controls
     → AreKept controls
 controls_kept bytes controls h = within (nat_lt MOST_CONTROL_LINES (length (lines bytes))) (lines bytes) controls refl h
-
--- what is answered is what is chosen, where no rule fails
-answered : (chosen modules : List ModuleParts) (o : Option Refusal) → first_refusal chosen ≡ o
-    → unless_refused chosen o ≡ Ok modules → AreResolved modules
-answered chosen modules o is h = grind (arith, meets)
 
 pub chosen_resolved : (given : List ModuleParts) (libraries : List (List ModuleParts)) (modules : List ModuleParts)
     → resolved_of given libraries ≡ Ok modules → AreResolved modules
@@ -207,8 +197,7 @@ library_first r ms l valid rest h = grind arith
 source_first : (sources : List ModuleParts) (after : List ModuleParts → Result objects.Linked InputError)
     (l : objects.Linked) → Every HasBytes sources → AreFollowed after → with_source sources after ≡ Ok l → AreLinked l
 source_first [] after l valid rest h = rest [] l valid h
-source_first (m ∷ sources) after l valid rest h =
-    module_first (after sources) m l valid.0 (λ k is. rest sources k valid.1 is) h
+source_first (m ∷ sources) after l valid rest h = grind (arith, module_first, source_first sources)
 
 word_first : (o : Option Ending) (word : ℕ) (file : List ℕ) (sources : List ModuleParts)
     (after : List ModuleParts → Result objects.Linked InputError) (l : objects.Linked)

@@ -3,8 +3,8 @@ use Rattle.m51_build_proof.proofs
 use proofs.Common.{Value, IsTree, ModuleParts, SourceFile, option_map_or, Placing, Instr, IsBytes, fit_back, fit_front}
 use proofs.Common.{Tree, AllByRecursion, flat_map, All, range_with_len, cons_option, filter_map, Piece, Row, option_map}
 use proofs.Common.{slice_get, All-head, All-tail, All-from_get_or, byte_among, Stretch, stretch_at, IsValid}
-use proofs.Common.{IsBitNumber, IsFixupValid, cases_Bool, IsRead, encoded, padded, Meanings, IsByte, Each, IsItem}
-use proofs.Common.{IsOperand, MOST_PIECE_BYTES, placed_fault, FieldBytes, address_of, Fixup, Form}
+use proofs.Common.{IsBitNumber, IsFixupValid, cases_Bool, IsRead, Meanings, IsByte, Each, IsItem, IsOperand}
+use proofs.Common.{MOST_PIECE_BYTES, placed_fault, FieldBytes, address_of, Fixup, Form}
 use proofs.ReadBodies.{IsSmallBody, IsTextItem, AreSmall, IfSmall, IsSmall, counted_small, value_small, SmallTree}
 use proofs.ReadBodies.{lines_small, body_small, final_small}
 use Rattle.std.proofs.Common.{ℕ, ◌<◌, arith, ◌≡◌, zero, suc, Bool, false, cond, List, [], ◌∷◌, ◌++◌, length, map, drop}
@@ -20,20 +20,18 @@ use Rattle.m51_isa.specs.declared.instr.Instr.TheVariants.{Nop}
 use Rattle.m51_isa.specs.declared.look.Look.{Look}
 use Rattle.m51_isa.specs.Filling.{with_numbers}
 use Rattle.m51_isa.specs.Spelling.{look_of, text_of}
+use Rattle.m51_isa.specs.Table.{encoded, padded}
 use Rattle.m51_isa.specs.declared.generics.Jump.{Jump}
 use Rattle.m51_isa.specs.declared.slot.Field.{Field}
 use Rattle.m51_isa.specs.declared.slot.FieldSlot.{FieldSlot}
-use Rattle.m51_isa.specs.TextLaws.{HasRowText, meant_by}
-use Rattle.m51_isa.specs.Generic.{generic}
 use Rattle.m51_isa.proofs.RowsFilled.{texts_are_rows}
 use Rattle.m51_expr.specs.Evaluation.{value_of}
-use Rattle.m51_expr.specs.Operand.{OperandTree, R, AtR, ItemTree, Text, Value as ValueItem}
+use Rattle.m51_expr.specs.Operand.{OperandTree, ItemTree, Value as ValueItem}
 use Rattle.m51_encode.specs.declared.reference.FieldValue.{FieldValue}
 use Rattle.m51_encode.specs.declared.reference.FieldValue.TheVariants.{Number}
 use Rattle.m51_encode.specs.declared.item.Width.{Width}
 use Rattle.m51_encode.specs.declared.item.Width.TheVariants.{Byte, Word}
-use Rattle.m51_encode.specs.Coding.{Line, coded, coded_by, coded_line, first_of, gathered, instruction_line, line_row}
-use Rattle.m51_encode.specs.Coding.{look_in, second_of, third_of}
+use Rattle.m51_encode.specs.Coding.{Line, coded, coded_by, coded_line, gathered, instruction_line, line_row, look_in}
 use Rattle.m51_encode.specs.FieldValues.{field_of, is_taken, taken_of}
 use Rattle.m51_encode.specs.Filling.{Answer, and_then, expression, fielded, filled, filled_by, or_out_of_range, valued}
 use Rattle.m51_encode.specs.Items.{item_field}
@@ -169,18 +167,7 @@ row_coded : (names : Meanings) → AreSmall names → (l : Line) → OperandsAre
     → IsBytes (coded_content (coded_by names l o)).bytes
 row_coded names are l h None is = tt
 row_coded names are l h (Some i) is =
-    let a = look_in l.first in
-    let b = look_in l.second in
-    let c = look_in l.third in
-    let written : HasRowText (meant_by l.mnemonic l.jump (generic l.mnemonic a b c)) a b c i =
-    rw is at (texts_are_rows.meant l.mnemonic l.jump a b c) in
-    gathered_bytes i (record {
-      first = rw written.first (look_fits l.first);
-      second = rw written.second (look_fits l.second);
-      third = rw written.third (look_fits l.third);
-    }) (first_of names i l.first) (second_of names i l.second) (third_of names i l.third)
-    (filled_small names are _ _ l.first h.0) (filled_small names are _ _ l.second h.1.0)
-    (filled_small names are _ _ l.third h.1.1)
+    grind (arith, texts_are_rows.meant l.mnemonic l.jump, look_fits, gathered_bytes, filled_small names are)
 
 abbrev IfLine : Option Line → Type 0
 IfLine None = Unit {0}
@@ -203,8 +190,7 @@ items_bytes : (names : Meanings) (width : Width) (P : ItemTree → Type 0)
     → ((item : ItemTree) → P item → IsBytes (item_content names width item).bytes) → (items : List ItemTree)
     → Each P items → IsBytes (joined (map (item_content names width) items)).bytes
 items_bytes names width P is [] h = tt
-items_bytes names width P is (item ∷ items) h =
-    bytes_append (item_content names width item).bytes _ (is item h.0) (items_bytes names width P is items h.1)
+items_bytes names width P is (item ∷ items) h = grind (arith, bytes_append, is item, items_bytes names width P is items)
 
 word_field : (e : Tree) (o : Option FieldValue) → IfField o
     → IsBytes (item_given Word (ValueItem e) (and_then (or_out_of_range o) (λ held. Ok (Some held)))).bytes
@@ -216,8 +202,7 @@ word_by names e v h = grind (arith, word_field, field_small names field.Data16 0
 
 word_bytes : (names : Meanings) → AreSmall names → (item : ItemTree) → IsItem false item
     → IsBytes (item_content names Word item).bytes
-word_bytes names are (ValueItem e) h = word_by names e (value_of names e) (value_small names are e h)
-word_bytes names are (Text characters) h = absurd (cc h)
+word_bytes names are item h = grind (arith, word_by names, value_small names are)
 
 -- a line
 pub content_bytes : (names : Meanings) → AreSmall names → (jump : Jump) (b : BodyTree) → IsSmallBody b

@@ -1,9 +1,9 @@
 -- The headline, and that the top call keeps it: the kept file runs alike, and flat repeats the run.
 use Rattle.m51_build_proof.proofs
 use proofs.Common.{same_Some, Linked, Script, BuildJob, build_files, AreOfBytes, IsBuilt, separate_run, flat_run}
-use proofs.Common.{IsByteList, script_content, All-cons, All-nil, memory_in, memory_from, hex_of, inputs_of}
-use proofs.Common.{flat_runs_agree, hex_kept, IsOutcome, Event, script_in, FlatJob, content_if, one_outcome, Job}
-use proofs.Common.{names_read, job_of, Status, Files, ChainKeepsPromise, HoldBytes, KeepsPromise}
+use proofs.Common.{IsByteList, script_content, All-cons, All-nil, memory_in, memory_from, inputs_of, flat_runs_agree}
+use proofs.Common.{hex_kept, IsOutcome, Event, script_in, FlatJob, content_if, one_outcome, Job, names_read, job_of}
+use proofs.Common.{Status, Files, ChainKeepsPromise, HoldBytes, KeepsPromise}
 use proofs.Erased.{erased_outside}
 use proofs.PieceBytes.{image_bytes}
 use proofs.Known.{inputs_known, known}
@@ -14,6 +14,7 @@ use Rattle.std.proofs.Common.{◌≡◌, ℕ, List, Option, Some, None, Ok, sym,
 use Rattle.std.proofs.Common.{◌++◌, codes, Result, refl, ap, arith, ◌⊎◌, inl, inr, Bool, true, false, cond, length}
 use Rattle.std.proofs.Common.{append-nil}
 use Rattle.m51_jobs.specs.declared.job.Job.TheVariants.{Build, Flat}
+use Rattle.m51_hex.specs.Writing.{hex_of}
 use Rattle.m51_hex.proofs.RoundTrip.{written_is_read}
 use Rattle.m51_build_proof.specs.Headline.{RunsAlike, FlatGives, FlatRepeats, IfShared, Headline}
 use Rattle.std.specs.Prelude.{flat_map}

@@ -344,9 +344,7 @@ module _ (lines : List LineTree) (a : Assignment) (c : IsClean lines a) (all : A
   last_small : (name : List ℕ) (k : ℕ) → AllAbove k → IfSomeSmall (last_set lines a name k)
   unfolding last_set AllAbove
   last_small name zero above_it = grind arith
-  last_small name (suc k) above_it =
-      set_small k name (found_in (line_definitions lines k) name) (last_set lines a name k) refl
-      (above_it k (omega arith)) (last_small name k (λ j less. above_it j (omega (arith, less))))
+  last_small name (suc k) above_it = grind (arith, set_small k name, above_it k, last_small name k)
 
   defined_small : (k : ℕ) (name : List ℕ) (d : ℕ) (definition : Definition) → IsSmallDefinition definition → AllAbove k
       → AreSmall (above lines a d)
@@ -382,8 +380,7 @@ module _ (lines : List LineTree) (a : Assignment) (c : IsClean lines a) (all : A
 
   before_small : (k : ℕ) (name : List ℕ) (o : Option (ℕ × Definition)) → definition_of lines name ≡ o → AllAbove k
       → IfSomeSmall (if_before k (named_value lines a k name o) o)
-  before_small k name None is above_it = undefined_small k name
-  before_small k name (Some d) is above_it = before_by k name d.0 d.1 (nat_lt d.0 k) refl is above_it
+  before_small k name o is above_it = grind (arith, undefined_small k name, before_by)
 
   above_by : (k : ℕ) → AllAbove k → AreSmall (above lines a k)
   unfolding above

@@ -1,8 +1,8 @@
 -- At most one live segment covers a cell, at each step; and each layout with a root at 0000H has a board.
 use Rattle.m51_build_proof.proofs
 use proofs.Common.{Linked, LayoutParts, Script, BuildJob, Instr, AreOfBytes, IsBuilt, separate_run, cond_both, lt-ltb}
-use proofs.Common.{range_with_len, if◌then◌else◌, nat_lt, Event, length_of, IsSound, one_root, Inputs, inputs_of}
-use proofs.Common.{inside_ok, IsDataCell, BoardState, IsStarted}
+use proofs.Common.{range_with_len, if◌then◌else◌, nat_lt, Event, IsSound, one_root, Inputs, inputs_of, inside_ok}
+use proofs.Common.{IsDataCell, BoardState, IsStarted}
 use proofs.Known.{IsStartable, layout_startable}
 use Rattle.std.proofs.Common.{◌≡◌, ℕ, zero, suc, List, Option, Some, None, Result, Ok, Err, refl, sym, ap, subst, ◌<◌}
 use Rattle.std.proofs.Common.{◌%◌, ◌∙◌, Bool, true, false, arith, map, ◌/◌, get_or, not}
@@ -22,7 +22,7 @@ use Rattle.m51_monitor.specs.declared.step.Move.{Move}
 use Rattle.m51_monitor.specs.declared.step.Move.TheVariants.{Stay}
 use Rattle.m51_monitor.specs.Found.{root_found, unit_found}
 use Rattle.m51_monitor.specs.Monitored.{live_in, Monitored, IsStart, started}
-use Rattle.m51_monitor.specs.Records.{AreWalks, Records, current, units_named}
+use Rattle.m51_monitor.specs.Records.{AreWalks, Records, units_named}
 use Rattle.m51_monitor.specs.Related.{OneLive}
 use Rattle.m51_monitor.specs.Resolved.{outside_of, is_absent, resolved}
 use Rattle.m51_monitor.specs.Transfers.{IsRootWanted, judged, moved}
@@ -32,8 +32,8 @@ use Rattle.m51_monitor.proofs.Moving.{allowed, allowed_stands}
 use Rattle.m51_monitor.proofs.Standing.{all_related}
 use Rattle.m51_sim.specs.Effects.{attempt_by, attempt_of, executing, idle_effect, instr_at}
 use Rattle.m51_sim.specs.Runs.{Performed, State, record_from, record_of}
-use Rattle.m51_sim.specs.SeparateMachine.{Separate, cells_of, concludes, instr_outcome, lie_inside, separate_effect}
-use Rattle.m51_sim.specs.SeparateMachine.{separate_machine, separate_performs, separate_start}
+use Rattle.m51_sim.specs.SeparateMachine.{Separate, cells_of, concludes, separate_effect, separate_machine}
+use Rattle.m51_sim.specs.SeparateMachine.{separate_performs, separate_start}
 use Rattle.m51_stack_proof.proofs.Bounded.{Held, judged_of}
 use Rattle.m51_stack_proof.proofs.Meeting.{root_at}
 use Rattle.std.proofs.lemmas.List.FromFn.{get_or-map-range_with_len}
@@ -188,13 +188,7 @@ module _ (l : LayoutParts) (sound : IsSound l) (image : List ℕ) where
 
     by_instr : (i : Option Instr) → separate_effect l image cpu m pins (executing i) ≡ Ok x → Then
     unfolding separate_effect
-    by_instr (Some instr) done =
-        let o = instr_outcome l m cpu instr image pins in
-        by_outcome o (inside_ok (lie_inside l (current m.records) cpu.pc (length_of instr)) (concludes l m cpu o) _ x
-        done).1
-    by_instr None done =
-        let inside = inside_ok (lie_inside l (current m.records) cpu.pc 1) _ _ x done in
-        absurd (cc inside.1)
+    by_instr i done = grind (arith, by_outcome, inside_ok)
 
     by_idle : separate_effect l image cpu m pins (attempt_by image cpu None) ≡ Ok x → Then
     unfolding separate_effect

@@ -6,8 +6,8 @@ use proofs.Common.{Refusal, L12, L6, L7, L8, ModuleParts, Placing, Script, Build
 use proofs.Common.{link_outcome, option_map, one_for_files, IsLinked, Program, placed_of, joined_of, checked_of}
 use proofs.Common.{placing_of, resolved_of, first_refusal, unless_refused, AreAnswered, Given, IsGivenOutcome}
 use proofs.Common.{ProgramFiles, Refused, control_content, script_content, word_contents, IsReport, IsAccepted, IsBuilt}
-use proofs.Common.{IsRun, MeetsRules, AreOfBytes, RunEvent, Event, unless_none, Status, ok_same, on_value, one_linked}
-use proofs.Common.{leads, false≢true, refusal_text, after_blank, list_any, bytes_eq, edges_of, fixup_edges, bad_line}
+use proofs.Common.{IsRun, MeetsRules, AreOfBytes, RunEvent, Event, unless_none, Status, on_value, one_linked, leads}
+use proofs.Common.{false≢true, refusal_text, after_blank, list_any, bytes_eq, edges_of, fixup_edges, bad_line}
 use proofs.Common.{lost_segment, unit_titles, LayoutParts, StackBound, StackError, ScriptError, script_outcome}
 use Rattle.m51_graph.specs.Graphs.{graph_of, unless, cyclic_from, first_under_two, on_cycles, parts_of, under_two}
 use Rattle.m51_chain.specs.InputRefusals.{input_outcome}
@@ -128,10 +128,7 @@ module _ (program : Result Program Refusal) (Is : Linked → Outcome → Type 0)
 
   of_linked : (p : Program) (linked : Linked) → program ≡ Ok p → IsLinked p linked
       → IsProgramOutcome program Is outcome → Is linked outcome
-  of_linked p linked goes l (Unlinked why is one) = absurd (cc (goes, is))
-  of_linked p linked goes l (Follows q other is are one) =
-      let same : q ≡ p = ok_same _ q p is goes in
-      subst (λ (x : Linked). Is x outcome) (one_linked p other linked (rw same at are) l) one
+  of_linked p linked goes l h = grind (arith, one_linked p)
 
 module _ (job : BuildJob) (contents : List (List ℕ)) (outcome : Outcome) (h : IsBuildOutcome job contents outcome) where
   abbrev Is : InputsTree → Outcome → Type 0

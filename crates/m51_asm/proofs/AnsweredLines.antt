@@ -5,7 +5,7 @@ use Rattle.m51_asm.specs
 use proofs.Common.{◌≡◌, ℕ, zero, suc, ◌+◌, ◌<◌, ◌≤◌, List, [], ◌∷◌, length, Option, Some, None, refl, ap, slice_get}
 use proofs.Common.{arith, LineTree, Assignment, content_faults, AreFree, IsFirstFault, map, get_or, line_tree}
 use proofs.Common.{LinePlace, IsPlaceOf, ArePlaces, ◌==◌, false, take, length-take, Fault, Row, SourceFile, IsGivenTo}
-use proofs.Common.{IsText, placed_fault, fault_of_line, append-nil, ModuleParts, Contents, parts}
+use proofs.Common.{IsText, placed_fault, fault_of_line, append-nil, ModuleParts, Contents, parts, length-map}
 use specs.Answer.{Faults, first_fault, content_or_faults, answer_of_lines, Gives}
 use Rattle.m51_text.specs.Answer.{Lines, TextTree, Faults as TextFaults, statements_of}
 use specs.AnswerRows.{rows}
@@ -116,3 +116,5 @@ read_few source includes = short 65536 (file_lines includes 8 0 source.bytes)
 -- a text has at most 65,536 lines
 pub lines_few : (lines : List LineTree) → IsText lines → length lines ≤ 65536
 lines_few lines text = grind (arith, said_few, read_few)
+
+pub ruleset text_short = (lines_few, length-map)

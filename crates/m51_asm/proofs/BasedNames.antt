@@ -6,7 +6,8 @@ use Rattle.m51_asm.specs
 use proofs.Common.{◌≡◌, ℕ, ◌+◌, ◌/◌, ◌%◌, ◌==◌, nat_lt, Bool, true, false, not, ◌&&◌, ◌||◌, cond, List, Option, Some}
 use proofs.Common.{None, Ok, Err, refl, ap, sym, subst, Base, Kind, Part, Whole, High, Low, Value, Tree, Meanings}
 use proofs.Common.{arith, Bit, ltb-false, zero, suc, ◌<◌, ◌≤◌, [], ◌∷◌, ◌++◌, length, option_map, ltb-true, BodyTree}
-use proofs.Common.{LineTree, Assignment, body_at, here_at, Fits, TextSegment, bytes_eq, ◌∙◌, below_more}
+use proofs.Common.{LineTree, Assignment, body_at, here_at, Fits, TextSegment, bytes_eq, below_more, inl, inr}
+use proofs.Common.{cases_Bool}
 use Rattle.m51_expr.specs.Value.{Valued, plain, is_whole, fault, whole, part_value, bit_address}
 use Rattle.m51_cells.specs.Outcome.{and_then}
 use Rattle.m51_expr.specs.declared.fault.ExprError.{ExprError}
@@ -26,7 +27,7 @@ use specs.Definitions.{externals_from, found_in, or_later, definition_from, defi
 use specs.Assignment.{if_before, above, value_or_none}
 use specs.Fitting.{set_by, register_or_predefined, externals_in, value_by, named_value, last_set, undefined_value}
 use specs.Fitting.{externals_before, with_class}
-use specs.ObjectSegments.{segment_of, declared_or}
+use specs.ObjectSegments.{segment_of}
 use proofs.KnownSegments.{Declares, known, two_more}
 use Rattle.m51_encode.specs.FieldLaws.{IsBitOf}
 use Rattle.m51_sfr.specs.Registers.{bits}
@@ -62,10 +63,7 @@ data Plain (Linked : ℕ → ℕ → Type 0) (G : Base → Type 0) : Value → V
 -- two choices by one test
 choose : {X : Type 0} (R : X → X → Type 0) {b d : Bool} {v w x y : X} → b ≡ d → R v w → R x y
     → R (cond b v x) (cond d w y)
-choose R {b = true} {d = true} e s t = s
-choose R {b = false} {d = false} e s t = t
-choose R {b = true} {d = false} e s t = absurd (cc e)
-choose R {b = false} {d = true} e s t = absurd (cc e)
+choose R e s t = grind arith
 
 by_test : {X : Type 0} (R : X → X → Type 0) (b : Bool) {v w x y : X} → (b ≡ true → R v w) → (b ≡ false → R x y)
     → R (cond b v x) (cond b w y)
@@ -120,11 +118,7 @@ module _ {names short : Meanings} {Linked : ℕ → ℕ → Type 0} {G : Base �
   -- what follows from one number
   from : {m n : Valued ℕ} {f g : ℕ → Valued Value} → m ≡ n → ((k : ℕ) → Results (f k) (g k))
       → Results (and_then m f) (and_then n g)
-  from {m} {f = f} {g = g} e h = subst (λ n. Results (and_then m f) (and_then n g)) e (itself m)
-    where
-      itself : (m : Valued ℕ) → Results (and_then m f) (and_then m g)
-      itself (Ok k) = h k
-      itself (Err k) = err
+  from {m} {n} e h = grind (arith, err)
 
   high_low : (part : Part) → B part → (f : ℕ → ℕ) (n : ℕ) (c : Kind) {a b : Base} → Bases a b → (p : Part) → B p
       → Results (or_number (kept_under part (at n c a p)) (as_number names (at n c a p)) f)
@@ -240,9 +234,7 @@ module _ (names short : Meanings) (Linked : ℕ → ℕ → Type 0) (r : IsRenum
   form_same : (verb : Verb) {m n : Valued Value} → Both (Like Linked Any Any) m n
       → jump_form_of names verb m ≡ jump_form_of short verb n
   unfolding jump_form_of
-  form_same verb (ok (like {n} {p = p} t q)) =
-      let next : (names.here.number + 2) % 65536 ≡ (short.here.number + 2) % 65536 = ap (λ (v : Value). (v.number + 2)
-      % 65536) (sym r.here.is) in cc (own t, own none)
+  form_same verb (ok (like t q)) = cc (own t, own none, ap (λ (v : Value). v.number) r.here.is)
   form_same verb err = refl
 
   pub unchanged : (tree : Tree) → IsUnchanged names short Linked tree
@@ -279,17 +271,13 @@ module _ (G : Base → Type 0) (no_base : G base.None) where
   Stays = Like ◌≡◌ G IsBitOf
 
   tied : (b : Base) → G b → Tied ◌≡◌ G b b
-  tied base.None g = none
-  tied (base.Segment s) g = segment refl g
-  tied (base.External m) g = external g
+  tied b g = grind (arith, none, segment, external)
 
   stays : {v : Value} → IsBased G v → Stays v v
   stays {v} h = like (tied v.base h.base_is) h.bit_is
 
   base_of : {a b : Base} → Tied ◌≡◌ G a b → G a
-  base_of none = no_base
-  base_of (segment e g) = g
-  base_of (external g) = g
+  base_of t = grind (arith, no_base)
 
   based : {r q : Valued Value} → Both Stays r q → IfBased G r
   based (ok (like t h)) = record { base_is = base_of t; bit_is = h }
@@ -329,8 +317,7 @@ IfFrom b (Some d) = IsFrom b d
 
 if_found : (b : BodyTree) (test : Bool) (d : Definition) (o : Option Definition) → IsFrom b d → IfFrom b o
     → IfFrom b (cond test (Some d) o)
-if_found b true d o h k = h
-if_found b false d o h k = k
+if_found b test d o h k = grind arith
 
 externals_below : (b : BodyTree) (xs : List (List ℕ × Kind)) (from : ℕ) (name : List ℕ)
     → externals_in b ≡ from + length xs → IfFrom b (found_in (externals_from from xs) name)
@@ -404,16 +391,10 @@ module _ (lines : List LineTree) (a : Assignment) (f : Fits lines a) where
   place_good k = good (ap (λ (s : TextSegment). s.id) (known lines a f k).same)
 
   declared_good : (d : ℕ) (kind : Kind) → Declares (body_at lines d) kind → (segment_of lines a (d + 2)).id ≡ d + 2
-  declared_good d kind declares =
-      ap (λ (s : TextSegment). s.id) (ap (segment_of lines a) (two_more d)
-      ∙ ap (declared_or lines d (a.segment (suc d))) declares.is)
+  declared_good d kind declares = rw (two_more d, declares.is) (two_more d)
 
   tree_good : (k : ℕ) (e : Tree) → AreBased D (above lines a k) → Good (value_or_none (value_of (above lines a k) e))
-  tree_good k e are = if_ok (value_of (above lines a k) e) (value_based D tt (above lines a k) are e)
-    where
-      if_ok : (r : Valued Value) → IfBased D r → Good (value_or_none r)
-      if_ok (Ok v) h = h
-      if_ok (Err e) h = tt
+  tree_good k e are = let based = value_based D tt (above lines a k) are e in grind (arith, based)
 
   classed : (kind : Kind) (o : Option Value) → Good o → Good (option_map (with_class kind) o)
   classed kind o h = grind arith
@@ -438,19 +419,15 @@ module _ (lines : List LineTree) (a : Assignment) (f : Fits lines a) where
       → Good (value_by (here_at a d) (above lines a d) (last_set lines a name k) (externals_before lines d) d h)
   defined_good k name d Label i all are = place_good d
   defined_good k name d (SegmentOf kind) i all are =
-      let declares = i.from in
-      let at : i.index ≡ d = omega arith in
-      good (declared_good d kind (subst (λ n. Declares (body_at lines n) kind) at declares))
+      let e : i.index ≡ d = omega arith in good (declared_good d kind (rw e at i.from))
   defined_good k name d (EquOf e) i all are = tree_good d e are
   defined_good k name d (SetOf e) i all are = last_good name k all
   defined_good k name d (AddressOf kind e) i all are =
       classed kind _ (tree_good d e are)
   defined_good k name d (ExternOf kind m) i all are =
-      let at : i.index ≡ d = omega arith in
+      let e : i.index ≡ d = omega arith in
       let up = externals_up lines (length lines) i.index i.inside in
-      let below = i.from in
-      let same = ap (externals_before lines) at in
-      good (omega arith, omega (arith, up, below, same))
+      good (omega arith, omega (arith, up, i.from, ap (externals_before lines) e))
 
   register_good : (on : Bool) (bank : ℕ) (name : List ℕ) (o : Option ℕ) → Good (register_or_predefined on bank name o)
   register_good on bank name o = grind (arith, good)
@@ -463,17 +440,15 @@ module _ (lines : List LineTree) (a : Assignment) (f : Fits lines a) where
       → Good (if_before k (named_value lines a k name o) o)
   before_good k name None i all = undefined_good k name
   before_good k name (Some (d, h)) i all =
-      if_true _ (nat_lt d k) (λ t. defined_good k name d h i all (all d (ltb-true d k t)))
-    where
-      if_true : (o : Option Value) (b : Bool) → (b ≡ true → Good o) → Good (cond b o None)
-      if_true o true g = g refl
-      if_true o false g = tt
+      elim (cases_Bool (nat_lt d k)) [
+        | inl t ↦ rw t (defined_good k name d h i all (all d (ltb-true d k t)))
+        | inr t ↦ rw t tt
+      ]
 
   above_good : (k : ℕ) → AllAbove k → AreBased D (above lines a k)
   unfolding above definition_of
   above_good k all = record {
-    value = λ name. subst (λ v. Good (if_before k v (definition_of lines name))) (sym (f.values k name))
-        (before_good k name (definition_of lines name) (in_lines lines 0 name) all);
+    value = λ name. rw f.values (before_good k name (definition_of lines name) (in_lines lines 0 name) all);
     here = place_good k;
   }
 
@@ -490,5 +465,4 @@ module _ (lines : List LineTree) (a : Assignment) (f : Fits lines a) where
   -- each name of the text has such a value
   pub name_good : (k : ℕ) (name : List ℕ) → IfSomeBased (IsDeclaredBase lines a) (a.value k name)
   unfolding definition_of
-  name_good k name =
-      subst Good (sym (f.values k name)) (named_good k name (definition_of lines name) (in_lines lines 0 name))
+  name_good k name = rw f.values (named_good k name (definition_of lines name) (in_lines lines 0 name))

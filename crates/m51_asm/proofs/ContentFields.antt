@@ -3,10 +3,10 @@
 use Rattle.m51_asm.proofs
 use Rattle.m51_asm.specs
 use proofs.Common.{nat_le, ◌≡◌, ◌⊎◌, inl, inr, ℕ, ◌+◌, ◌<◌, ◌≤◌, Bool, true, ◌&&◌, ◌||◌, List, [], ◌∷◌, Option, Some}
-use proofs.Common.{same_Some, sym, ◌∙◌, None, refl, ap, arith, Field, suc, length, Ok, Err, subst, Part, Value, Tree}
-use proofs.Common.{Meanings, Number, Linked, Reference, list_all, value_of, add-zero, ltb-true}
-use proofs.Common.{false, ◌++◌, map, length-append, length-map, Each, ◌*◌, IsItem, take, length-take, Jump, zero, not}
-use proofs.Common.{same_kind, BodyTree, LineTree, TextSegment, Assignment, body_at, is_misplaced, unwrap_or, above}
+use proofs.Common.{same_Some, sym, ◌∙◌, None, refl, ap, arith, Field, suc, length, Ok, Err, Part, Value, Tree, Meanings}
+use proofs.Common.{Number, Linked, Reference, list_all, value_of, add-zero, ltb-true, false, map, length-append, subst}
+use proofs.Common.{length-map, Each, ◌*◌, IsItem, take, length-take, Jump, zero, not, same_kind, BodyTree, LineTree}
+use proofs.Common.{TextSegment, Assignment, body_at, is_misplaced, unwrap_or, above}
 use Rattle.m51_isa.specs.declared.instr.Instr.{Instr}
 use Rattle.m51_isa.specs.Table.{length_of as row_length, encoded, padded}
 use Rattle.m51_module.specs.Validity.{field_len}
@@ -137,12 +137,8 @@ placed P n (None ∷ os) h =
 placed P n (Some q ∷ os) h =
     let m = placed P (suc n) os h.1 in
     record {
-      from = λ p i. elim i [
-        | inl e ↦ omega (arith, ap (λ (x : ReferenceAt). x.0) e)
-        | inr j ↦ let f = m.from p j in omega arith
-      ];
-      each = λ p i. elim i
-          [ inl e ↦ subst (λ (x : ReferenceAt). P x.0 x.1) e (h.0 q refl) | inr j ↦ m.each p j ];
+      from = λ p i. elim i [ inl e ↦ rw (← e) (omega arith) | inr j ↦ let f = m.from p j in omega arith ];
+      each = λ p i. elim i [ inl e ↦ rw (← e) (h.0 q refl) | inr j ↦ m.each p j ];
       order = (every_of (λ p. n < p.0) (placed_from (suc n) os) (λ p i. let f = m.from p i in omega arith), m.order);
     }
 
@@ -169,7 +165,7 @@ module _ (names : Meanings) (row : Instr) (next : ℕ) where
         → Links (and_then (or_out_of_range o) (λ held. Ok (held_at slot.byte held)))
     by_field e v is (Some (Number n)) from = grind arith
     by_field e v is None from = tt
-    by_field e v is (Some (Linked q)) from = λ r same. subst (IsAtByte slot.byte) (same_Some q r same) (record {
+    by_field e v is (Some (Linked q)) from = λ r same. rw (← same_Some q r same) (record {
       slot = slot;
       there = there;
       byte_is = refl;
@@ -311,16 +307,14 @@ join {names} {m} {n} {o} {ps} {c} {d} g h =
       content = record {
         inside = in_both _ _ _ (λ r i. let e = g.content.inside r i in omega arith) (λ r i.
             let f = in_map _ _ _ i in
-            let e = h.content.inside f.0 f.1 in
-            subst (λ (x : ReferenceAt). end_of_field x ≤ length (c.bytes ++ d.bytes)) f.2 (omega arith));
+            let e = h.content.inside f.0 f.1 in rw (← f.2) (omega arith));
         order = pairs_append _ _ _ g.content.order (pairs_map _ _ _ (pairs_within _ _ _
             (λ r q i j e. omega arith) h.content.order))
             (λ r q i j.
             let f = in_map _ _ _ j in
-            let e = g.content.inside r i in
-            subst (FieldAfter r) f.2 (omega arith));
-        linked = in_both _ _ _ g.content.linked (λ r i. let f = in_map _ _ _ i in
-            subst (λ (x : ReferenceAt). IsLinkedBy names x.1) f.2 (h.content.linked f.0 f.1));
+            let e = g.content.inside r i in rw (← f.2) (omega arith));
+        linked = in_both _ _ _ g.content.linked (λ r i.
+            let f = in_map _ _ _ i in rw (← f.2) (h.content.linked f.0 f.1));
       };
       size_is = omega arith;
       few = omega arith;
@@ -437,12 +431,8 @@ in_code s h = grind arith
 module _ (names counts : Meanings) (form : Jump) (s : TextSegment) where
   exactly : (size : ℕ) (parts : List OperandOutcome) (c : EmittedContent) → IsGiven names size parts c
       → not (same_kind s.kind kind.Code) ≡ false → IsGivenBy names size parts s c
-  exactly size parts c g stands = record {
-    content = g.content;
-    within = let e = g.size_is in omega (arith, e);
-    few = g.few;
-    code = inr (in_code s stands);
-  }
+  exactly size parts c g stands =
+      record { content = g.content; within = omega (arith, g.size_is); few = g.few; code = inr (in_code s stands) }
 
   given_by : (b : BodyTree) → IsGood b → is_misplaced s b ≡ false → AreFine (outcomes_by names form b)
       → IsGivenBy names (size_by counts form b) (outcomes_by names form b) s (content_by names form b)

@@ -22,11 +22,9 @@ use Rattle.std.proofs.lemmas.List.Folds.{list_any-append}
 use specs.declared.repeats.Defining.{Defining}
 use specs.Defining.{nothing_defined, line_again, first_again, line_defined, all_defined}
 use Rattle.m51_cells.proofs.Members.{In, Pairs, every_of, in_left, in_right}
-use specs.Fitting.{externals_in, set_by, value_by, externals_before, last_set, named_value, mod51}
-use specs.Fitting.{register_or_predefined, form_by, undefined_value, bank_before}
+use specs.Fitting.{externals_in, set_by, value_by, externals_before, last_set, named_value, form_by, undefined_value}
 use specs.ValuesAbove.{or_kept, line_value, value_above, defined_value, seen_value}
 use specs.GivenValues.{expression_given, given_or, given_by, HaveNumbers}
-use Rattle.m51_predefined.specs.Predefined.{absolute_register_of}
 use specs.NamesAt.{IsKeptOf, or_label}
 use specs.ValuesAt.{value_by_first, value_at, is_label}
 
@@ -59,14 +57,7 @@ twice b = grind arith
 pub key_put : (keys : List (Vec ℕ)) (key : Vec ℕ)
     → names_of (cond (list_any (λ (k : Vec ℕ). bytes_eq key.items k.items) keys) keys (keys ++ key ∷ []))
     ≡ made_public (names_of keys) key.items
-key_put keys key =
-    put (list_any (λ (k : Vec ℕ). bytes_eq key.items k.items) keys)
-    ∙ ap (λ b. cond b (names_of keys) (names_of keys ++ key.items ∷ [])) (keys_any key.items keys)
-  where
-    put : (b : Bool)
-        → names_of (cond b keys (keys ++ key ∷ [])) ≡ cond b (names_of keys) (names_of keys ++ key.items ∷ [])
-    put true = refl
-    put false = map-append (λ k. k.items) keys (key ∷ [])
+key_put keys key = grind (arith, keys_any key.items keys, map-append)
 
 -- The state after the first lines of a text: the first definitions above, what is public and named there, and where a
 -- line repeats.
@@ -78,20 +69,15 @@ or_none b = grind arith
 unfoldable pub at_line : ℕ → Definition → ℕ × Definition
 at_line line h = (line, h)
 
--- what comes last is found where nothing else is
-or_last : {A : Type 0} (b : Bool) (x : A) (o q : Option A) {p : Option A} → p ≡ or_here o q
-    → cond b (Some x) p ≡ or_here (cond b (Some x) o) q
-or_last b x o q h = grind arith
-
 found_last : (ds : List Defined) (d : Defined) (name : List ℕ)
     → found_in (ds ++ d ∷ []) name ≡ or_here (found_in ds name) (cond (bytes_eq name d.0) (Some d.1) None)
 found_last [] d name = refl
-found_last (e ∷ ds) d name = or_last (bytes_eq name e.0) e.1 _ _ (found_last ds d name)
+found_last (e ∷ ds) d name = grind (arith, found_last ds d name)
 
 first_last : (table : Table) (key : List ℕ) (f : FirstDefinition) (name : List ℕ)
     → first_in (table ++ (key, f) ∷ []) name ≡ or_here (first_in table name) (cond (bytes_eq name key) (Some f) None)
 first_last [] key f name = refl
-first_last (e ∷ table) key f name = or_last (bytes_eq name e.0) e.1 _ _ (first_last table key f name)
+first_last (e ∷ table) key f name = grind (arith, first_last table key f name)
 
 -- the first definition of a name after one more line
 from_more : (lines : List LineTree) (k number last : ℕ) (l : LineTree) (name : List ℕ) → slice_get lines k ≡ Some l
@@ -152,11 +138,7 @@ line_seen {lines} {k} (d ∷ ds) {table} {before} s =
     let above = λ (name : List ℕ). definition_of (take k lines) name in
     let more = line_seen ds (record {
       names = λ name.
-          noted_in table name d.0 (first_definition (k, d.1)) _ refl
-          ∙ ap (λ o. or_here o (cond (bytes_eq name d.0) (Some (first_definition (k, d.1))) None)) (s.names name)
-          ∙ join k (above name) _ _ d.1
-          ∙ ap (λ o. option_map first_definition (or_here (above name) (option_map (at_line k) o)))
-          (sym (found_last before d name));
+          rw (noted_in table name d.0 (first_definition (k, d.1)) _ refl, s.names, found_last) (join k _ _ _ d.1);
     }) in (
       λ i. (ap (λ o. clash o (how_of d.1)) (s.names d.0) ∙ clash_same k (above d.0) _ d.1) i
           || more.0 i,
@@ -192,11 +174,7 @@ publics_seen {lines} {k} [] {publics} {before} s =
 publics_seen {lines} {k} (key ∷ names) {publics} {before} s =
     let more = publics_seen names (record {
       names = λ name.
-          made_in publics name key _ refl
-          ∙ ap (λ b. b || (bytes_eq name key || false)) (s.names name)
-          ∙ moved (list_any (bytes_eq name) before) _ _
-          ∙ ap (λ b. b || list_any (has_public name) (take k lines))
-          (sym (list_any-append (bytes_eq name) before (key ∷ [])));
+          rw (made_in publics name key _ refl, s.names, list_any-append) (moved (list_any (bytes_eq name) before) _ _);
     }) in (
       λ i. s.names key i || more.0 i,
       subst (SeesPublic lines k (all_public publics (key ∷ names))) (append_assoc before (key ∷ []) names) more.1,
@@ -232,20 +210,14 @@ kept_more : {lines : List LineTree} {k : ℕ} {d : Defining} (l : LineTree) → 
     → IsKept lines (suc k) (line_defined d k l.stmt)
 unfolding line_defined is_repeated
 kept_more {lines} {k} {d} l is kept =
-    let names = line_seen (definitions_in l.stmt) (record {
-      names = λ name.
-          kept.names name ∙ ap (option_map first_definition) (sym (or_none (definition_of (take k lines) name)));
-    }) in
+    let names = line_seen {lines = lines} {k = k} (definitions_in l.stmt) {table = d.names} {before = []}
+    (record { names = λ name. cc (kept.names name, or_none (definition_of (take k lines) name)) }) in
     let publics = publics_seen {lines = lines} {k = k} (publics_in l.stmt.body) {before = []}
     (record { names = kept.publics }) in
     record {
-      names = λ name. names.1.names name ∙ ap (option_map first_definition) (sym (defined_more lines k l name is));
-      publics = λ name.
-          publics.1.names name ∙ or_comm (has_public name l) _
-          ∙ sym (any_more (has_public name) lines k l is);
-      named =
-          ap (λ b. b || names_module l.stmt.body) kept.named
-          ∙ sym (any_more (λ line. names_module line.stmt.body) lines k l is);
+      names = λ name. cc (names.1.names name, defined_more lines k l name is);
+      publics = λ name. publics.1.names name ∙ or_comm (has_public name l) _ ∙ sym (any_more _ lines k l is);
+      named = cc (kept.named, any_more (λ line. names_module line.stmt.body) lines k l is);
       repeated =
           first_by lines k d.repeated (line_again d k l.stmt)
           (λ i. ((names.0 ∙ ap (λ o. repeats_from lines k [] (defined_of o)) (sym is)) i
@@ -471,7 +443,7 @@ label_has above (Some label) body h = (tt, body_has above body h)
 -- the externals that a line defines have numbers
 pub have_numbers : (above : ℕ) (stmt : StmtTree) (defined : List Brief) → defined ≡ map brief (definitions_in stmt)
     → above + externals_in stmt.body ≤ 255 → HaveNumbers above defined
-have_numbers above stmt defined is h = subst (HaveNumbers above) (sym is) (label_has above stmt.label stmt.body h)
+have_numbers above stmt defined is h = rw is (label_has above stmt.label stmt.body h)
 
 -- a definition that clashes with none of two clashes with none of the first
 no_clash_first : (x y : Option Definition) (d : Definition) → clashes (or_here x y) d ≡ false → clashes x d ≡ false
@@ -507,20 +479,16 @@ module _ (lines : List LineTree) (a : Assignment) (k : ℕ) (name : List ℕ) wh
 
   pub not_again : is_repeated lines k ≡ false → repeats_from lines k [] (line_definitions lines k) ≡ false
   unfolding is_repeated
-  not_again h =
-      (or_parts (repeats_a_name lines k) _ (or_parts _ _ h).0).0
+  not_again h = (or_parts (repeats_a_name lines k) _ (or_parts _ _ h).0).0
 
   pub grown : (line : LineTree) → slice_get lines k ≡ Some line → is_repeated lines k ≡ false
       → value_above lines a (suc k) name ≡ or_kept lines a k (found_in (line_definitions lines k) name)
       (value_above lines a k name)
   unfolding value_above last_set
   grown line is h =
-      cc (
-        defined_more lines k line name is,
-        grow (last_set lines a name k) (definition_of (take k lines) name)
-            (found_in (line_definitions lines k) name) (λ x f. no_clash_in lines k [] (line_definitions lines k) name x
-            (not_again h) f),
-      )
+      let grows = grow (last_set lines a name k) (definition_of (take k lines) name)
+      (found_in (line_definitions lines k) name) (λ x f. no_clash_in lines k [] _ name x (not_again h) f) in
+      cc (defined_more lines k line name is, grows)
 
 -- What names mean at a line by what the lines above it give, and with the label of the line; the form of a JMP or CALL
 -- that follows.
@@ -585,12 +553,7 @@ means lines a f k segments table values predefines bank here s =
     value_is : (name : List ℕ)
         → value_at table values values predefines bank name ≡ value_before lines a k k name
     value_is name =
-        (λ i. value_by_first
-        (register_or_predefined (s.predefined i) (s.selected i) name (absolute_register_of name))
-        (s.known name i) (s.known name i) (s.names name i))
-        ∙ seen_first lines a k name
-        (register_or_predefined (mod51 lines) (bank_before lines a k) name (absolute_register_of name))
-        ∙ sym (seen lines a f k name)
+        grind (arith, seen_first, seen lines a f k name, s.predefined, s.selected, s.known name, s.names name)
 
 -- an instruction
 abbrev pub is_code : BodyTree → Bool
@@ -626,10 +589,8 @@ module _ (lines : List LineTree) (a : Assignment) (k : ℕ) (line : LineTree) (i
   not_above : (name : List ℕ) → is_label line.stmt.label name ≡ true → below k (definition_of lines name) ≡ None
   unfolding definition_of
   not_above name t =
-      let found : found_in (line_definitions lines k) name ≡ Some Label =
-      ap (λ l. found_in (defined_of l) name) is ∙ label_here name ∙ ap (λ b. cond b (Some Label) None) t in
-      sym (front_of_text lines k name)
-      ∙ fresh_label (definition_of (take k lines) name)
+      let found : found_in (line_definitions lines k) name ≡ Some Label = cc (is, label_here name, t) in
+      sym (front_of_text lines k name) ∙ fresh_label (definition_of (take k lines) name)
       (no_clash_in lines k [] (line_definitions lines k) name Label (not_again lines a k name once) found)
 
   one_more : (name : List ℕ)
@@ -641,8 +602,7 @@ module _ (lines : List LineTree) (a : Assignment) (k : ℕ) (line : LineTree) (i
         front_of_text lines (suc k) name,
         defined_more lines k line name is,
         label_here name,
-        at_label k (is_label
-            line.stmt.label name),
+        at_label k (is_label line.stmt.label name),
         front_of_text lines k name,
       )
 
@@ -650,11 +610,9 @@ module _ (lines : List LineTree) (a : Assignment) (k : ℕ) (line : LineTree) (i
       → or_label (above lines a k) line.stmt.label name ≡ value_before lines a (suc k) k name
   unfolding above
   down_value f name =
-      let d : Option (ℕ × Definition) = definition_of lines name in let b : Bool = is_label line.stmt.label name in cc (
-        f.values k name,
-        seen_label (named_value lines a k name) (here_at a k) k d b refl (not_above name) (one_more
-            name),
-      )
+      let labelled = seen_label (named_value lines a k name) (here_at a k) k (definition_of lines name)
+      (is_label line.stmt.label name) refl (not_above name) (one_more name) in
+      cc (f.values k name, labelled)
 
   down : Fits lines a → with_label (above lines a k) line.stmt.label ≡ down_to lines a k
   unfolding above down_to
@@ -665,8 +623,4 @@ pub form_told : (lines : List LineTree) (a : Assignment) → Fits lines a → (k
     → is_repeated lines k ≡ false
     → form_by (with_label (above lines a k) line.stmt.label) line.stmt.body ≡ a.form k
 form_told lines a f k line is once =
-    cc (
-      same_form (with_label (above lines a k) line.stmt.label) (down_to lines a k) line.stmt.body (λ code. down
-          lines a k line is once code f),
-      f.forms k,
-    )
+    cc (same_form _ (down_to lines a k) line.stmt.body (λ code. down lines a k line is once code f), f.forms k)

@@ -2,13 +2,12 @@
 -- module are what the definitions say.
 use Rattle.m51_asm.proofs
 use Rattle.m51_asm.specs
-use proofs.Common.{◌≡◌, ℕ, List, [], ◌∷◌, map, Option, Some, None, option_map, refl, ◌∙◌, Base, Value}
-use proofs.Common.{LineTree, arith, Assignment, first_definition, number_at, Valuation, Located, PublicSegment}
-use proofs.Common.{names_at, segment_in, zero, suc, ◌++◌, drop, ◌<◌, slice_get, Meanings, Fault, Row, BodyTree, here_at}
-use proofs.Common.{body_at, if_fault, IsGivenTo, EmittedContent, Contents, nothing_given, ◌≢◌, inl, inr}
-use proofs.Common.{◌+◌, ◌≤◌, ◌==◌, ◌-◌, Bool, cond, length, Result, ap, sym, get_or, eq-eqb, eqb-true}
-use proofs.Common.{length-map, Fixup, Piece, Segment, with_line, nothing_gathered, gathered_before, IsText, slice_set}
-use proofs.Common.{append-nil, LieInside, changed_element}
+use proofs.Common.{◌≡◌, ℕ, List, [], ◌∷◌, map, Option, Some, None, option_map, refl, ◌∙◌, Value, LineTree, arith}
+use proofs.Common.{Assignment, first_definition, number_at, Valuation, Located, PublicSegment, names_at, segment_in}
+use proofs.Common.{zero, suc, ◌++◌, drop, ◌<◌, slice_get, Meanings, Fault, Row, BodyTree, here_at, body_at, if_fault}
+use proofs.Common.{IsGivenTo, EmittedContent, Contents, nothing_given, ◌≢◌, inl, inr, ◌+◌, ◌≤◌, ◌==◌, ◌-◌, Bool, cond}
+use proofs.Common.{length, Result, ap, sym, get_or, eq-eqb, eqb-true, length-map, Fixup, Piece, Segment, with_line}
+use proofs.Common.{nothing_gathered, gathered_before, IsText, slice_set, append-nil, LieInside, changed_element}
 use Rattle.m51_emit.specs.Outcomes.{or_next, leftmost_fault, made_with, made_with_all}
 use specs.declared.numbering.PlacedText.{PlacedText}
 use specs.Definitions.{Definition, definition_of}
@@ -16,17 +15,17 @@ use specs.ObjectSegments.{segment_number, segment_of, final, Kept, object_segmen
 use specs.PlacedText.{IsAssignedText}
 use specs.Publishing.{fault_among, definer_of, published_by, fault_of_public, publics_among}
 use Rattle.m51_emit.specs.PublicNames.{Published, public_by, public_outcome}
-use specs.PublicNames.{definer_by, numbered_as, base_segment, counted_from, published, publics_of}
+use specs.PublicNames.{definer_by, numbered_as, counted_from, published, publics_of}
 use proofs.BasedNames.{IfSomeBased, IsDeclaredBase, name_good}
 use proofs.ToldLines.{names_of}
-use proofs.KnownSegments.{segment_is, few_segments, of_cond, ids, Ascend, AreKept, all_kept, room, known}
+use proofs.KnownSegments.{segment_is, few_segments, ids, Ascend, AreKept, all_kept, room, known, index_is}
 use specs.ContentFaults.{faults_from, line_outcomes_by, line_outcomes, made_before, content_fault}
 use specs.AnswerRows.{rows_from, rows, place_of, listing_row}
 use specs.ValuesAt.{IsSetAt}
 use specs.Repeats.{publics_in}
 use Rattle.std.proofs.Common.{append_assoc, below_more, OnOk}
 use Rattle.m51_emit.specs.Content.{outcomes_by, content_by}
-use specs.Pieces.{content_at, if_bytes, offset_at, pieces, fixups, runs_from, line_fixups, fixups_from}
+use specs.Pieces.{content_at, offset_at, pieces, fixups, runs_from, fixups_from}
 use specs.Parts.{publics_by, publics_before}
 use specs.Fitting.{last_set}
 use Rattle.m51_emit.specs.Rows.{place_in, row_in}
@@ -42,7 +41,6 @@ use proofs.ContentFields.{given_at}
 use proofs.GoodLines.{IsFreeText, free_where}
 use proofs.ValidParts.{ends_by}
 use Rattle.m51_cells.specs.declared.kind.Base.TheVariants as base
-use proofs.KnownSegments.{index_is}
 
 -- what defines a name, by its first definition
 definer_is : (o : Option (ℕ × Definition)) → definer_of (option_map first_definition o) ≡ definer_by o
@@ -58,14 +56,9 @@ module _ (lines : List LineTree) (a : Assignment) (t : PlacedText) (h : IsAssign
 
   counted_is : (o : Option Value) → IfSomeBased (IsDeclaredBase lines a) o
       → counted_from kept_segments o ≡ counted_from segments o
-  counted_is None based = refl
-  counted_is (Some v) based = from v.base based.base_is
-    where
-      from : (b : Base) → IsDeclaredBase lines a b → base_segment kept_segments b ≡ base_segment segments b
-      from (base.Segment id) is =
-          λ i. numbered_as (segment_is lines a h.fits _ h.placed.at.segments.table id is i) (each id i)
-      from base.None is = refl
-      from (base.External external) is = refl
+  counted_is o based =
+      let there = segment_is lines a h.fits t.end.now.segments.table h.placed.at.segments.table in
+      grind (arith, there, each)
 
   -- what PUBLIC makes of a name
   pub published_is : (k : ℕ) (set : Valuation) (bank : ℕ) (here : Located ℕ)
@@ -284,12 +277,7 @@ module _ (lines : List LineTree) (a : Assignment) where
   unfolding placed_before
   before_and id k [] = cc (append-nil (placed_before lines a id k), none_more k)
   before_and id k (line ∷ ls) =
-      cc (
-        between ((a.segment k).id == id) (placed_before lines a id k) (placed_from id (suc k) ls) (placed_at lines a
-            k),
-        before_and id (suc k) ls,
-        moved k (length ls),
-      )
+      grind (arith, between, before_and id (suc k) ls, moved k (length ls))
 
   all_placed : (id : ℕ) → placed_before lines a id (length lines) ≡ placed_from id 0 lines
   unfolding placed_before
@@ -297,21 +285,13 @@ module _ (lines : List LineTree) (a : Assignment) where
 
   runs_are : (id k : ℕ) (ls : List LineTree) → runs_of (map run_of (placed_from id k ls)) ≡ runs_from lines a id k ls
   runs_are id k [] = refl
-  runs_are id k (line ∷ ls) =
-      let here = (a.segment k).id == id in
-      of_cond (λ xs. runs_of (map run_of xs)) here _ _
-      ∙ (λ i. cond here (if_bytes (offset_at lines a k) (content_at lines a k).bytes (runs_are id (suc k) ls i))
-      (runs_are id (suc k) ls i))
+  runs_are id k (line ∷ ls) = grind (arith, runs_are id (suc k) ls)
 
   fixups_are : (s : Kept) (k : ℕ) (ls : List LineTree)
       → fixups_of (object_segments lines a) (segment_number lines a s.id) (placed_from s.id k ls)
       ≡ fixups_from lines a s k ls
   fixups_are s k [] = refl
-  fixups_are s k (line ∷ ls) =
-      let here = (a.segment k).id == s.id in
-      let number = segment_number lines a s.id in
-      of_cond (fixups_of (object_segments lines a) number) here _ _
-      ∙ (λ i. cond here (line_fixups lines a number k ++ fixups_are s (suc k) ls i) (fixups_are s (suc k) ls i))
+  fixups_are s k (line ∷ ls) = grind (arith, fixups_are s (suc k) ls)
 
   pieces_are : all_pieces (gathered_before lines a (length lines)) ≡ pieces lines a
   pieces_are = grind (arith, flat_map-map, all_placed, runs_are)
@@ -333,11 +313,7 @@ module _ (lines : List LineTree) (a : Assignment) where
       ≡ gathered_in lines a (suc k) s
   unfolding placed_before
   here_grows k s e =
-      cc (
-        gathered_grows (object_segments lines a) (segment_number lines a s.id) (placed_before lines a s.id k)
-            (placed_at lines a k),
-        eq-eqb (a.segment k).id s.id (sym e),
-      )
+      grind (arith, gathered_grows, eq-eqb (a.segment k).id s.id (sym e))
 
   -- any other stays
   there_stays : (k : ℕ) (s : Kept) → s.id ≢ (a.segment k).id → gathered_in lines a k s ≡ gathered_in lines a (suc k) s
@@ -358,11 +334,7 @@ nothing_from n (suc m) = nothing_in (suc n) ∷ nothing_from (suc n) m
 nothing_and : (n m : ℕ) → nothing_gathered n ++ nothing_from n m ≡ nothing_gathered (n + m)
 nothing_and n zero = cc (append-nil (nothing_gathered n), none_more n)
 nothing_and n (suc m) =
-    cc (
-      append_assoc (nothing_gathered n) (nothing_in (suc n) ∷ []) (nothing_from (suc n) m),
-      nothing_and (suc n) m,
-      moved n m,
-    )
+    grind (arith, append_assoc, nothing_and (suc n) m, moved n m)
 
 nothing_by : (f : Kept → ℕ) (n : ℕ) (xs : List Kept)
     → ((j : ℕ) (s : Kept) → slice_get xs j ≡ Some s → f s ≡ suc (n + j))
@@ -373,7 +345,7 @@ nothing_by f n (x ∷ xs) h =
 
 module _ (lines : List LineTree) (a : Assignment) (f : IsFreeText lines a) where
   order : Ascend (kept lines a)
-  order = let all : AreKept lines a f (length lines) (kept lines a) = all_kept lines a f in all.order
+  order = let all : AreKept lines a f (suc (length lines)) (kept lines a) = all_kept lines a f in all.order
 
   -- the same of a place and content that are those of line k: what it gives ends in memory
   pub given_fits : (k at : ℕ) (x : EmittedContent) → k < length lines → content_fault lines a k ≡ None
@@ -381,7 +353,7 @@ module _ (lines : List LineTree) (a : Assignment) (f : IsFreeText lines a) where
   given_fits k at x below none placed given =
       let s = a.segment k in
       let len = ap (λ (y : EmittedContent). length y.bytes) given in
-      let end = ends_by lines a k s.id (eq-eqb s.id s.id refl) (given_at lines a f k below none).within in
+      let end = ends_by lines a k s.id (eq-eqb _ _ refl) (given_at lines a f k below none).within in
       elim (room lines a f (suc k) (omega (arith, below)) s (known lines a f.fits k).same) [
         | inl none ↦ omega (arith, end, none, placed, len)
         | inr r ↦ let most = r.most in omega (arith, end, most, placed, len)

@@ -3,16 +3,16 @@
 use Rattle.m51_asm.proofs
 use Rattle.m51_asm.specs
 use proofs.Common.{true, false, cases_Bool, above, ◌≡◌, ◌≢◌, ◌⊎◌, inl, inr, ℕ, zero, suc, ◌+◌, ◌<◌, ◌≤◌, nat_lt, Bool}
-use proofs.Common.{cond, List, [], ◌∷◌, ◌++◌, Option, Some, None, refl, sym, ap, subst, ◌∙◌, arith, ltb-true}
-use proofs.Common.{Kind, Reloc, is_absolute, BodyTree, LineTree, TextSegment, Assignment, opening, body_at, Fits}
-use proofs.Common.{unwrap_or, some_pair_parts, cases_eq, eq-eqb, ne_eqb, ◌==◌, length, add-zero, ltb-false, or_parts}
-use proofs.Common.{map, option_map, slice_get, not, ◌||◌, and_parts, kind_same, Segment, below_more, allows, largest}
-use proofs.Common.{may_overlay, nat_le, flat_map, length-append, length-map, externals, externals_by, ◌-◌, body_of}
-use proofs.Common.{text_segment, SegmentEntry, size_in, segment_in, current_in, number_at, append-nil, AreNumbered}
+use proofs.Common.{cond, List, [], ◌∷◌, ◌++◌, Option, Some, None, refl, sym, ap, subst, ◌∙◌, arith, ltb-true, Kind}
+use proofs.Common.{Reloc, is_absolute, BodyTree, LineTree, TextSegment, Assignment, opening, body_at, Fits, unwrap_or}
+use proofs.Common.{some_pair_parts, cases_eq, eq-eqb, ne_eqb, ◌==◌, length, add-zero, ltb-false, or_parts, map}
+use proofs.Common.{option_map, slice_get, not, ◌||◌, and_parts, kind_same, Segment, below_more, allows, largest}
+use proofs.Common.{may_overlay, nat_le, flat_map, length-append, length-map, externals, externals_by, ◌-◌, text_segment}
+use proofs.Common.{SegmentEntry, size_in, segment_in, current_in, number_at, append-nil, AreNumbered}
 use specs.Definitions.{Definition, SegmentOf, definitions_in, label_defined, defined_by, externals_from, found_in}
 use specs.Definitions.{or_later, definition_from, definition_of}
-use specs.Fitting.{is_absolute_of, segment_by, last_absolute, declared_by, segment_behind, size_at, filled, declared_in}
-use specs.Fitting.{externals_in, externals_before}
+use specs.Fitting.{segment_by, last_absolute, declared_by, segment_behind, size_at, filled, declared_in, externals_in}
+use specs.Fitting.{externals_before}
 use specs.ObjectSegments.{declared_or, segment_of, Kept, from_one, index_in, size_of, kept_by, number_in, relocatable}
 use specs.ObjectSegments.{absolute_of, if_filled, kept_before, kept}
 use specs.Assignment.{segment_reloc, absolute, reloc_by}
@@ -20,7 +20,8 @@ use proofs.GoodLines.{IsGood, IsFreeText, free, IsDeclared}
 use specs.PlacedFaults.{kind_end, is_numbered_by, numbers_a_segment, segments_before}
 use Rattle.m51_module.specs.Validity.{numbered, IsSegmentValid}
 use Rattle.std.proofs.lemmas.Option.{slice_get-map, slice_get_cases, unwrap_or-slice_get, slice_get_past}
-use Rattle.m51_cells.proofs.Members.{In, Pairs, every_in, in_left, in_right, pairs_append}
+use Rattle.m51_cells.proofs.Members.{In, Pairs, every_in, in_left, in_right, pairs_append, at_in, got_in, pairs_got}
+use Rattle.m51_cells.proofs.Members.{Every}
 use proofs.Members.{in_both}
 use Rattle.m51_cells.specs.Fits.{Fits as FitsIn'}
 use Rattle.std.proofs.lemmas.List.Concat.{flat_map_single}
@@ -36,7 +37,6 @@ use specs.Numbering.{segment_filled, segment_added, as_list, next_number, kept_a
 use Rattle.m51_cells.specs.declared.kind.Kind.TheVariants as kind
 use Rattle.m51_cells.specs.declared.kind.Reloc.TheVariants as reloc
 use Rattle.m51_stmt.specs.Statement as body
-use Rattle.m51_cells.proofs.Members.{at_in, got_in, pairs_got, Every}
 use Rattle.std.proofs.lemmas.Bool.Decides.{nat_tests}
 
 -- a body that declares a segment of the kind
@@ -87,8 +87,7 @@ module _ (name : List ℕ) (k : Kind) where
   unfolding definition_of
   declares lines line h =
       let r = declared_from lines 0 line h in
-      let e : r.0 ≡ line = omega arith in
-      subst (λ j. Declares (body_at lines j) k) e r.2
+      let e : r.0 ≡ line = omega arith in rw (← e) r.2
 
 pub two_more : (k : ℕ) → k + 2 ≡ suc (suc k)
 two_more k = omega arith
@@ -118,12 +117,8 @@ module _ (lines : List LineTree) (a : Assignment) (f : Fits lines a) where
   pub last_is : (k : ℕ) (j : Kind) (s : TextSegment) → last_absolute a.segment j k ≡ Some s
       → (i : ℕ) × (i ≤ k) × (a.segment i ≡ s)
   unfolding last_absolute
-  last_is zero j s h = elim (cases_Bool (is_absolute_of j (a.segment 0)))
-      [ inl test ↦ (0, omega arith, cc (rw test at h)) | inr test ↦ absurd (cc (rw test at h)) ]
-  last_is (suc k) j s h = elim (cases_Bool (is_absolute_of j (a.segment (suc k)))) [
-    | inl test ↦ (suc k, omega arith, cc (rw test at h))
-    | inr test ↦ let r = last_is k j s (rw test at h) in (r.0, omega arith, r.2)
-  ]
+  last_is zero j s h = grind arith
+  last_is (suc k) j s h = grind (arith, last_is k j s)
 
   module _ (k : ℕ) (below : Below k) where
     stays_known : a.segment (suc k) ≡ a.segment k → Known (suc k)
@@ -181,9 +176,7 @@ module _ (lines : List LineTree) (a : Assignment) (f : Fits lines a) where
   unfolding segment_behind
   known_below zero j h =
       let e : j ≡ 0 = omega arith in
-      let first : IsKnown lines a 0 opening =
-      record { same = refl; low = omega arith; type = refl; kind_is = λ good e. cc e } in
-      rw (e, f.first) first
+      rw (e, f.first) (record { same = refl; low = omega arith; type = refl; kind_is = λ good e. cc e })
   known_below (suc k) j h = elim (last_or_below _ _ h) [
     | inl e ↦ rw e (next_known k (known_below k) _ refl (f.segments k))
     | inr l ↦ known_below k j l
@@ -228,10 +221,7 @@ pub filled_up : (lines : List LineTree) (a : Assignment) (id j k : ℕ) → j �
     → filled lines a id j ≤ filled lines a id k
 unfolding filled
 filled_up lines a id j zero h = grind arith
-filled_up lines a id j (suc k) h = elim (last_or_below j k h) [
-  | inl e ↦ subst (λ n. filled lines a id n ≤ filled lines a id (suc k)) (sym e) (omega arith)
-  | inr le ↦ omega (arith, filled_up lines a id j k le)
-]
+filled_up lines a id j (suc k) h = grind (arith, last_or_below j k h, filled_up lines a id j k)
 
 module _ (lines : List LineTree) (a : Assignment) (c : IsFreeText lines a) where
   room_after : (k : ℕ) → k < length lines → HasRoom (a.segment (suc k)) (filled lines a (a.segment (suc k)).id (suc k))
@@ -262,8 +252,7 @@ pub index_is : (xs : List Kept) → Ascend xs → (j : ℕ) (s : Kept) → slice
 index_is [] order j s e = absurd (cc e)
 index_is (x ∷ xs) order zero s e = grind arith
 index_is (x ∷ xs) order (suc j) s e =
-    let less = every_in (λ t. x.id < t.id) xs s order.0 (got_in xs j s e) in
-    cc (ne_eqb x.id s.id (omega (arith, less)), index_is xs order.1 j s e)
+    grind (arith, ne_eqb, index_is xs order.1 j s e, every_in (λ t. x.id < t.id) xs s order.0 (got_in xs j s e))
 
 stands : (xs : List Kept) → Ascend xs → (s : Kept) → In s xs → StandsAt xs s
 stands xs h s i = let r = at_in xs s i in (r.index, index_is xs h r.index s r.got, r.got)
@@ -289,12 +278,7 @@ still_none o e = grind arith
 
 found_kept : (xs : List Kept) (id : ℕ) → from_one (index_in (ids xs) id) ≢ 0 → (s : Kept) × In s xs × (s.id ≡ id)
 found_kept [] id ne = absurd (ne refl)
-found_kept (x ∷ xs) id ne = elim (cases_eq x.id id) [
-  | inl e ↦ (x, inl refl, e)
-  | inr other ↦
-      let r = found_kept xs id (λ e. ne (rw (ne_eqb _ _ other) (still_none _ e))) in
-      (r.0, inr r.1, r.2)
-]
+found_kept (x ∷ xs) id ne = grind (arith, found_kept xs id, cases_eq, ne_eqb, still_none)
 
 -- a number other than 0 leads to a segment of the module
 pub has_number : (xs : List Kept) → Ascend xs → (id : ℕ) → number_in xs id ≢ 0 → IsNumbered xs id
@@ -336,7 +320,7 @@ module _ (lines : List LineTree) (a : Assignment) (c : IsFreeText lines a) where
       → body_at lines k ≡ body.Segment name j r overlayable
       → IsKept lines a (relocatable (k + 2) name j r overlayable (size_of lines a (k + 2)))
   relocatable_kept k name j r overlayable is =
-      let good : IsDeclared name j r overlayable = subst IsGood is (c.good k) in
+      let good : IsDeclared name j r overlayable = rw is at (c.good k) in
       let same : segment_of lines a (k + 2) ≡ declared_in lines k j = ap (segment_of lines a) (two_more k)
       ∙ ap (declared_or lines k (a.segment (suc k))) is in
       let allowed = and_parts (allows j r) (not overlayable || may_overlay j r) good.allowed in
@@ -380,33 +364,31 @@ module _ (lines : List LineTree) (a : Assignment) (c : IsFreeText lines a) where
             (known.type ∙ ap (segment_reloc lines) (id ∙ two_more k) ∙ ap reloc_by is) refl)
       ]
 
-  -- the segments of the first lines
-  pub record AreKept (k : ℕ) (xs : List Kept) : Type 0 where
+  -- the segments of the first lines, whose ids go to this one
+  pub record AreKept (last : ℕ) (xs : List Kept) : Type 0 where
     pub every : (s : Kept) → In s xs → IsKept lines a s
-    pub low : (s : Kept) → In s xs → s.id ≤ suc k
+    pub low : (s : Kept) → In s xs → s.id ≤ last
     pub order : Pairs (λ s t. s.id < t.id) xs
 
-  step : (k : ℕ) (xs ys : List Kept) → AreKept k xs → Adds (k + 2) ys → AreKept (suc k) (xs ++ ys)
-  step k xs ys h o =
-      let new : (s : Kept) → In s ys → IsKept lines a s × (s.id ≡ k + 2) =
-      λ s i. every_in (λ t. IsKept lines a t × (t.id ≡ k + 2)) ys s o.0 i in
+  step : (last id next : ℕ) (xs ys : List Kept) → last < id → id ≡ next → AreKept last xs → Adds id ys
+      → AreKept next (xs ++ ys)
+  step last id next xs ys less is h o =
+      let new : (s : Kept) → In s ys → IsKept lines a s × (s.id ≡ id) = λ s i. every_in _ ys s o.0 i in
       record {
         every = in_both _ _ _ h.every (λ s i. (new s i).0);
-        low = in_both (λ s. s.id ≤ suc (suc k)) xs ys (λ s i. omega (arith, h.low s i)) (λ s i. omega (arith, new s i));
+        low = in_both (λ s. s.id ≤ next) xs ys (λ s i. omega (arith, h.low s i)) (λ s i. omega (arith, new s i));
         order = pairs_append _ _ _ h.order o.1 (λ s t i j. omega (arith, h.low s i, new t j));
       }
 
-  pub are_kept : (k : ℕ) → AreKept k (kept_before lines a k)
+  pub are_kept : (k : ℕ) → AreKept (suc k) (kept_before lines a k)
   unfolding kept_before
   are_kept zero =
-      let o = filled_adds opening _ refl (λ e. cc e) refl refl in
-      let first : (s : Kept) → In s (if_filled opening (size_of lines a 1)) → IsKept lines a s × (s.id ≡ 1) =
-      λ s i. every_in (λ t. IsKept lines a t × (t.id ≡ 1)) _ s o.0 i in
-      record { every = λ s i. (first s i).0; low = λ s i. omega (arith, first s i); order = o.1 }
-  are_kept (suc k) = step _ _ _ (are_kept k) (line_adds k (body_at lines k) refl)
+      step 0 1 1 [] _ (omega arith) refl (record { every = λ s i. absurd i; low = λ s i. absurd i; order = tt })
+      (filled_adds opening _ refl (λ e. cc e) refl refl)
+  are_kept (suc k) = step _ _ _ _ _ (omega arith) (two_more k) (are_kept k) (line_adds k (body_at lines k) refl)
 
   -- the segments of the module
-  pub all_kept : AreKept (length lines) (kept lines a)
+  pub all_kept : AreKept (suc (length lines)) (kept lines a)
   unfolding kept
   all_kept = are_kept (length lines)
 
@@ -542,9 +524,7 @@ module _ (lines : List LineTree) (a : Assignment) (c : IsFreeText lines a) where
   few : (n : ℕ) → n ≡ length lines → (segments_before lines a n ≤ 254) × (externals_before lines n ≤ 255)
   unfolding segments_before externals_before
   few zero is = omega arith
-  few (suc k) is =
-      let p = or_parts _ _ (free lines a k (c.placed k (omega arith))).few in
-      (ltb-false _ _ p.0, ltb-false _ _ p.1)
+  few (suc k) is = grind (arith, or_parts, ltb-false, (free lines a k (c.placed k (omega arith))).few)
 
   -- no more segments of the first lines either
   pub kept_most : (k : ℕ) → k ≤ length lines → length (kept_before lines a k) ≤ 254
@@ -598,10 +578,6 @@ declared_at : (lines : List LineTree) (k : ℕ)
     → entry_in (declared_entries lines) (suc (suc k)) ≡ declared_entry (body_at lines k)
 declared_at lines k = grind (arith, slice_get-map)
 
--- a function of what a test chooses
-pub of_cond : {A B : Type 0} (f : A → B) (b : Bool) (x y : A) → f (cond b x y) ≡ cond b (f x) (f y)
-of_cond f b x y = grind arith
-
 module _ (lines : List LineTree) (a : Assignment) (f : Fits lines a) where
   -- before the first line
   start_table : IsSegmentTableAt lines a 0 (declared_entries lines)
@@ -610,14 +586,8 @@ module _ (lines : List LineTree) (a : Assignment) (f : Fits lines a) where
     counted = omega (arith, length-map lines (λ (l : LineTree). declared_entry l.stmt.body));
     sizes = sizes;
     types = types;
-    declared = λ k name kind reloc overlayable is.
-        ap (segment_as (k + 2)) (ap (entry_in (declared_entries lines)) (two_more k) ∙ declared_at lines k
-        ∙ ap declared_entry is)
-        ∙ ap (λ type. record { id = k + 2; kind = kind; reloc = type; base = 0 }) (sym (ap reloc_by is));
-    begun = λ j h.
-        let first : j ≡ 0 = omega (arith, h) in
-        subst (λ (s : TextSegment). segment_in (declared_entries lines) s.id ≡ s)
-        (sym (ap a.segment first ∙ f.first)) refl;
+    declared = λ k name kind reloc overlayable is. grind (arith, two_more k, declared_at lines k);
+    begun = λ j h. let first : j ≡ 0 = omega (arith, h) in rw (first, f.first) refl;
   }
     where
       sizes : (id : ℕ) → size_in (declared_entries lines) id ≡ 0
@@ -635,10 +605,9 @@ module _ (lines : List LineTree) (a : Assignment) (f : Fits lines a) where
       → ((kind : Kind) → last_id s.last kind ≡ last_with opening (λ k. None) kind) → AreSegmentsAt lines a 0 s
   unfolding last_absolute
   start_segments s table current last = record {
-    table = subst (IsSegmentTableAt lines a 0) (sym table) start_table;
+    table = rw table start_table;
     current = cc f.first;
-    latest = λ kind. let both = of_cond (option_map (λ (t : TextSegment). t.id)) (is_absolute_of kind (a.segment 0))
-        (Some (a.segment 0)) None in cc (last kind, f.first, both);
+    latest = λ kind. let from = last kind in grind (arith, from, f.first);
   }
 
   module _ (k : ℕ) (within : k < length lines) (entries : List SegmentEntry) (h : IsSegmentTableAt lines a k entries)
@@ -709,9 +678,7 @@ module _ (lines : List LineTree) (a : Assignment) (f : Fits lines a) where
     table = subst (IsSegmentTableAt lines a (suc k)) (sym (table ∙ ap (λ t. with_entry s.table t size) is))
         (more_table k within s.table h.table size full);
     current = cc is;
-    latest = λ kind. let both = of_cond (option_map (λ (t : TextSegment). t.id))
-        (is_absolute_of kind (a.segment (suc k))) (Some (a.segment (suc k))) (last_absolute a.segment kind k) in
-        cc (last kind, is, h.latest kind, both);
+    latest = λ kind. let from = last kind in let old = h.latest kind in grind (arith, from, is, old);
   }
 
   module _ (k : ℕ) (s : SegmentsAbove) (h : AreSegmentsAt lines a k s) where
@@ -732,9 +699,7 @@ module _ (lines : List LineTree) (a : Assignment) (f : Fits lines a) where
   -- past the last line the segment stays
   behind_empty : (k : ℕ) → length lines ≤ k → segment_behind lines a k ≡ a.segment k
   unfolding segment_behind
-  behind_empty k h =
-      ap (λ b. segment_by lines k (above lines a k) (λ kind. last_absolute a.segment kind k) (a.segment k) b)
-      (ap body_of (slice_get_past lines k h))
+  behind_empty k h = rw (slice_get_past lines k h) refl
 
   stays_past : (n k : ℕ) → n + length lines ≡ k → a.segment k ≡ a.segment (length lines)
   stays_past zero k e = ap a.segment (omega (arith, e))
@@ -848,8 +813,8 @@ module _ {table : List Kept} {n : ℕ} {segments : List Segment} {numbers : List
   pub few_more : (o : Option Segment) {next : List Kept} → table ++ kept_as n o ≡ next → length next ≤ 254
       → length segments + length (as_list o) ≤ 254
   few_more o p few =
-      subst (λ m. m ≤ 254) (ap length (sym p) ∙ sym (length-map (table ++ kept_as n o) (λ (s : Kept). s.segment))
-      ∙ ap length (sym (more o).same) ∙ length-append segments (as_list o)) few
+      let len = length-map (table ++ kept_as n o) (λ (s : Kept). s.segment) in
+      omega (arith, ap length p, len, ap length (more o).same, length-append segments (as_list o), few)
 
 -- before the first line there is no segment, and 0 has the number 0
 pub none_numbered : {segments : List Segment} {numbers : List ℕ} → segments ≡ [] → numbers ≡ 0 ∷ []

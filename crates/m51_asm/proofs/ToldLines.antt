@@ -4,13 +4,13 @@ use Rattle.m51_asm.proofs
 use Rattle.m51_asm.specs
 use proofs.Common.{◌≡◌, ℕ, suc, ◌||◌, Bool, List, refl, ap, ◌∙◌, Meanings, BodyTree, LineTree, Assignment, body_at}
 use proofs.Common.{arith, is_some, nat_lt, true, false, cond, Option, Some, None, ◌+◌, option_map, Kind, TextSegment}
-use proofs.Common.{first_definition, Value, ◌%◌, sym, subst, slice_get, Whole, Located, body_of, here_at, Fits, Table}
+use proofs.Common.{first_definition, Value, ◌%◌, sym, slice_get, Whole, Located, body_of, here_at, Fits, Table}
 use proofs.Common.{first_in, Jump, located_value, size_in, here_of, [], ◌∷◌, ◌++◌, length, list_any, or_parts, take_all}
-use proofs.Common.{bytes_eq-Decides, bytes_eq, Tree, LinePlace, Valuation, value_in, IsPlaceOf, number_at, SegmentEntry}
+use proofs.Common.{bytes_eq-Decides, Tree, LinePlace, Valuation, value_in, IsPlaceOf, number_at, SegmentEntry}
 use proofs.Common.{current_in, segment_in, kept_meanings, with_label, names_at, value_of, is_absolute, slice_get_within}
-use proofs.Common.{◌<◌, length-append, AreFree, IsFirstFault, ArePlaces, IsPassedTo, leb-false, leb-true, ◌-◌}
-use proofs.Common.{◌≤◌, ◌==◌, min, map, ltb-false, Giving, is_misplaced, brief, text_segment, ◌^◌}
-use specs.Fitting.{bank_by, mod51, form_by, set_by, named_value, bank_before, last_absolute, declared, declared_by}
+use proofs.Common.{◌<◌, length-append, AreFree, IsFirstFault, ArePlaces, IsPassedTo, leb-false, leb-true, ◌-◌, ◌≤◌}
+use proofs.Common.{◌==◌, min, map, ltb-false, Giving, is_misplaced, brief, text_segment, ◌^◌}
+use specs.Fitting.{mod51, form_by, set_by, named_value, bank_before, last_absolute, declared, declared_by}
 use specs.Fitting.{segment_behind, size_at, filled, last_set, undefined_value, externals_before}
 use specs.Definitions.{Definition, SegmentOf, Defined, Label, SetOf, externals_from, defined_by, label_defined}
 use specs.Definitions.{found_in, definition_of, definitions_in}
@@ -33,7 +33,7 @@ use specs.OpenSegments.{declared_first, open_behind, named_by, last_in, last_wit
 use specs.SegmentTable.{HasDeclared, saturated, with_entry}
 use proofs.KnownSegments.{declares, current_is, latest_is, more_segments}
 use specs.declared.line_facts.LineFacts.{LineFacts}
-use specs.Operands.{operand_number, IsOperand, evaluated_fault, given_in, bank_in}
+use specs.Operands.{evaluated_fault, given_in, bank_in}
 use proofs.DefinedLines.{means, form_told, grown, given}
 use specs.declared.names_at.NamesAt.{NamesAt}
 use Rattle.m51_cells.specs.declared.fault.TheConstants.{DEFINED_TWICE}
@@ -64,12 +64,7 @@ module _ (lines : List LineTree) (segments : List SegmentEntry) (h : HasDeclared
   told_by k None is = refl
   told_by k (Some (line, SegmentOf kind)) is =
       let d = declares name kind lines line is in
-      if_above (nat_lt line k) (h line d.name kind d.type d.overlayable d.is)
-    where
-      if_above : (b : Bool) {s : TextSegment} → segment_in segments (line + 2) ≡ s
-          → option_map (segment_in segments) (cond b (Some (line + 2)) None) ≡ cond b (Some s) None
-      if_above true e = ap (λ s. Some s) e
-      if_above false e = refl
+      let there = h line d.name kind d.type d.overlayable d.is in grind (arith, there)
   told_by k (Some (line, definition)) is = grind arith
 
   -- the segment that a name of RSEG names
@@ -149,10 +144,7 @@ module _ (lines : List LineTree) (a : Assignment) (f : Fits lines a) (k : ℕ) (
           row = h.row;
           size = h.size;
           next = h.next ∙ behind lines a k ∙ sym (f.segments k);
-          operand = subst (λ fault. IsOperand fault (operand_number (above lines a k) (body_at lines k))
-              (expression_given (above lines a k) (body_at lines k))
-              (λ bank. bank_by (above lines a k) bank (body_at lines k)) t.operand)
-              (operand_told lines (above lines a k) k (body_at lines k)) h.operand;
+          operand = rw (← operand_told lines (above lines a k) k (body_at lines k)) h.operand;
         }
 
 -- what all lines give to a name is what its definition in the text gives
@@ -175,27 +167,15 @@ pub value_is : (lines : List LineTree) (a : Assignment) → Fits lines a
     → value_at table kept set predefines bank name ≡ a.value k name
 unfolding undefined_value
 value_is lines a f k table kept set predefines bank h name =
-    cc (
-      h.sets name,
-      h.values name,
-      defined_in_all lines a name,
-      h.names name,
-      by_definition lines a k (length lines)
-          name (definition_of lines name),
-      f.values k name,
-    )
+    grind (arith, defined_in_all, by_definition, h.sets name, h.values name, h.names name, f.values k name)
 
 -- what the definitions of a line give by SET
 module _ (names : Meanings) (last : Option Value) (name : List ℕ) (given kept : Option (Located ℕ))
     (was : option_map located_value kept ≡ last) where
-  passes : (b : Bool) (d : Definition) (o : Option Definition) → is_set d ≡ false → set_by names last o ≡ last
-      → set_by names last (cond b (Some d) o) ≡ last
-  passes b d o h k = grind arith
-
   -- definitions that are none by SET keep what was given
   keep : (ds : List Defined) → list_any (λ d. is_set d.1) ds ≡ false → set_by names last (found_in ds name) ≡ last
   keep [] h = refl
-  keep (d ∷ ds) h = let p = or_parts _ _ h in passes (bytes_eq name d.0) d.1 _ p.0 (keep ds p.1)
+  keep (d ∷ ds) h = grind (arith, or_parts, keep ds)
 
   unset : (number : ℕ) (es : List (List ℕ × Kind)) → list_any (λ d. is_set d.1) (externals_from number es) ≡ false
   unset number [] = refl
@@ -224,11 +204,9 @@ pub set_next : (lines : List LineTree) (a : Assignment) (k : ℕ) (line : LineTr
     → IsSetAt lines a (suc k) new
 unfolding last_set
 set_next lines a k line p old new is place before puts name =
-    cc (
-      puts name,
-      put_line (above lines a k) (last_set lines a name k) name p.given (value_in old name) (before name)
-          line.stmt.label line.stmt.body (place.given ∙ ap (λ l. expression_given (above lines a k) (body_of l)) is),
-    )
+    let put = put_line (above lines a k) (last_set lines a name k) name p.given (value_in old name) (before name)
+    line.stmt.label line.stmt.body (place.given ∙ ap (λ l. expression_given (above lines a k) (body_of l)) is) in
+    cc (puts name, put)
 
 -- the place of a line that is placed
 pub place_is : (lines : List LineTree) (a : Assignment) (k : ℕ) (line : LineTree) → slice_get lines k ≡ Some line
@@ -288,16 +266,13 @@ pub reached : (lines : List LineTree) (a : Assignment) (repeated : Option ℕ) (
     → is_reached repeated k ≡ true → IsFirstFault lines a k DEFINED_TWICE
 reached lines a None k h free e = absurd (cc e)
 reached lines a (Some first) k h free e =
-    let not_below : first < k → ⊥ = λ b. free_repeats (repeat_is_fault lines a first h.0.1) (free first b) in
+    let not_below : first < k → ⊥ = λ b. cc (repeat_is_fault lines a first h.0.1, free first b) in
     let same : first ≡ k = omega (arith, leb-true first k e, not_below) in
     record {
-      within = subst (λ n. n < length lines) same h.0.0;
-      found = repeat_is_fault lines a k (subst (λ n. is_repeated lines n ≡ true) same h.0.1);
+      within = rw (← same) h.0.0;
+      found = repeat_is_fault lines a k (rw (← same) h.0.1);
       earlier = free;
     }
-  where
-    free_repeats : {x : Option ℕ} → x ≡ Some DEFINED_TWICE → x ≡ None → ⊥
-    free_repeats p q = cc (p, q)
 
 -- what holds of each item of a list, and of one more
 pub pushed_each : {T : Type 0} (P : ℕ → T → Type 0) (xs : List T) (y : T)
@@ -317,15 +292,11 @@ pub passed_more : (lines : List LineTree) (a : Assignment) (k : ℕ) (places mor
     → IsAt lines a (suc k) end
     → IsPlaceOf lines a k p → IsPassedTo lines a (suc k) more end
 passed_more lines a k places more p before end h e free at place = record {
-  free = free_more;
+  free = grind arith;
   counted = ap length e ∙ omega (arith, length-append places (p ∷ []), h.counted);
-  each = subst (λ ps. (j : ℕ) (x : LinePlace) → slice_get ps j ≡ Some x → IsPlaceOf lines a j x) (sym e)
-      (pushed_each (IsPlaceOf lines a) places p h.each (subst (λ n. IsPlaceOf lines a n p) (sym h.counted) place));
+  each = rw e (pushed_each (IsPlaceOf lines a) places p h.each (rw h.counted place));
   at = at;
 }
-  where
-    free_more : AreFree lines a (suc k)
-    free_more = grind arith
 
 -- What is kept grows with a line as the definitions say, and the fault of the line follows from what is counted.
 
@@ -427,14 +398,9 @@ module _ {lines : List LineTree} {a : Assignment} {k : ℕ} {s : PassOneState} {
   known_next h name =
       let gives = expression ∙ told.operand.given_is free.operand
       ∙ ap (λ l. expression_given (above lines a k) (body_of l)) is in
-      cc (
-        h name,
-        given lines a k g (ap located_value here ∙ told.here) number (externals ∙ at.declared) name
-            (value_in s.values name) line.stmt gives,
-        at.known name,
-        is,
-        grown lines a k name line is free.once,
-      )
+      let gave = given lines a k g (ap located_value here ∙ told.here) number (externals ∙ at.declared) name
+      (value_in s.values name) line.stmt gives in
+      cc (h name, gave, at.known name, is, grown lines a k name line is free.once)
 
   -- the state after a line
   pub at_next : ((name : List ℕ)
@@ -448,15 +414,10 @@ module _ {lines : List LineTree} {a : Assignment} {k : ℕ} {s : PassOneState} {
     segments =
         more_segments lines a f k (slice_get_within lines k line is) s.segments n.segments t.next c.next at.segments
         told.next
-        (counts.next ∙ small_is (filled lines a (a.segment (suc k)).id (suc k)) 65535 (omega arith)
-        (subst (λ x. x ≤ 65535) counts.next small.next))
-        table current latest;
+        (counts.next ∙ small_is _ 65535 (omega arith) (rw counts.next at small.next)) table current latest;
     selected = selected ∙ bank_after at told free;
     numbered = numbered ∙ counts.segments;
-    declared =
-        declared ∙ counts.externals
-        ∙ small_is (externals_before lines (suc k)) 255 (omega arith)
-        (subst (λ x. x ≤ 255) counts.externals small.externals);
+    declared = declared ∙ counts.externals ∙ small_is _ 255 (omega arith) (rw counts.externals at small.externals);
   }
 
 nothing_above : (lines : List LineTree) (a : Assignment) (name : List ℕ) → value_above lines a 0 name ≡ None

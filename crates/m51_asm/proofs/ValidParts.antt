@@ -3,13 +3,14 @@
 use Rattle.m51_asm.proofs
 use Rattle.m51_asm.specs
 use proofs.Common.{◌≡◌, ℕ, zero, suc, ◌≤◌, Bool, true, false, cond, List, [], ◌∷◌, length, map, filter, take, Some}
-use proofs.Common.{refl, sym, arith, and_parts, length-take, list_all, and_from, nat_le, length-take-le, cases_eq, ◌⊎◌}
-use proofs.Common.{inl, inr, ◌+◌, ◌/◌, ◌-◌, ◌<◌, min, drop, subst, ◌∙◌, length-append, eq-eqb, ne_eqb, flat_map}
+use proofs.Common.{refl, sym, arith, and_parts, length-take, list_all, and_from, length-take-le, cases_eq, ◌⊎◌, inl}
+use proofs.Common.{inr, ◌+◌, ◌/◌, ◌-◌, ◌<◌, min, drop, subst, ◌∙◌, length-append, eq-eqb, ne_eqb, flat_map, nat_le}
 use proofs.Common.{range_with_len, Piece, ◌*◌, length-drop, cases_lt, cases_Bool, ◌==◌, ap, eqb-true, LineTree}
 use proofs.Common.{TextSegment, Assignment, length-map, Fixup, made_before, ◌≢◌, Kind, BodyTree, Each, body_at}
 use proofs.Common.{externals, name_in, Option, Ok, Err, Base, same_kind, kind_same, Value, externals_by, PublicSegment}
 use proofs.Common.{None, Field, Segment, Meanings, Linked, Reference, ◌%◌, list_any, IsValid, SourceFile, AreFree, Fits}
 use proofs.Common.{content_faults, Fault, Row, not, ◌&&◌, ◌||◌, or_right, is_selected, All, ModuleParts, placed_fault}
+use proofs.Common.{same_Some}
 use Rattle.m51_cells.specs.Name.{is_name_byte, is_name, name_of, IsWritten}
 use specs.Naming.{with_front, module_name}
 use Rattle.std.specs.Char.{is_ascii_digit, to_ascii_uppercase}
@@ -50,7 +51,7 @@ use specs.Answer.{IsAnswerOf, answer_of_lines}
 use Rattle.std.proofs.lemmas.Option.{slice_get_cases}
 use Rattle.m51_encode.specs.Bases.{object_base, is_linked}
 use Rattle.m51_encode.specs.FieldValues.{field_of}
-use proofs.BasedNames.{AreBased, value_based, IsDeclaredBase, name_good, place_good}
+use proofs.BasedNames.{AreBased, value_based, IsDeclaredBase, name_good, place_good, IfBased}
 use specs.ValidTexts.{PartsAreValid, IsRowOfText, CanBeGiven, AnswersAreValid}
 use Rattle.std.proofs.lemmas.List.Elements.{All-nil, All-cons, All-head, All-tail}
 use Rattle.m51_text.specs.Laws.{IsLineOf}
@@ -59,16 +60,14 @@ use proofs.AnAssignment.{fitting, fits}
 use Rattle.m51_cells.specs.declared.kind.Kind.TheVariants as kind
 use Rattle.m51_stmt.specs.Statement as body
 use Rattle.m51_cells.specs.declared.kind.Base.TheVariants as base
-use proofs.BasedNames.{IfBased}
 
 all_filter : (p : ℕ → Bool) (xs : List ℕ) → list_all p (filter p xs) ≡ true
 all_filter p [] = refl
 all_filter p (x ∷ xs) = grind (arith, all_filter p xs)
 
 all_take : (p : ℕ → Bool) (n : ℕ) (xs : List ℕ) → list_all p xs ≡ true → list_all p (take n xs) ≡ true
-all_take p zero xs h = refl
-all_take p (suc n) [] h = refl
 all_take p (suc n) (x ∷ xs) h = grind (arith, all_take p n xs)
+all_take p n xs h = grind arith
 
 pub whole_front : (n : ℕ) (xs : List ℕ) → n ≤ length xs → n ≡ length (take n xs)
 whole_front n xs le = sym (length-take-le n xs le)
@@ -83,22 +82,22 @@ front_named first more digit byte all =
     name_from_parts first (take 30 more) (record {
       digit = digit;
       most = is_few _ short;
-      bytes = and_from (is_name_byte first) (list_all is_name_byte (take 30 more)) byte
-          (all_take is_name_byte 30 more all);
+      bytes = and_from _ _ byte (all_take is_name_byte 30 more all);
     })
 
 front_is_name : (bytes : List ℕ) → list_all is_name_byte bytes ≡ true → is_name (take 31 (with_front bytes)) ≡ true
 front_is_name [] h = refl
-front_is_name (x ∷ xs) h = by_test (is_ascii_digit x) refl
-  where
-    by_test : (b : Bool) → is_ascii_digit x ≡ b → is_name (take 31 (cond b (0x4D ∷ x ∷ xs) (x ∷ xs))) ≡ true
-    by_test true e = front_named 0x4D (x ∷ xs) refl refl h
-    by_test false e = let q = and_parts (is_name_byte x) (list_all is_name_byte xs) h in front_named x xs e q.0 q.1
+front_is_name (x ∷ xs) h = let q = and_parts (is_name_byte x) _ h in elim (cases_Bool (is_ascii_digit x)) [
+  | inl e ↦ rw e (front_named 0x4D (x ∷ xs) refl refl h)
+  | inr e ↦ rw e (front_named x xs e q.0 q.1)
+]
 
 -- the first 31 of a file's name characters, with M before them, are a name
 pub file_named : (text : List ℕ) → name_of (take 31 (with_front (filter is_name_byte text)))
     ≡ Some (map to_ascii_uppercase (take 31 (with_front (filter is_name_byte text))))
 file_named text = grind (arith, front_is_name, all_filter)
+
+pub ruleset module_named = (file_named, same_Some, name_written)
 
 -- Runs of bytes that lie one after another, and the pieces that they are cut into.
 
@@ -178,9 +177,7 @@ of_run segment r i h =
 
 pub piece_of_run : (segment : ℕ) (r : Run) (p : Piece) → In p (pieces_of_run segment r) → IsOfRun segment r p
 piece_of_run segment r p h =
-    let c = in_map _ _ _ h in
-    let i = in_range _ _ _ c.1 in
-    subst (IsOfRun segment r) c.2 (of_run _ _ _ (omega arith))
+    let c = in_map _ _ _ h in let i = in_range _ _ _ c.1 in rw (← c.2) (of_run _ _ _ (omega arith))
 
 lie_so : (segment : ℕ) (r : Run) (i j : ℕ) → i < j → j < count r
     → LiesBefore (piece_at segment r i) (piece_at segment r j)
@@ -193,12 +190,8 @@ lie_so segment r i j less below =
     ]
 
 pub pieces_in_order : (segment : ℕ) (r : Run) → Pairs LiesBefore (pieces_of_run segment r)
-pieces_in_order segment r =
-    let all = range_with_len 0 (count r) in
-    pairs_map _ _ _
-    (pairs_within _ _ _
-    (λ i j from to less. let k = in_range _ _ _ to in lie_so segment r i j less (omega arith))
-    (pairs_range (count r) 0))
+pieces_in_order segment r = pairs_map _ _ _ (pairs_within _ _ _ (λ i j from to less.
+    let k = in_range _ _ _ to in lie_so segment r i j less (omega arith)) (pairs_range (count r) 0))
 
 -- the pieces of two runs, of which one ends before the other begins
 pub runs_in_order : (segment : ℕ) (r q : Run) → IsBefore r q → (p o : Piece) → In p (pieces_of_run segment r)
@@ -216,11 +209,8 @@ run_is_cut segment r offset c =
     let lower : 1024 * i ≤ offset - r.0 = omega arith in
     let upper : offset - r.0 < 1024 * i + 1024 = omega arith in
     let few : i < count r = omega arith in
-    let len = piece_len segment r i in (
-      piece_at segment r i,
-      map_in _ _ _ (range_in _ _ _ (omega arith) (omega arith)),
-      omega arith,
-    )
+    let len = piece_len segment r i in
+    (piece_at segment r i, map_in _ _ _ (range_in _ _ _ (omega arith) (omega arith)), omega arith)
 
 -- what runs have is in one of their pieces
 pub runs_cut : (segment : ℕ) (runs : List Run) (offset : ℕ) → Hold runs offset
@@ -322,7 +312,7 @@ module _ (lines : List LineTree) (a : Assignment) (c : IsClean lines a) where
   of_segment : (s : Kept) → AreRunsOf s.id 0 (runs_of s)
   of_segment s = are_of s.id 0 lines (omega arith)
 
-  all : AreKept lines a (free_text lines a c) (length lines) (kept lines a)
+  abbrev all : AreKept lines a (free_text lines a c) (suc (length lines)) (kept lines a)
   all = all_kept lines a (free_text lines a c)
 
   -- a piece of a segment is one of its runs
@@ -500,8 +490,7 @@ flat_from : (lines ls : List LineTree) (n : ℕ) → IsRest lines n ls
     → externals ls ≡ flat_map (given_at lines) (range_with_len n (length ls))
 flat_from lines [] n rest = refl
 flat_from lines (l ∷ ls) n rest =
-    let first = rest 0 n (omega arith) in let more = flat_from lines ls (n + 1) (λ j k e. rest (suc j) k (omega
-    arith)) in cc
+    cc (rest 0 n (omega arith), flat_from lines ls (n + 1) (λ j k e. rest (suc j) k (omega arith)))
 
 externals_flat : (lines : List LineTree) → externals lines ≡ flat_map (given_at lines) (range_with_len 0 (length lines))
 externals_flat lines = flat_from lines lines 0 (all_lines lines)
@@ -551,13 +540,13 @@ module _ (lines : List LineTree) (a : Assignment) (c : IsClean lines a) where
 
   pub externals_written : (e : External) → In e (externals lines) → IsWritten e.name
   externals_written e i =
-      let r = in_flat (given_at lines) (range_with_len 0 (length lines)) e (subst (In e) (externals_flat lines) i) in
+      let r = in_flat (given_at lines) (range_with_len 0 (length lines)) e (rw externals_flat at i) in
       external_written (body_at lines r.0) (c.good r.0) e r.2
 
   pub externals_differ : Pairs OtherName (externals lines)
   externals_differ =
       let n = length lines in
-      subst (Pairs OtherName) (sym (externals_flat lines))
+      rw externals_flat
       (pairs_flat _ _ _ _ (pairs_range n 0)
       (λ k i. let r = in_range n 0 k i in external_pairs _ (once_at k (omega arith)).within)
       (λ j k i l less u v in_u in_v.
@@ -571,11 +560,9 @@ module _ (lines : List LineTree) (a : Assignment) (c : IsClean lines a) where
       → IsNamed lines t.id t.segment → Differ s.segment.name t.segment.name
   names_differ s t less low (Nameless e r) named = λ ne. absurd (ne e)
   names_differ s t less low (DeclaredAt j kj d at_j name_j) (Nameless e r) = grind arith
-  names_differ s t less low (DeclaredAt j kj d at_j name_j) (DeclaredAt k kk f at_k name_k) =
-      let in_two = subst (λ b. In (f.name, SegmentOf kk) (defined_by b)) (sym f.is) (inl refl) in
-      let in_one = subst (λ b. In (d.name, SegmentOf kj) (defined_by b)) (sym d.is) (inl refl) in
-      λ ne same. (once_at k (omega arith)).above _ in_two refl j (omega arith) _ in_one
-      (sym name_k ∙ sym same ∙ name_j)
+  names_differ s t less low (DeclaredAt j kj d at_j name_j) (DeclaredAt k kk f at_k name_k) = λ ne same.
+      (once_at k (omega arith)).above (f.name, SegmentOf kk) (rw f.is (inl refl)) refl j (omega arith)
+      (d.name, SegmentOf kj) (rw d.is (inl refl)) (sym name_k ∙ sym same ∙ name_j)
 
   pub segments_differ : Pairs (λ s t. Differ s.name t.name) (object_segments lines a)
   segments_differ =
@@ -628,14 +615,17 @@ module _ (lines : List LineTree) (a : Assignment) (c : IsClean lines a) where
   abbrev IsAmong : List (List ℕ) → Public → Type 0
   IsAmong names p = (name : List ℕ) × In name names × IsMade name p
 
-  -- publics of these names, no two of one name
-  record AreOf (names : List (List ℕ)) (ps : List Public) : Type 0 where
-    each : (p : Public) → In p ps → IsAmong names p
+  -- publics of which this holds, no two of one name
+  record AreOf (P : Public → Type 0) (ps : List Public) : Type 0 where
+    each : (p : Public) → In p ps → P p
     order : Pairs OtherPublic ps
 
+  no_publics : (P : Public → Type 0) → AreOf P []
+  no_publics P = record { each = λ p i. absurd i; order = tt }
+
   with_name : (name : List ℕ) (names : List (List ℕ)) (ps : List Public) (r : Published)
-      → ((y : List ℕ) → In y names → y ≢ name) → Makes name r → AreOf names ps
-      → AreOf (name ∷ names) (if_public r ps)
+      → ((y : List ℕ) → In y names → y ≢ name) → Makes name r → AreOf (IsAmong names) ps
+      → AreOf (IsAmong (name ∷ names)) (if_public r ps)
   with_name name names ps (Ok p) others m h = record {
     each = λ q i. elim i [
       | inl e ↦ (name, inl refl, subst (IsMade name) e m)
@@ -650,35 +640,31 @@ module _ (lines : List LineTree) (a : Assignment) (c : IsClean lines a) where
   with_name name names ps (Err n) others m h =
       record { each = λ q i. let r = h.each q i in (r.0, inr r.1, r.2); order = h.order }
 
-  of_names : (k : ℕ) (names : List (List ℕ)) → Pairs (λ x y. y ≢ x) names → AreOf names (publics_of lines a k names)
-  of_names k [] h = record { each = λ p i. absurd i; order = tt }
-  of_names k (name ∷ names) h =
-      with_name name names (publics_of lines a k names) (published lines a k name)
-      (λ y i. every_in (λ y. y ≢ name) names y h.0 i) (public_is_made k name)
-      (of_names k names h.1)
+  of_names : (k : ℕ) (names : List (List ℕ)) → Pairs (λ x y. y ≢ x) names
+      → AreOf (IsAmong names) (publics_of lines a k names)
+  of_names k [] h = no_publics _
+  of_names k (name ∷ names) h = with_name name names _ _ (λ y i. every_in (λ y. y ≢ name) names y h.0 i)
+      (public_is_made k name) (of_names k names h.1)
 
-  of_line : (k : ℕ) (b : BodyTree) → Pairs (λ x y. y ≢ x) (publics_in b) → AreOf (publics_in b) (publics_by lines a k b)
+  of_line : (k : ℕ) (b : BodyTree) → Pairs (λ x y. y ≢ x) (publics_in b)
+      → AreOf (IsAmong (publics_in b)) (publics_by lines a k b)
   of_line k (body.Public names) h = of_names k names h
-  of_line k b h = record { each = λ p i. absurd i; order = tt }
+  of_line k b h = no_publics _
 
   -- a public of the first k lines
   abbrev IsPublicOf : ℕ → Public → Type 0
   IsPublicOf k p = (line : ℕ) × (line < k) × IsAmong (publics_in (body_at lines line)) p
 
-  record AreAbove (k : ℕ) (ps : List Public) : Type 0 where
-    each : (p : Public) → In p ps → IsPublicOf k p
-    order : Pairs OtherPublic ps
-
-  are_above : (k : ℕ) → k ≤ length lines → AreAbove k (publics_before lines a k)
+  are_above : (k : ℕ) → k ≤ length lines → AreOf (IsPublicOf k) (publics_before lines a k)
   unfolding publics_before
-  are_above zero within = record { each = λ p i. absurd i; order = tt }
+  are_above zero within = no_publics _
   are_above (suc k) within =
       let o = publics_once lines k [] (publics_in (body_at lines k)) (once_at lines a c k (omega arith)).publics in
       let before = are_above k (omega arith) in
       let here = of_line k (body_at lines k) o.within in
       record {
-        each = in_both _ _ _ (λ p i. let r = before.each p i in (r.0, omega arith, r.2))
-            (λ p i. (k, omega arith, here.each p i));
+        each = in_both _ _ _ (λ p i. let r = before.each p i in (r.0, omega arith, r.2)) (λ p i.
+            (k, omega arith, here.each p i));
         order = pairs_append _ _ _ before.order here.order (λ p q i j e.
             let u = before.each p i in
             let v = here.each q j in
@@ -697,7 +683,7 @@ module _ (lines : List LineTree) (a : Assignment) (c : IsClean lines a) where
       let r = (are_above (length lines) (omega arith)).each p i in
       let among = r.2 in
       record {
-        name = subst IsWritten (sym among.2.name_is) (public_written _ (c.good r.0) among.0 among.1);
+        name = rw among.2.name_is (public_written _ (c.good r.0) among.0 among.1);
         base = among.2.counts;
       }
 
@@ -731,8 +717,7 @@ module _ (lines : List LineTree) (a : Assignment) (c : IsClean lines a) where
   target_there k (base.Segment id) h l =
       let free = free_text lines a c in
       let n = has_number (kept lines a) (all_kept lines a free).order id
-      (λ e. relocatable_numbered lines a free id (unfixed _ _ _ l (eq-eqb _ _ e)) e) in
-      (n.0.segment, n.3)
+      (λ e. relocatable_numbered lines a free id (unfixed _ _ _ l (eq-eqb _ _ e)) e) in (n.0.segment, n.3)
   target_there k (base.External e) h l = numbered_there _ e h.0 (omega (arith, externals_count lines))
 
   final_good : (k : ℕ) → AreBased (IsDeclaredBase lines a) (final lines a k)
@@ -786,9 +771,8 @@ module _ (lines : List LineTree) (a : Assignment) (c : IsClean lines a) where
   publics = publics_before lines a (length lines)
 
   segments_valid : (s : Segment) → In s segments → IsSegmentValid s
-  segments_valid s i =
-      let r = in_map _ _ _ i in
-      subst IsSegmentValid r.2 ((all_kept lines a (free_text lines a c)).every r.0 r.1).valid
+  segments_valid s i = let r = in_map _ _ _ i in
+      rw (← r.2) ((all_kept lines a (free_text lines a c)).every r.0 r.1).valid
 
   is_valid : (file : List ℕ) → IsValid (parts file lines a)
   unfolding parts

@@ -42,6 +42,7 @@ fn version_of(segments: &[Segment]) -> u8
 }
 
 // The parts of the module of a text of a file of this name, whose lines are placed.
+#[tactic(auto, unfolding(crate::specs::Parts::parts))]
 fn parts_of(
     alloc: Global,
     file: &[u8],

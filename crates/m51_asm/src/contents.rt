@@ -59,6 +59,7 @@ fn push_fault(faults: &mut Faults, line: &Line, fault: Option<u8>) -> Result<(),
 }
 
 // The row of a line, by the number of its place.
+#[tactic(auto, using(crate::proofs::GatheredLines::row_is))]
 fn row_at(line: &Line, here: u16, content: &EmittedContent) -> Row
     ensures { (a : Assignment) (k : ℕ) → here ≡ (here_at a k).number
         → result ≡ listing_row (line_tree line.now) (place_of a k (line_tree line.now)) content.now }

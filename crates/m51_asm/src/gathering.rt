@@ -26,6 +26,7 @@ pub(crate) fn nothing_gathered(alloc: Global, count: usize) -> Result<Vec<Segmen
 
 // Adds the content of one more line, which its segment has at this offset. The number of the segment is 0 where the
 // module does not have it.
+#[tactic(auto, using(crate::proofs::GatheredLines::added, crate::proofs::GatheredLines::not_there))]
 fn add_line(
     alloc: Global,
     gathered: &mut Vec<SegmentContent>,

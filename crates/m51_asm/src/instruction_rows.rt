@@ -19,6 +19,7 @@ pub(crate) fn row_by(form: Jump, body: &Body) -> Option<Instr>
 }
 
 /// The bytes of a row, by which it is kept.
+#[tactic(auto, using(m51_isa::proofs::Codes::codes_decode))]
 pub(crate) fn code_of_row(row: &Option<Instr>) -> Option<[u8; 3]>
     ensures { row_of_code result ≡ row.now }
 {

@@ -41,6 +41,7 @@ pub fn each_text_has_one_answer()
 /// After a line that repeats nothing a name has the value that the line gives it, or else the one that it had.
 ///
 /// Source: own choice ("The assignment of a text").
+#[tactic(auto, using(crate::proofs::DefinedLines::grown))]
 pub fn values_grow()
     ensures { ValuesGrow }
 {}
@@ -49,6 +50,7 @@ pub fn values_grow()
 /// without a definition.
 ///
 /// Source: own choice ("The assignment of a text").
+#[tactic(auto, using(crate::proofs::DefinedLines::seen))]
 pub fn values_are_seen()
     ensures { ValuesAreSeen }
 {}
@@ -73,6 +75,7 @@ pub fn segments_follow()
 /// what the content gives.
 ///
 /// Source: own choice ("The assignment of a text").
+#[tactic(auto, using(crate::proofs::AnsweredLines::fault_answer, crate::proofs::AnsweredLines::content_answer))]
 pub fn first_faults_are_answers()
     ensures fault { FaultIsAnswer }
     ensures content { ContentIsAnswer }
@@ -81,6 +84,7 @@ pub fn first_faults_are_answers()
 /// The form of a JMP or CALL follows from the lines above it and the label of its own line.
 ///
 /// Source: own choice ("The assignment of a text").
+#[tactic(auto, using(crate::proofs::DefinedLines::form_told))]
 pub fn forms_are_told()
     ensures { FormIsTold }
 {}

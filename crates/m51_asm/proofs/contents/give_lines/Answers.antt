@@ -1,6 +1,6 @@
 use Rattle.m51_asm.proofs
-use proofs.Common.{◌≤◌, ◌≡◌, ◌==◌, map, length, ap, sym, subst, ◌∙◌, add-one, arith, length-map, line_tree, IsGivenTo}
-use proofs.Common.{nothing_gathered, number_at, is_nothing, LieInside, EmittedContent, slice_get_within}
+use proofs.Common.{◌≡◌, ◌==◌, map, length, ap, sym, subst, ◌∙◌, add-one, arith, length-map, line_tree, nothing_gathered}
+use proofs.Common.{number_at, is_nothing, LieInside, EmittedContent, slice_get_within}
 use proofs.AnAssignment.{fitting, fits}
 use proofs.AnsweredLines.{read_at}
 use proofs.GatheredLines.{first_given, placed_text, segments_few, first_gathered, next_gathered, given_fits, line_lies}
@@ -12,7 +12,7 @@ nothing_gathered-requires c =
     let lines = map line_tree t.text.lines.now in
     let a = fitting lines in
     let ready = c.requires.ready a (fits lines) in
-    subst (λ n. n ≤ 254) (sym c.len.ensures)
+    rw c.len.ensures
     (segments_few lines a (placed_text lines a t c.requires.text ready) t.numbering.now.segments
     ready.numbered.segments)
 
@@ -20,7 +20,7 @@ pub loop-k-init : goal.loop-k-init
 loop-k-init c =
     let t = c.args.text.now in
     let lines = map line_tree t.text.lines.now in (
-      λ a f. subst (IsGivenTo lines a 0) (sym c.in_ok-contents.ensures) (first_given lines a),
+      λ a f. rw c.in_ok-contents.ensures (first_given lines a),
       λ none a f.
           let ready = c.requires.ready a f in
           c.in_ok-gathered.ensures ∙ ap nothing_gathered c.len.ensures
@@ -84,7 +84,7 @@ pub returns-clause-given : goal.returns-clause-given
 returns-clause-given c = λ a f.
     let lines = map line_tree c.args.text.now.text.lines.now in
     let same : c.loop-k.k ≡ length lines = omega (arith, length-map c.args.text.now.text.lines.now line_tree) in
-    subst (λ n. IsGivenTo lines a n c.loop-k.contents) same (c.loop-k.invariant.0 a f)
+    rw same at c.loop-k.invariant.0 a f
 
 pub returns-clause-gathered : goal.returns-clause-gathered
 returns-clause-gathered c = grind (arith, length-map)

@@ -1,5 +1,5 @@
 use Rattle.m51_asm.proofs
-use proofs.Common.{◌≡◌, map, length, sym, subst, ◌∙◌, add-one, arith, length-map, line_tree, IsPassedTo, IsLineOutcome}
+use proofs.Common.{◌≡◌, map, length, sym, subst, ◌∙◌, add-one, arith, length-map, line_tree, IsLineOutcome}
 use proofs.AnsweredLines.{line_at}
 use proofs.ToldLines.{not_reached, reached, no_places, passed_more}
 use proofs.passing.place_lines.Goals as goal
@@ -37,4 +37,4 @@ pub returns : goal.returns
 returns c = λ a f.
     let lines = map line_tree c.args.text.now.lines.now in
     let same : c.loop-k.k ≡ length lines = omega (arith, length-map c.args.text.now.lines.now line_tree) in
-    subst (λ n. IsPassedTo lines a n c.loop-k.places c.loop-k.placing) same (c.loop-k.invariant a f)
+    rw same at c.loop-k.invariant a f

@@ -5,8 +5,8 @@ use Rattle.m51_stackbound.proofs.Common.{get_or-set_other, length-set, take_more
 use Rattle.m51_stackbound.proofs.Common.{Contains-append_left, contains_after, first_or_after, none_in_empty}
 use Rattle.m51_stackbound.proofs.Common.{LayoutParts, Start, Reset, At, same_or_not, Call, Point, AreCallRows, calls_of}
 use Rattle.m51_stackbound.proofs.Common.{callee_row, call_of, IsPoint, ArePoints, ◌≤◌, ◌-◌, Bool, true, false}
-use Rattle.m51_stackbound.proofs.Common.{replicate, ap, common_steps, length-replicate}
-use Rattle.m51_stackbound.proofs.Common.{Contains-get_or, AreCleared, GoesOn, IsClosed, CallsThrough}
+use Rattle.m51_stackbound.proofs.Common.{replicate, common_steps, Contains-get_or, AreCleared, GoesOn, IsClosed}
+use Rattle.m51_stackbound.proofs.Common.{CallsThrough, take_all}
 use Rattle.std.specs.List.{cons_option}
 use Rattle.std.proofs.lemmas.List.Elements.{filter_map-append, Contains-append_cases}
 use Rattle.std.proofs.lemmas.List.Sorted.{Contains-permutation, IsPermutation-sym}
@@ -16,7 +16,6 @@ use Rattle.m51_stackbound.specs.Callers.{Leads, Once, one_unmarked, Over, Walks,
 use Rattle.m51_stackbound.specs.Climb.{AreCalls}
 use Rattle.std.proofs.Common.{◌↔◌, append_assoc, length-append}
 use Rattle.std.proofs.lemmas.List.{take-append-le}
-use Rattle.m51_stackbound.proofs.Common.{take_all}
 use Rattle.std.proofs.lemmas.List.Sums.{sum_by-set}
 use Rattle.m51_stackbound.specs.Depths.{Direct, Through}
 
@@ -34,10 +33,11 @@ module _ (l : LayoutParts) (image : List ℕ) where
   pub calls_only : (points : List Point) → ((p : Point) → Contains points p → IsPoint l image p)
       → AreCalls l image (calls_of l image points)
   calls_only [] only c k = absurd (none_in_empty c k)
-  calls_only (q ∷ ps) only c k = elim (cons_cases (call_from q (call_of l image q)) (calls_of l image ps) c k) [
-    | inl here ↦ grind arith
-    | inr after ↦ calls_only ps (λ p m. only p (contains_after q ps p m)) c after
-  ]
+  calls_only (q ∷ ps) only c k = grind (
+    arith,
+    cons_cases (call_from q (call_of l image q)) (calls_of l image ps) c k,
+    calls_only ps (λ p m. only p (contains_after q ps p m)) c,
+  )
 
   -- and all calls of these points are listed
   pub calls_all : (points : List Point) (p : Point) (to : ℕ) → Contains points p → call_of l image p ≡ Some to
@@ -52,12 +52,10 @@ module _ (l : LayoutParts) (image : List ℕ) where
   pub calls_more : (points : List Point) (i : ℕ) (d : Point) → i < length points
       → calls_of l image (take (i + 1) points) ≡ calls_of l image (take i points)
       ++ cons_option (call_from (get_or points i d) (call_of l image (get_or points i d))) []
-  calls_more points i d below = cc (
-    take_more points i d below,
-    filter_map-append (λ p. call_from p (call_of l image p)) (take i points) (get_or points i d ∷ []),
-  )
+  calls_more points i d below =
+      rw (take_more points i d below, filter_map-append (λ p. call_from p (call_of l image p)) (take i points)) refl
 
-  -- the list has these calls and no others
+  -- the list has these calls
   pub calls_in : (points : List Point) (calls : List Call) (c : Call) → AreCallsOf l image points calls
       → Contains (calls_of l image points) c → Contains calls c
   calls_in points calls c is k = Contains-permutation (calls_of l image points) calls c is k
@@ -89,8 +87,7 @@ pub rows_none : (count : ℕ) (rows : List (List ℕ)) → count ≡ 65536 → A
 rows_none count rows is h = grind arith
 
 one_more : (calls : List Call) (c : Call) (from to : ℕ) → IsCalled calls from to → IsCalled (calls ++ c ∷ []) from to
-one_more calls c from to k =
-    grind (arith, common_steps)
+one_more calls c from to k = grind (arith, common_steps)
 
 -- one more call
 pub rows_more : (calls : List Call) (c : Call) (rows : List (List ℕ)) → ((from : ℕ) → c.from ≡ At from → from < 65536)
@@ -98,28 +95,24 @@ pub rows_more : (calls : List Call) (c : Call) (rows : List (List ℕ)) → ((fr
 rows_more calls c rows few h = by c.from refl
   where
     by : (s : Start) → c.from ≡ s → AreRowsOf (calls ++ c ∷ []) (with_call rows s c.to)
-    by Reset e = record {
-      len = h.len;
-      only = λ from to k. one_more calls c from to (h.only from to k);
-      all = grind (arith, common_steps);
-    }
+    by Reset e = grind (arith, common_steps, one_more)
     by (At a) e = record {
       len = length-set rows a row ∙ h.len;
       only = λ from to k. elim (same_or_not from a) [
-        | inl same ↦ elim (Contains-push_cases (callee_row rows a) c.to to (grind (arith, set_row))) [
-          | inl early ↦ one_more calls c from to (h.only from to (rw same early))
-          | inr here ↦ grind (arith, Contains-push)
-        ]
-        | inr ne ↦ one_more calls c from to
-            (h.only from to (rw (get_or-set_other rows a from row [] ne) at k))
+        | inl same ↦
+            let early = rw same at (h.only from to) in
+            let cases = Contains-push_cases (callee_row rows a) c.to to (grind (arith, set_row)) in
+            grind (arith, cases, early, one_more, Contains-push)
+        | inr ne ↦ grind (arith, common_steps, h.only from to, one_more)
       ];
       all = λ from to k. elim (same_or_not from a) [
-        | inl same ↦ rw (same, set_row)
-            (elim (Contains-push_cases calls c k.call k.listed) [
-              | inl early ↦ Contains-append_left (callee_row rows a) (c.to ∷ []) to
-                  (rw same at (h.all from to (grind arith)))
-              | inr here ↦ grind (arith, Contains-push (callee_row rows a) c.to)
-            ])
+        | inl same ↦ rw (same, set_row) (grind (
+          arith,
+          Contains-push_cases calls c k.call k.listed,
+          Contains-append_left (callee_row rows a) (c.to ∷ []) to,
+          rw same at (h.all from to),
+          Contains-push (callee_row rows a) c.to,
+        ))
         | inr ne ↦ grind (arith, common_steps, h.all from to)
       ];
     }
@@ -132,9 +125,6 @@ rows_more calls c rows few h = by c.from refl
 
         set_row : callee_row new a ≡ row
         set_row = grind (arith, get_or-set_same)
-
-pub marks_len : (count : ℕ) (marks : List Bool) → marks ≡ replicate count false → length marks ≡ count
-marks_len count marks e = rw e (length-replicate {A = Bool} count false)
 
 pub marked_none : (count : ℕ) (marks : List Bool) → count ≡ 65536 → marks ≡ replicate count false → AreMarked [] marks
 marked_none count marks is e = grind (arith, common_steps)
@@ -180,34 +170,27 @@ pub goes_more : (old now new xs : List ℕ) (x : ℕ) → GoesOn old xs now → 
 goes_more old now new xs x g h = record {
   more = g.more ++ h.more;
   is = cc (append_assoc old g.more h.more);
-  from = λ b k. elim (Contains-append_cases g.more h.more b k) [
-    | inl early ↦ Contains-append_left xs (x ∷ []) b (g.from b early)
-    | inr late ↦ grind (arith, first_or_after x [] b (h.from b late), Contains-push xs x)
-  ];
-  all = λ b k. elim (Contains-push_cases xs x b k) [
-    | inl early ↦ rw h.is (Contains-append_left now h.more b (g.all b early))
-    | inr here ↦ h.all b (0, omega arith, here)
-  ];
+  from = λ b k. grind (
+    arith,
+    Contains-append_cases g.more h.more b k,
+    Contains-append_left xs (x ∷ []) b,
+    g.from b,
+    h.from b,
+    first_or_after x [] b,
+    Contains-push xs x,
+  );
+  all = λ b k. rw h.is
+      (grind (arith, Contains-push_cases xs x b k, Contains-append_left now h.more b, g.all b, rw h.is at h.all b));
 }
 
--- what a continued list has
-module _ (old starts new : List ℕ) (g : GoesOn old starts new) where
-  pub went_kept : (a : ℕ) → Contains old a → Contains new a
-  went_kept a k = rw g.is (Contains-append_left old g.more a k)
-
-  pub went_from : (a : ℕ) → Contains new a → Contains old a ⊎ Contains starts a
-  went_from a k = grind (arith, Contains-append_cases old g.more a (rw g.is at k), g.from a)
+went_kept : (old starts new : List ℕ) → GoesOn old starts new → (a : ℕ) → Contains old a → Contains new a
+went_kept old starts new g a k = rw g.is (Contains-append_left old g.more a k)
 
 -- an element that was added
 added : (old more now : List ℕ) (n : ℕ) → now ≡ old ++ more → length old ≤ n → n < length now
     → Contains more (get_or now n 0)
 added old more now n is high below =
-    grind (
-      arith,
-      common_steps,
-      Contains-get_or more (n - length old) 0
-          (omega (arith, high, below, (ap (λ (l : List ℕ). length l) is ∙ length-append old more))),
-    )
+    grind (arith, common_steps, Contains-get_or more (n - length old) 0, length-append old more)
 
 -- the walk: what it adds is led to, and whom the starts that were looked at call is found
 pub record IsWalking (rows : List (List ℕ)) (from : ℕ) (old starts : List ℕ) (next : ℕ) : Type 0 where
@@ -241,10 +224,9 @@ module _ (rows : List (List ℕ)) (from : ℕ) (old : List ℕ) where
       record {
         more = w.more ++ g.more;
         is = cc (append_assoc old w.more g.more);
-        only = λ a k. elim (Contains-append_cases w.more g.more a k) [
-          | inl before ↦ w.only a before
-          | inr later ↦ Over via a (w.only via (added old w.more now next w.is high below)) (g.from a later)
-        ];
+        only = λ a k.
+            let before = w.only via (added old w.more now next w.is high below) in
+            grind (arith, Contains-append_cases w.more g.more a k, w.only a, Over via a before, g.from a);
         begun = λ a k. went_kept now (callee_row rows via) new g a (w.begun a k);
         looked = λ a k. elim (Contains-push_cases (take next now) via a (rw front at k)) [
           | inl early ↦ elim (w.looked a early) [
@@ -288,12 +270,11 @@ module _ (rows : List (List ℕ)) (from : ℕ) (old : List ℕ) where
     -- and with the start itself it is closed again
     pub closed_again : (after : List ℕ) → IsClosed rows old → GoesOn new (from ∷ []) after → IsClosed rows after
     closed_again after closed g a k b called =
-        went_kept _ _ _ g b (elim (went_from _ _ _ g a k) [
-          | inl before ↦ elim (w.closed a before) [
-            | inl early ↦ rw w.is (Contains-append_left old w.more b (closed a early b called))
-            | inr here ↦ here b called
-          ]
-          | inr last ↦ grind (arith, none_in_empty)
+        went_kept _ _ _ g b (elim (Contains-append_cases new g.more a (rw g.is at k)) [
+          | inl before ↦
+              let early = rw (← w.is) at (Contains-append_left old w.more b) in
+              grind (arith, w.closed a before, early, closed a)
+          | inr last ↦ grind (arith, none_in_empty, g.from a last)
         ])
 
 -- a walk from nothing finds what the rows lead to
@@ -308,8 +289,7 @@ walk_finds rows from new w a = (
 pub cleared_more : (rows : List (List ℕ)) (cleared : List Bool) (start : ℕ) (is_clear : Bool) → start < 65536
     → (is_clear ≡ true → Leads rows start start → ⊥) → AreCleared rows cleared
     → AreCleared rows (with_clear cleared start is_clear)
-cleared_more rows cleared start false few apart h = h
-cleared_more rows cleared start true few apart h = grind (arith, common_steps)
+cleared_more rows cleared start is_clear few apart h = grind (arith, common_steps)
 
 pub cleared_none : (rows : List (List ℕ)) (count : ℕ) (cleared : List Bool) → count ≡ 65536
     → cleared ≡ replicate count false → AreCleared rows cleared

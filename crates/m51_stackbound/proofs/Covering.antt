@@ -1,29 +1,23 @@
 -- Which unit covers a start, which root a handler is, and in which order the handlers are.
-use Rattle.m51_stackbound.proofs.Common.{◌≡◌, ◌<◌, ◌+◌, ℕ, true, List, length, get_or, refl, arith, inl, inr, Option}
-use Rattle.m51_stackbound.proofs.Common.{Some, is_some, Contains, LayoutParts, At, IsRootAt, IsUnitAt, Rises, IsSound}
-use Rattle.m51_stackbound.proofs.Common.{Point, entry_at, IsPoint, First, After, handlers, interrupts}
+use Rattle.m51_stackbound.proofs.Common.{◌≡◌, ◌<◌, ℕ, true, List, refl, arith, inl, inr, Option, Some, is_some}
+use Rattle.m51_stackbound.proofs.Common.{Contains, LayoutParts, At, IsRootAt, IsUnitAt, Rises, IsSound, Point, entry_at}
+use Rattle.m51_stackbound.proofs.Common.{IsPoint, First, After, handlers, interrupts}
 use Rattle.std.proofs.lemmas.List.Kept.{AllPairs-filter, AllPairs-from_increasing}
 use Rattle.m51_cells.proofs.Members.{contains_in, in_contains, in_filter}
 use Rattle.m51_stackbound.specs.Bounds.{IsStart}
 use Rattle.m51_stackbound.specs.Units.{root_of, unit_of}
 use Rattle.m51_stackbound.proofs.Finding.{root_found, unit_found_at}
-use Rattle.m51_stackbound.proofs.Common.{None}
 use Rattle.m51_stackbound.proofs.Inside.{interrupt_is_vector}
-use Rattle.m51_stackbound.proofs.Rooted.{first_cases, under}
-use Rattle.m51_stackbound.proofs.Rooted.{steps_to}
-
-each_less : (k : ℕ) → k + 1 < length interrupts → get_or interrupts k 0 < get_or interrupts (k + 1) 0
-each_less k h = grind arith
+use Rattle.m51_stackbound.proofs.Rooted.{first_cases, under, steps_to}
 
 -- the handlers are in ascending order
 pub handlers_rise : (l : LayoutParts) → Rises (handlers l)
 handlers_rise l = AllPairs-filter (λ (a b : ℕ). a < b) (λ vector. is_some (root_of l vector)) interrupts
-    (AllPairs-from_increasing interrupts each_less)
+    (AllPairs-from_increasing interrupts (λ k h. grind arith))
 
 -- the value of an option that has one
 with_value : (o : Option ℕ) → is_some o ≡ true → (u : ℕ) × (o ≡ Some u)
-with_value None h = absurd (cc h)
-with_value (Some u) h = (u, refl)
+with_value o h = grind arith
 
 module _ (l : LayoutParts) (sound : IsSound l) where
   -- a handler is a root
@@ -36,8 +30,7 @@ module _ (l : LayoutParts) (sound : IsSound l) where
 
   -- a root covers its vector
   pub root_covers : (v unit : ℕ) → IsRootAt l v unit → IsUnitAt l v unit
-  root_covers v unit r =
-      grind arith
+  root_covers v unit r = grind arith
 
   covered : (address : ℕ) → is_some (unit_of l address) ≡ true → (unit : ℕ) × IsUnitAt l address unit
   covered address h = let u = with_value (unit_of l address) h in (u.0, unit_found_at l sound address u.0 u.1)
@@ -48,9 +41,8 @@ module _ (l : LayoutParts) (sound : IsSound l) where
   entry_covered image a _ e (First p first) = elim (first_cases l image p first) [
     | inl reset ↦ absurd (grind arith)
     | inr h ↦
-        let same : h.vector ≡ a = grind arith in
         let root = handler_root h.vector h.listed in
-        rw (← same) (root.0, root_covers h.vector root.0 root.1)
+        grind (arith, root_covers h.vector root.0 root.1)
   ]
   entry_covered image a _ e (After p q is after) = elim (steps_to l image p q after) [
     | inl within ↦ covered a (rw e at within.covered)

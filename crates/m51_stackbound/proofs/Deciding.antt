@@ -1,14 +1,13 @@
 -- From the tables to the answers of the bound: depths, paths, lists and the total.
-use Rattle.std.proofs.Common.{append_assoc}
-use Rattle.m51_stackbound.proofs.Common.{ap, cases_lt}
-use Rattle.std.proofs.lemmas.List.{append-nil}
-use Rattle.m51_stackbound.proofs.Common.{◌≡◌, ◌≢◌, ◌<◌, ◌≤◌, ◌+◌, ℕ, List, [], ◌∷◌, ◌++◌, refl, arith, Some, None}
-use Rattle.m51_stackbound.proofs.Common.{Contains, LayoutParts, Start, At, Next, Point, depth_in, AreSettled, CallsAt}
-use Rattle.m51_stackbound.proofs.Common.{HasHeight, IsDepth, Takes, Own, next_in, AreNexts, call_of, ArePoints, zero}
-use Rattle.m51_stackbound.proofs.Common.{suc, Bool, true, false, length, sym, ◌∙◌, inl, inr, nat_lt, contains_after}
+use Rattle.m51_stackbound.proofs.Common.{cases_lt, ◌≡◌, ◌≢◌, ◌<◌, ◌≤◌, ◌+◌, ℕ, List, [], ◌∷◌, ◌++◌, refl, arith, Some}
+use Rattle.m51_stackbound.proofs.Common.{None, Contains, LayoutParts, Start, At, Next, Point, depth_in, AreSettled}
+use Rattle.m51_stackbound.proofs.Common.{CallsAt, HasHeight, IsDepth, Takes, Own, next_in, AreNexts, call_of, ArePoints}
+use Rattle.m51_stackbound.proofs.Common.{zero, suc, Bool, true, false, sym, ◌∙◌, inl, inr, nat_lt, contains_after}
 use Rattle.m51_stackbound.proofs.Common.{list_any, common_steps, Proc, RootDepth, StackBound, Reset, IsUnitAt, IsSound}
 use Rattle.m51_stackbound.proofs.Common.{IsCyclic, Keeps, CallsThrough, is_noted, AreStarts, AreListed, AreRootRows}
-use Rattle.m51_stackbound.proofs.Common.{rank, IsSum, handlers, ComesTo, IsTotal, Nothing, One}
+use Rattle.m51_stackbound.proofs.Common.{rank, IsSum, handlers, ComesTo, Nothing, One}
+use Rattle.std.proofs.Common.{append_assoc}
+use Rattle.std.proofs.lemmas.List.{append-nil}
 use Rattle.m51_stackbound.specs.declared.paths.Next.TheVariants.{Unknown, Ends, Calls}
 use Rattle.m51_stackbound.specs.Above.{AreLow, HasLists, IsAbove}
 use Rattle.m51_stackbound.specs.Depths.{IsPath, Call, ComesFirst}
@@ -19,7 +18,6 @@ use Rattle.m51_stackbound.proofs.Ways.{calls_from, ends_from, says}
 use Rattle.std.proofs.lemmas.List.Folds.{Any-from_list_any}
 use Rattle.m51_stackbound.specs.Bounds.{AreEach, IsFirstCyclic, IsRootDepth, IsStart, IsTooDeep, KeepsHeights, Adds}
 use Rattle.m51_stackbound.specs.Bounds.{IsBound, Two}
-use Rattle.m51_stackbound.specs.Totals.{OneAdds, TwoAdd}
 use Rattle.m51_stackbound.specs.declared.judging.Rule.TheVariants.{PushesAbove}
 use Rattle.m51_stackbound.specs.Climb.{TakesDepth}
 use Rattle.m51_stackbound.proofs.Covering.{start_covered}
@@ -29,10 +27,6 @@ calls_of_next : (n : Next) (to : ℕ) → called_next n ≡ Some to → n ≡ Ca
 calls_of_next n to h = grind arith
 
 module _ (nexts : List Next) (first : Start) where
-  -- a path of one start
-  pub passed_none : (path : List Start) → path ≡ first ∷ [] → IsPassed nexts first first path
-  passed_none path is = grind arith
-
   -- the path continues
   pub passed_more : (last : Start) (path new : List Start) (to : ℕ) → IsPassed nexts first last path
       → called_next (next_in nexts last) ≡ Some to → new ≡ path ++ At to ∷ [] → IsPassed nexts first (At to) new
@@ -111,8 +105,7 @@ module _ (l : LayoutParts) (image : List ℕ) (points : List Point) (depths : Li
   -- the depth in the table is the depth of the start
   pub depth_is : (start : Start) (height : ℕ) → HasHeight l image start height
       → IsDepth l image start (depth_in depths start)
-  depth_is start height h =
-      grind (arith, settled_says _ _ _ _ are s start height h)
+  depth_is start height h = grind (arith, settled_says _ _ _ _ are s start height h)
 
   given_by : (start : Start) (next : Next) → next_in nexts start ≡ next → next ≢ Unknown
       → Gives l image points depths start next
@@ -120,19 +113,7 @@ module _ (l : LayoutParts) (image : List ℕ) (points : List Point) (depths : Li
 
   earliest_by : (start : Start) (next : Next) (p : Point) (way : Next) → next_in nexts start ≡ next → Contains points p
       → p.start ≡ start → next_by depths p (call_of l image p) ≡ way → IsNoLater next way
-  earliest_by start next p way e listed is w =
-      rw (e, w) at ((n.each start).earliest p listed is)
-
-  -- what a call gives is at most the depth
-  call_most : (start : Start) (height to bytes : ℕ) → CallsAt l image start height to → bytes ≤ depth_in depths (At to)
-      → height + 2 + bytes ≤ depth_in depths start
-  call_most start height to bytes c below =
-      omega (arith, low start, settled_call l image points depths are s start height to bytes c (omega arith))
-
-  pub called_most : (start : Start) (path : List Start) (bytes : ℕ) → Takes l image start path bytes
-      → bytes ≤ depth_in depths start
-  called_most start path bytes t =
-      omega (arith, low start, takes_most l image points depths are s start path bytes t)
+  earliest_by start next p way e listed is w = rw (e, w) at ((n.each start).earliest p listed is)
 
   -- the start continues no later than a path that gives its depth, and what that path calls has its depth too
   abbrev NoLaterThan : Next → List Start → Type 0
@@ -146,9 +127,9 @@ module _ (l : LayoutParts) (image : List ℕ) (points : List Point) (depths : Li
       earliest_by _ _ _ Ends is (are.all h.point h.is_point) h.start_is
       (ends_from depths h.point (call_of l image h.point) (cc))
   best start _ _ (Call _ height to more bytes c rest) e next is =
-      let most = called_most _ _ _ rest in
-      let high = call_most start height to (depth_in depths (At to)) c (omega arith) in
-      let same : bytes ≡ depth_in depths (At to) = omega (arith, e, most, high) in
+      let most = takes_most _ _ _ _ are s _ _ _ rest in
+      let high = settled_call _ _ _ _ are s _ _ _ (depth_in depths (At to)) c (omega arith) in
+      let same : bytes ≡ depth_in depths (At to) = omega (arith, e, low start, low (At to), most, high) in
       let sum : height + 2 + depth_in depths (At to) ≡ depth_in depths start = omega (arith, e, same) in (
         earliest_by _ _ _ (Calls to) is (are.all c.point c.is_point) c.start_is
             (calls_from depths c.point (call_of l image c.point) to c.calls (cc)),
@@ -182,9 +163,7 @@ module _ (l : LayoutParts) (image : List ℕ) (points : List Point) (depths : Li
       let g = given_by _ _ is (λ k. absurd (cc k)) in
       let same = says depths g.point (call_of l image g.point) Ends g.next_is in
       Own start (depth_in depths start) (grind arith)
-  ended start Unknown [] is none b = absurd b
-  ended start Unknown (Reset ∷ more) is none b = absurd b
-  ended start Unknown (At to ∷ more) is none b = absurd b.0
+  ended start Unknown path is none b = grind arith
   ended start (Calls t) path is none b = absurd (cc none)
 
   pub leads_takes : (start : Start) (more : List Start) (height : ℕ) → Leads nexts start more
@@ -203,10 +182,7 @@ module _ (l : LayoutParts) (image : List ℕ) (points : List Point) (depths : Li
       → NoLaterThan (Calls to) other → ComesFirst (At to ∷ more) other
   first_by to more [] on b = b
   first_by to more (Reset ∷ path) on b = absurd b
-  first_by to more (At o ∷ path) on b = elim (cases_lt to o) [
-    | inl less ↦ inl (omega (arith, less))
-    | inr high ↦ let same : to ≡ o = omega (arith, high, b.0) in inr (ap At same, on path (rw (← same) at b.1))
-  ]
+  first_by to more (At o ∷ path) on b = grind (arith, cases_lt to o, on path)
 
   pub leads_first : (start : Start) (more : List Start) → Leads nexts start more → (other : List Start)
       → Takes l image start other (depth_in depths start) → ComesFirst more other
@@ -223,28 +199,13 @@ module _ (l : LayoutParts) (image : List ℕ) (points : List Point) (depths : Li
   row_is : (start : Start) (vector height : ℕ) (r : RootDepth) → HasHeight l image start height
       → IsRowAt l depths nexts start vector r → IsRootDepth l image start vector r
   row_is start vector height r h row =
-      grind (
-        arith,
-        depth_is start height h,
-        path_is start height r.path row.row.more h row.row.path_is row.row.leads,
-      )
+      grind (arith, depth_is start height h, path_is start height r.path row.row.more h)
 
   -- a noted start is one of the program
   noted_start : (starts : List Bool) → AreStarts points starts → (at : ℕ) → is_noted starts at ≡ true
       → IsStart l image (At at)
   noted_start starts ss at h =
-      let k = ss.only at h in (
-        k.point.height,
-        grind arith,
-      )
-
-  start_noted : (starts : List Bool) → AreStarts points starts → (at : ℕ) → IsStart l image (At at)
-      → is_noted starts at ≡ true
-  start_noted starts ss at (height, h) =
-      ss.all at (grind arith)
-
-  few_addresses : (starts : List Bool) → length starts ≡ 65536 → (at : ℕ) → is_noted starts at ≡ true → at < 65536
-  few_addresses starts len at h = grind (arith, common_steps)
+      let k = ss.only at h in (k.point.height, grind arith)
 
   pub covered_noted : IsSound l → (starts : List Bool) → AreStarts points starts → (at : ℕ) → is_noted starts at ≡ true
       → (unit : ℕ) × IsUnitAt l at unit
@@ -262,8 +223,8 @@ module _ (l : LayoutParts) (image : List ℕ) (points : List Point) (depths : Li
         let start = noted_start starts ss p.at is.noted in
         grind (arith, depth_is (At p.at) start.0 start.1);
     all = λ at k.
-        let noted = start_noted starts ss at k in
-        rw procs_are (listed.all at (few_addresses starts ss.len at noted) noted);
+        let noted = ss.all at (grind (arith, k.1)) in
+        rw procs_are (listed.all at (grind (arith, common_steps, noted)) noted);
     reset = rows.reset;
     interrupts = rows.interrupts;
     roots = roots_are ∙ rows.roots_are;
@@ -277,30 +238,13 @@ module _ (l : LayoutParts) (image : List ℕ) (points : List Point) (depths : Li
 module _ (l : LayoutParts) (image : List ℕ) (points : List Point) (depths : List ℕ) (are : ArePoints l image points)
     (s : AreSettled l image points depths) (low : AreLow depths) where
   deep : (start : Start) (height : ℕ) → HasHeight l image start height → IsDepth l image start (depth_in depths start)
-  deep start height h =
-      grind (arith, settled_says _ _ _ _ are s start height h)
+  deep start height h = grind (arith, settled_says _ _ _ _ are s start height h)
 
   reset_depth : IsDepth l image Reset (depth_in depths Reset)
   reset_depth = deep Reset 7 (reset_height l image)
 
   handler_depth : (v : ℕ) → Contains (handlers l) v → IsDepth l image (At v) (depth_in depths (At v))
   handler_depth v h = deep (At v) 0 (handler_height l image v h)
-
-  one_adds : (b : ℕ) → OneAdds depths (handlers l) b → Adds l image b
-  one_adds b o =
-      let d = handler_depth o.vector o.listed in
-      grind (arith, One)
-
-  two_add : (a b : ℕ) → TwoAdd depths (handlers l) a b → Adds l image (a + b)
-  two_add a b t =
-      let d = handler_depth t.first.vector t.first.listed in
-      let e = handler_depth t.second.vector t.second.listed in
-      grind (
-        arith,
-        Two t.first.vector t.second.vector (depth_in depths (At t.first.vector))
-            (depth_in depths (At t.second.vector)) d.path e.path t.first.listed t.second.listed t.different d.takes
-            e.takes,
-      )
 
   module _ (total : ℕ) (found : IsSum depths (handlers l) total) where
     abbrev first : ℕ
@@ -311,10 +255,13 @@ module _ (l : LayoutParts) (image : List ℕ) (points : List Point) (depths : Li
 
     both_add : Adds l image (first + second)
     both_add = elim found.are.two [
-      | inr t ↦ two_add first second t
+      | inr t ↦
+          let d = handler_depth t.first.vector t.first.listed in
+          let e = handler_depth t.second.vector t.second.listed in
+          grind (arith, Two _ _ _ _ d.path e.path t.first.listed t.second.listed t.different d.takes e.takes)
       | inl none ↦ elim found.are.one [
         | inl nothing ↦ let sum : first + second ≡ 0 = omega (arith, none, nothing) in rw sum Nothing
-        | inr o ↦ grind (arith, one_adds)
+        | inr o ↦ let d = handler_depth o.vector o.listed in grind (arith, One)
       ]
     ]
 
@@ -331,12 +278,10 @@ module _ (l : LayoutParts) (image : List ℕ) (points : List Point) (depths : Li
         let two = (handler_depth w k).most other e u in
         omega (arith, found.are.sum v w h k ne)
 
-    is_total : IsTotal l image total
-    is_total = grind (arith, comes_total, reset_depth.most, adds_most)
-
   pub total_above : (total : ℕ) → IsSum depths (handlers l) total → 255 < total → IsTooDeep l image
   total_above total sum high = inr (total, comes_total total sum, high)
 
   pub bound_is : (total : ℕ) (b : StackBound) → IsSum depths (handlers l) total → KeepsHeights l image
       → Keeps l image PushesAbove → HasLists l image total b → IsBound l image b
-  bound_is total b sum kept no_push h = grind (arith, is_total total sum)
+  bound_is total b sum kept no_push h =
+      grind (arith, comes_total total sum, reset_depth.most, adds_most total sum)

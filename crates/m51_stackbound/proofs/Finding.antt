@@ -1,7 +1,6 @@
 -- Units found by a test are those of the layout.
 use Rattle.m51_stackbound.proofs.Common.{◌≡◌, ◌<◌, ℕ, Bool, true, false, Option, Some, None, length, get_or, refl}
-use Rattle.m51_stackbound.proofs.Common.{arith, Contains, LayoutParts, IsUnitAt, IsRootAt}
-use Rattle.m51_stackbound.proofs.Common.{vectors, IsSound}
+use Rattle.m51_stackbound.proofs.Common.{arith, Contains, LayoutParts, IsUnitAt, IsRootAt, vectors, IsSound}
 use Rattle.std.specs.Prelude.{IfSome, List, position, slice_get}
 use Rattle.std.specs.Option.{option_map_or}
 use Rattle.std.proofs.lemmas.List.Quantifiers.{position-Some}

@@ -1,6 +1,6 @@
 -- What a program with a bound keeps at each of its points.
-use Rattle.m51_stackbound.proofs.Common.{◌≡◌, ℕ, false, List, Some, arith, inl, inr, cases_Bool, Instr}
-use Rattle.m51_stackbound.proofs.Common.{LayoutParts, Rule, Point, Keeps, IsPoint, reached_address}
+use Rattle.m51_stackbound.proofs.Common.{◌≡◌, ℕ, false, List, Some, arith, cases_Bool, Instr, LayoutParts, Rule, Point}
+use Rattle.m51_stackbound.proofs.Common.{Keeps, IsPoint, reached_address}
 use Rattle.m51_stackbound.specs.declared.judging.Rule.TheVariants.{WritesSp, Computed, PopsBelow, PushesAbove}
 use Rattle.m51_stackbound.specs.Bounds.{KeepsRules}
 use Rattle.m51_stackbound.specs.Instructions.{is_computed}
@@ -11,10 +11,7 @@ module _ (l : LayoutParts) (image : List ℕ) (p : Point) (instr : Instr) (is : 
     (at : instruction l image p.address ≡ Some instr) where
   kept : (rule : Rule) → Keeps l image rule → breaks rule p instr ≡ false
   unfolding breaks_by
-  kept rule keeps = elim (cases_Bool (breaks rule p instr)) [
-    | inl e ↦ absurd (keeps (reached_address p) (grind arith))
-    | inr e ↦ e
-  ]
+  kept rule keeps = grind (arith, cases_Bool (breaks rule p instr), keeps (reached_address p))
 
   pub stack_kept : KeepsRules l image → sets_stack p instr ≡ false
   stack_kept h = kept WritesSp h.writes

@@ -4,7 +4,6 @@ pub mod Inside
 pub mod Noting
 pub mod Reaching
 pub mod Leasts
-pub mod Lifting
 pub mod Raised
 pub mod Rooted
 pub mod CallRows

@@ -1,6 +1,6 @@
 -- What a set of points holds after one is added.
-use Rattle.m51_stackbound.proofs.Common.{◌≡◌, true, List, [], ◌∷◌, ◌++◌, refl, arith, inl, inr, cases_Bool, list_any}
-use Rattle.m51_stackbound.proofs.Common.{Contains-from_any, list_any-from_Contains, Point, Notes, NotesAll}
+use Rattle.m51_stackbound.proofs.Common.{◌≡◌, true, List, [], ◌∷◌, ◌++◌, refl, arith, Contains-from_any}
+use Rattle.m51_stackbound.proofs.Common.{list_any-from_Contains, Point, Notes, NotesAll}
 use Rattle.indexmap.specs.IndexSet.{insert_key}
 use Rattle.m51_stackbound.specs.contracts.point.PointPartialEq.TheImpl.{eq-value as point_eq}
 use Rattle.m51_stackbound.specs.contracts.point.PointEq.TheImpl.Laws.{laws-law}
@@ -9,10 +9,9 @@ pub same_point : (x y : Point) → point_eq.it x y ≡ true → x ≡ y
 same_point x y h = grind arith
 
 pub notes_key : (old : List Point) (p : Point) → Notes old p (insert_key point_eq.it old p)
-notes_key old p = elim (cases_Bool (list_any (point_eq.it p) old)) [
-  | inl e ↦ rw e (inl (refl, Contains-from_any same_point p old e))
-  | inr e ↦ rw e (inr (refl, λ h. cc (list_any-from_Contains laws-law p old h)))
-]
+notes_key old p =
+    let found = Contains-from_any same_point p old in
+    grind (arith, found, list_any-from_Contains laws-law p old)
 
 -- adding the points of one list and then those of another
 pub notes_both : (ps qs old middle new : List Point) → NotesAll old ps middle → NotesAll middle qs new

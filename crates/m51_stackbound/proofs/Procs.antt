@@ -1,24 +1,18 @@
 -- The starts in a table by addresses, and their list.
-use Rattle.std.proofs.lemmas.Grind.{common_steps}
-use Rattle.m51_stackbound.proofs.Common.{◌≡◌, ◌<◌, ◌+◌, ℕ, Bool, true, false, List, [], ◌∷◌, ◌++◌, length}
-use Rattle.m51_stackbound.proofs.Common.{get_or, take, map, replicate, refl, ◌∙◌, arith, ◌⊎◌}
-use Rattle.m51_stackbound.proofs.Common.{cases_lt, get_or-set_same, get_or-set_other, length-set}
-use Rattle.m51_stackbound.proofs.Common.{length-replicate, Contains-append_left, Contains-push, Contains-push_cases}
-use Rattle.m51_stackbound.proofs.Common.{LayoutParts, Proc, Start, Reset, At, same_or_not, Point, is_noted, AreStarts}
-use Rattle.m51_stackbound.proofs.Common.{AreListed}
-use Rattle.m51_stackbound.proofs.Common.{Contains-get_or}
+use Rattle.m51_stackbound.proofs.Common.{common_steps, ◌≡◌, ◌<◌, ◌+◌, ℕ, Bool, true, false, List, [], ◌∷◌, ◌++◌, length}
+use Rattle.m51_stackbound.proofs.Common.{get_or, take, map, replicate, refl, ◌∙◌, arith, ◌⊎◌, cases_lt, get_or-set_same}
+use Rattle.m51_stackbound.proofs.Common.{get_or-set_other, length-set, Contains-append_left, Contains-push}
+use Rattle.m51_stackbound.proofs.Common.{Contains-push_cases, LayoutParts, Proc, Start, Reset, At, same_or_not, Point}
+use Rattle.m51_stackbound.proofs.Common.{is_noted, AreStarts, AreListed, Contains-get_or}
 use Rattle.std.proofs.lemmas.List.{get_or-map, length-map, map-append}
 use Rattle.std.proofs.lemmas.List.Quantifiers.{all_pairs_push}
 use Rattle.m51_stackbound.specs.Listing.{with_start, HasStart, IsListed}
 use Rattle.m51_stackbound.proofs.Leasts.{front_cases, front_kept, front_next}
 use Rattle.m51_stackbound.proofs.Rooted.{same_address}
 
-blank_start : (n k : ℕ) → get_or (replicate n false) k false ≡ false
-blank_start n k = grind (arith, common_steps)
-
 pub starts_none : (count : ℕ) (starts : List Bool) → count ≡ 65536 → starts ≡ replicate count false
     → AreStarts [] starts
-starts_none count starts is e = grind (arith, length-replicate, blank_start)
+starts_none count starts is e = grind (arith, common_steps)
 
 module _ (points : List Point) (i : ℕ) (d : Point) (below : i < length points) where
   abbrev here : Point

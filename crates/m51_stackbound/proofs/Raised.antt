@@ -1,10 +1,10 @@
 -- Depths that are raised until no call gives more.
 use Rattle.m51_stackbound.proofs.Common.{◌≡◌, ◌<◌, ◌≤◌, ◌+◌, ℕ, Bool, true, false, List, [], length, get_or, take}
-use Rattle.m51_stackbound.proofs.Common.{replicate, refl, arith, inl, inr, Option, Some, Contains}
-use Rattle.m51_stackbound.proofs.Common.{common_steps, get_or-set_same, get_or-set_other}
-use Rattle.m51_stackbound.proofs.Common.{length-set, Instr, LayoutParts, Point, Start, At, IsCyclic, cap}
-use Rattle.m51_stackbound.proofs.Common.{depth_in, IsClimbing, Raises, IsRaised, AreSettled, CallsAt, CallsThrough}
-use Rattle.m51_stackbound.proofs.Common.{HasHeight, Takes, Own, call_of, entry_at, IsPoint, After, rank, ArePoints}
+use Rattle.m51_stackbound.proofs.Common.{replicate, arith, inl, inr, Option, Some, Contains, common_steps}
+use Rattle.m51_stackbound.proofs.Common.{get_or-set_same, get_or-set_other, length-set, Instr, LayoutParts, Point}
+use Rattle.m51_stackbound.proofs.Common.{Start, At, IsCyclic, cap, depth_in, IsClimbing, Raises, IsRaised, AreSettled}
+use Rattle.m51_stackbound.proofs.Common.{CallsAt, CallsThrough, HasHeight, Takes, Own, call_of, entry_at, IsPoint}
+use Rattle.m51_stackbound.proofs.Common.{After, rank, ArePoints}
 use Rattle.std.proofs.Common.{◌||◌, sum}
 use Rattle.m51_cells.proofs.ListsAndOptions.{sum_most}
 use Rattle.m51_stackbound.specs.declared.calls.Call.{Call as StartCall}
@@ -87,8 +87,7 @@ module _ (l : LayoutParts) (image : List ℕ) where
   has_risen : (old new : List ℕ) (start : Start) (depth : ℕ) (rose : Bool) → rank start < length old → depth ≤ 256
       → AreTaken l image old → TakesDepth l image start depth → Raises start depth old new rose
       → HasRisen old new start depth rose
-  has_risen old new start depth false below few are taken h =
-      grind arith
+  has_risen old new start depth false below few are taken h = grind arith
   has_risen old new start depth true below few are taken h =
       grind (arith, common_steps, raised old new start depth true below few are taken h)
 
@@ -111,8 +110,7 @@ module _ (l : LayoutParts) (image : List ℕ) where
 
   -- by no calls
   pub raised_none : (depths : List ℕ) → AreTaken l image depths → IsRaised l image [] depths depths false
-  raised_none depths are =
-      grind arith
+  raised_none depths are = grind arith
 
   -- the next call
   pub raised_next : (calls : List StartCall) (i : ℕ) (d : StartCall) (old now new : List ℕ) (rose up : Bool)
@@ -139,17 +137,12 @@ module _ (l : LayoutParts) (image : List ℕ) where
   pub climbed : (points : List Point) (calls : List StartCall) (old new : List ℕ) → AreCallsOf l image points calls
       → IsClimbing l image points old → IsRaised l image calls old new false
       → AreSettled l image points new
-  climbed points calls old new is h r = record {
-    are = r.are;
-    own = λ p k. omega (arith, h.own p k);
-    calls = λ c k. r.high refl c (calls_in l image points calls c is k);
-  }
+  climbed points calls old new is h r = grind (arith, calls_in l image points calls)
 
   module _ (points : List Point) (depths : List ℕ) (are : ArePoints l image points)
       (s : AreSettled l image points depths) where
     pub settled_own : (start : Start) (height : ℕ) → HasHeight l image start height → cap height ≤ depth_in depths start
-    settled_own start height h =
-        grind arith
+    settled_own start height h = grind arith
 
     -- so it is of a call of the program, which is in the list of calls
     of_call : (start : Start) (height to : ℕ) → CallsAt l image start height to
@@ -173,11 +166,7 @@ module _ (l : LayoutParts) (image : List ℕ) where
     -- a settled table says the depth of each start, or that it is above 255
     pub settled_says : (start : Start) (height : ℕ) → HasHeight l image start height
         → SaysDepth l image start (depth_in depths start)
-    settled_says start height h = elim (s.are.taken start) [
-      | inl none ↦
-          grind (arith, at_zero, Own, at_most, depth_in, takes_most)
-      | inr t ↦ grind (arith, takes_most)
-    ]
+    settled_says start height h = grind (arith, s.are.taken start, at_zero, Own, at_most, depth_in, takes_most)
 
     -- a start whose depth is not above 255 is deeper than each that it calls, directly or through others
     calls_less : (start : Start) (to : ℕ) → depth_in depths start ≤ 255 → Calls l image start to

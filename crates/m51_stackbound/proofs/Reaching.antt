@@ -1,15 +1,13 @@
 -- The search for points finds those that are, and no others.
-use Rattle.m51_stackbound.proofs.Common.{◌≡◌, ◌≢◌, ◌<◌, ◌≤◌, ◌+◌, ℕ, List, [], ◌∷◌, ◌++◌, length, get_or, arith}
-use Rattle.m51_stackbound.proofs.Common.{inl, inr, Contains, cases_lt, common_steps, Contains-append_left}
-use Rattle.m51_stackbound.proofs.Common.{Contains-get_or, Contains-push, contains_after}
-use Rattle.m51_stackbound.proofs.Common.{first_or_after, none_in_empty, Result, LayoutParts, Point, successors}
-use Rattle.m51_stackbound.proofs.Common.{IsReached, First, After, NotesAll}
+use Rattle.m51_stackbound.proofs.Common.{◌≡◌, ◌≢◌, ◌<◌, ◌≤◌, ◌+◌, ℕ, List, [], ◌∷◌, ◌++◌, length, get_or, arith, inl}
+use Rattle.m51_stackbound.proofs.Common.{inr, Contains, cases_lt, common_steps, Contains-append_left, Contains-get_or}
+use Rattle.m51_stackbound.proofs.Common.{Contains-push, contains_after, first_or_after, none_in_empty, Result}
+use Rattle.m51_stackbound.proofs.Common.{LayoutParts, Point, successors, IsReached, First, After, NotesAll, ◌∙◌}
 use Rattle.std.proofs.Common.{append_assoc}
 use Rattle.std.proofs.lemmas.List.{append-nil}
 use Rattle.std.proofs.lemmas.List.Elements.{Contains-append_cases}
 use Rattle.std.proofs.lemmas.List.Quantifiers.{all_pairs_push}
 use Rattle.m51_cells.proofs.Small.{contains_first}
-use Rattle.m51_stackbound.proofs.Common.{sym, ◌∙◌}
 use Rattle.m51_cells.specs.declared.limits.TheConstants.{MOST_POINTS}
 use Rattle.std.specs.Prelude.{IfOk, Option}
 use Rattle.m51_cells.specs.declared.memory.NoMemory.{NoMemory}
@@ -34,13 +32,7 @@ new_differs old p new h =
     (λ k d below e. new (k, below, grind (arith, common_steps)))
 
 notes_grow : (ps old new : List Point) → NotesAll old ps new → Grows old ps new
-notes_grow [] old new same = rw same (record {
-  more = [];
-  is = sym (append-nil old);
-  from = λ p k. k;
-  all = λ p k. absurd (none_in_empty p k);
-  different = λ h. h;
-})
+notes_grow [] old new same = rw same (grind (arith, append-nil old, none_in_empty))
 notes_grow (p ∷ ps) old new (middle, inl (same, there), rest) =
     let g = rw same at (notes_grow ps middle new rest) in
     record {
@@ -75,13 +67,7 @@ pub record IsSearching (l : LayoutParts) (image : List ℕ) (firsts : List Point
 
 module _ (l : LayoutParts) (image : List ℕ) (firsts : List Point) where
   pub search_first : AreDifferent firsts → IsSearching l image firsts firsts 0
-  search_first different = record {
-    only = λ p k. First p k;
-    begun = λ p k. k;
-    looked = grind arith;
-    different = different;
-    next_few = omega arith;
-  }
+  search_first different = grind (arith, First)
 
   pub search_step : (old new : List Point) (next : ℕ) (e : Point) → IsSearching l image firsts old next
       → next < length old → length old ≤ MOST_POINTS
@@ -90,10 +76,9 @@ module _ (l : LayoutParts) (image : List ℕ) (firsts : List Point) where
       let at : Point = get_or old next e in
       let g = notes_grow (successors l image at) old new h in
       record {
-        only = λ p k. elim (Contains-append_cases old g.more p (rw g.is at k)) [
-          | inl before ↦ s.only p before
-          | inr added ↦ After at p (s.only at (Contains-get_or old next e below)) (g.from p added)
-        ];
+        only = λ p k.
+            let before = s.only at (Contains-get_or old next e below) in
+            grind (arith, Contains-append_cases old g.more p (rw g.is at k), s.only p, After at p before, g.from p);
         begun = λ p k. grown_kept _ _ _ g p (s.begun p k);
         looked = λ i d p before inside k.
             let low : i < length old = omega (arith, before, below) in
@@ -119,12 +104,7 @@ module _ (l : LayoutParts) (image : List ℕ) (firsts : List Point) where
 
   pub search_done : (points : List Point) (next : ℕ) → IsSearching l image firsts points next → length points ≤ next
       → AreReached l image firsts points
-  search_done points next s done = record {
-    only = s.only;
-    all = all_found points next s done;
-    different = s.different;
-    few = omega (arith, done, s.next_few);
-  }
+  search_done points next s done = grind (arith, all_found points next s)
 
   pub search_stops : (points : List Point) (next : ℕ) → IsSearching l image firsts points next
       → MOST_POINTS < length points → AreTooMany l image firsts

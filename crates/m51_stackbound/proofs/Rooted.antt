@@ -1,16 +1,15 @@
 -- Where the successors of a point are, which start each point is of, and which root leads to it.
 use Rattle.m51_stackbound.proofs.Common.{◌≡◌, ℕ, Bool, true, List, [], ◌∷◌, ◌⊎◌, inl, inr, Option, Some, None, is_some}
 use Rattle.m51_stackbound.proofs.Common.{Contains, Instr, LayoutParts, Point, call_of, entry_at, successors}
-use Rattle.m51_stackbound.proofs.Common.{none_in_empty, ◌≤◌, ◌+◌, map, refl, arith, Start, Reset, At}
-use Rattle.m51_stackbound.proofs.Common.{Nothing, One, ComesTo, CallsAt, HasHeight, Takes, Own, first_points, point_at}
-use Rattle.m51_stackbound.proofs.Common.{IsPoint, IsReached, First, After, handlers, contains_after, first_or_after}
+use Rattle.m51_stackbound.proofs.Common.{none_in_empty, ◌≤◌, ◌+◌, map, refl, arith, Start, Reset, At, Nothing, One}
+use Rattle.m51_stackbound.proofs.Common.{ComesTo, CallsAt, HasHeight, Takes, Own, first_points, point_at, IsPoint}
+use Rattle.m51_stackbound.proofs.Common.{IsReached, First, After, handlers, contains_after, first_or_after}
+use Rattle.m51_stackbound.proofs.Common.{common_steps, cases_Bool, sym, ◌∙◌}
 use Rattle.std.proofs.lemmas.List.Elements.{Contains-append_cases}
 use Rattle.m51_stackbound.specs.Instructions.{is_call, is_jump, next_of, target_of}
 use Rattle.m51_stackbound.specs.Points.{ends_at, after_call, after_instr, at_next, at_target, call_by, called}
 use Rattle.m51_stackbound.specs.Points.{follow_by, height_after, instruction}
-use Rattle.m51_stackbound.specs.Units.{counts, in_one_unit, same, unit_of}
-use Rattle.std.proofs.lemmas.Grind.{common_steps}
-use Rattle.m51_stackbound.proofs.Common.{cases_Bool, sym, ◌∙◌}
+use Rattle.m51_stackbound.specs.Units.{counts, in_one_unit, unit_of}
 use Rattle.m51_cells.proofs.Members.{contains_in, in_contains, in_map}
 use Rattle.m51_stackbound.specs.Depths.{Call}
 
@@ -33,16 +32,10 @@ pub record IsEntry (l : LayoutParts) (call : Option ℕ) (q : Point) : Type 0 wh
 abbrev pub StepsTo : LayoutParts → Point → Option ℕ → Point → Type 0
 StepsTo l p call q = IsWithin l p q ⊎ IsEntry l call q
 
-pub only_one : (p q : Point) → Contains (p ∷ []) q → p ≡ q
-only_one p q h = grind arith
-
-same_right : (one two : Option ℕ) → same one two ≡ true → is_some two ≡ true
-same_right one two h = grind arith
-
 module _ (l : LayoutParts) (p : Point) where
   next_covered : (next : ℕ) → in_one_unit l p.address next ≡ true → is_covered l next ≡ true
   unfolding in_one_unit
-  next_covered next h = same_right (unit_of l p.address) (unit_of l next) h
+  next_covered next h = grind arith
 
   target_covered : (target : ℕ) → counts l p.address target ≡ true → is_covered l target ≡ true
   unfolding counts
@@ -65,8 +58,7 @@ module _ (l : LayoutParts) (p : Point) where
   call_steps : (next : ℕ) (call : Option ℕ) (q : Point) → ((to : ℕ) → call ≡ Some to → is_covered l to ≡ true)
       → Contains (after_call l p next call) q → StepsTo l p call q
   call_steps next None q covers h = absurd (none_in_empty q h)
-  call_steps next (Some to) q covers h =
-      grind (arith, next_within next p.height q)
+  call_steps next (Some to) q covers h = grind (arith, next_within next p.height q)
 
   instr_within : (instr : Instr) (next : ℕ) (q : Point) → Contains (after_instr l p instr next) q → IsWithin l p q
   instr_within instr next q h = elim (cases_Bool (is_jump instr)) [
@@ -108,9 +100,6 @@ entry_of vs p h =
     let r = in_map entry_at vs p (in_contains (map entry_at vs) p h) in
     grind (arith, contains_in)
 
-entry_listed : (vs : List ℕ) (v : ℕ) → Contains vs v → Contains (map entry_at vs) (entry_at v)
-entry_listed vs v h = grind (arith, common_steps)
-
 -- starts at one address
 pub same_address : (a b : ℕ) → At a ≡ At b → a ≡ b
 same_address a b e = cc e
@@ -126,7 +115,7 @@ module _ (l : LayoutParts) (image : List ℕ) where
 
   pub handler_first : (v : ℕ) → Contains (handlers l) v → IsPoint l image (entry_at v)
   handler_first v h = First (entry_at v)
-      (contains_after (point_at Reset 0 7) (map entry_at (handlers l)) (entry_at v) (entry_listed (handlers l) v h))
+      (contains_after (point_at Reset 0 7) (map entry_at (handlers l)) (entry_at v) (grind (arith, common_steps)))
 
   -- heights where roots begin
   pub reset_height : HasHeight l image Reset 7
@@ -140,24 +129,14 @@ module _ (l : LayoutParts) (image : List ℕ) where
     pub entered : IsPoint l image (entry_at a)
     pub reached : IsReached l image (entry_at a ∷ []) p
 
-  itself : (a : ℕ) → IsPoint l image (entry_at a) → IsUnder a (entry_at a)
-  itself a is = grind (arith, First)
-
-  entry_under : (a to : ℕ) (p : Point) → p ≡ entry_at to → p.start ≡ At a → IsPoint l image p → IsUnder a p
-  entry_under a to p e s is =
-      grind (arith, itself)
-
   -- each point of a start is reached from the start's entry
   pub under : (a : ℕ) (p : Point) → IsPoint l image p → p.start ≡ At a → IsUnder a p
-  under a _ (First p first) s = elim (first_cases p first) [
-    | inl e ↦ grind arith
-    | inr h ↦ entry_under a h.vector p h.is s (First p first)
-  ]
+  under a _ (First p first) s = grind (arith, first_cases p first, First)
   under a _ (After p q is after) s = elim (steps_to l image p q after) [
     | inl within ↦
         let before = under a p is (sym within.start_is ∙ s) in
         grind (arith, After)
-    | inr entry ↦ entry_under a entry.to q entry.is s (After p q is after)
+    | inr entry ↦ let here = After p q is after in grind (arith, here, First)
   ]
 
   -- a value that SP may get and that is at least this number
@@ -166,43 +145,24 @@ module _ (l : LayoutParts) (image : List ℕ) where
     pub comes : ComesTo l image value
     pub high : bytes ≤ value
 
-  reset_takes : Takes l image Reset [] 7
-  reset_takes = Own Reset 7 reset_height
-
-  reset_above : (path : List Start) (bytes : ℕ) → Takes l image Reset path bytes → ComesAbove bytes
-  reset_above path bytes t = record {
-    value = bytes;
-    comes = record { path = path; reset = bytes; more = 0; takes = t; adds = Nothing; value_is = omega arith };
-    high = omega arith;
-  }
-
-  handler_above : (v : ℕ) (path : List Start) (bytes : ℕ) → Contains (handlers l) v → Takes l image (At v) path bytes
-      → ComesAbove bytes
-  handler_above v path bytes h t = record {
-    value = 7 + (2 + bytes);
-    comes = grind (arith, reset_takes, One);
-    high = omega arith;
-  }
-
   -- what a start takes adds to what a root takes
   pub rooted : (p : Point) → IsPoint l image p → (path : List Start) (bytes : ℕ) → Takes l image p.start path bytes
       → ComesAbove bytes
   rooted _ (First p first) path bytes t = elim (first_cases p first) [
-    | inl e ↦ reset_above path bytes (rw e at t)
-    | inr h ↦ handler_above h.vector path bytes h.listed
-        (rw h.is at t)
+    | inl e ↦
+        let k = rw e at t in
+        record { value = bytes + 0; comes = grind (arith, Nothing); high = omega arith }
+    | inr h ↦
+        let k = rw h.is at t in
+        record { value = 7 + (2 + bytes); comes = grind (arith, Own Reset 7 reset_height, One); high = omega arith }
   ]
   rooted _ (After p q is after) path bytes t = elim (steps_to l image p q after) [
     | inl within ↦ rooted p is path bytes (rw within.start_is at t)
     | inr entry ↦
-        let called : Takes l image (At entry.to) path bytes =
-        rw entry.is at t in
-        let call : CallsAt l image p.start p.height entry.to =
-        grind arith in
+        let call : CallsAt l image p.start p.height entry.to = grind arith in
         grind (
           arith,
-          rooted p is (At entry.to ∷ path) (p.height + 2 + bytes)
-              (Call p.start p.height entry.to path bytes call called),
+          rooted p is (At entry.to ∷ path) (p.height + 2 + bytes) (Call _ _ _ path bytes call (rw entry.is at t)),
         )
   ]
 
@@ -210,8 +170,7 @@ module _ (l : LayoutParts) (image : List ℕ) where
   pub of_taken : (start : Start) (path : List Start) (bytes : ℕ) → Takes l image start path bytes
       → (height : ℕ) × HasHeight l image start height
   of_taken start _ bytes (Own _ _ h) = (bytes, h)
-  of_taken start _ _ (Call _ height to more bytes c rest) =
-      (height, grind arith)
+  of_taken start _ _ (Call _ height to more bytes c rest) = (height, grind arith)
 
   pub taken_above : (start : Start) (path : List Start) (bytes : ℕ) → Takes l image start path bytes → ComesAbove bytes
   taken_above start path bytes t =

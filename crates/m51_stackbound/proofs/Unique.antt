@@ -1,19 +1,18 @@
 -- Laws of the answer: two answers that are tied are the same, and the total is the sum of depths.
-use Rattle.std.proofs.lemmas.Map.Made.{IsDistinct-from_AllPairs, length-le_from_is_member}
-use Rattle.m51_stackbound.proofs.Common.{◌≡◌, ◌<◌, ◌≤◌, ℕ, zero, suc, List, [], ◌∷◌, length, map, refl, ap}
-use Rattle.m51_stackbound.proofs.Common.{arith, inl, inr, Result, Ok, Err, Contains, Contains-from_any, cases_lt}
+use Rattle.m51_stackbound.proofs.Common.{◌≡◌, ◌<◌, ◌≤◌, ℕ, zero, suc, List, [], ◌∷◌, length, map, refl, ap, arith, inl}
+use Rattle.m51_stackbound.proofs.Common.{inr, Result, Ok, Err, Contains, Contains-from_any, cases_lt}
 use Rattle.m51_stackbound.proofs.Common.{list_any-from_Contains, LayoutParts, Point, Proc, RootDepth, StackBound, Start}
 use Rattle.m51_stackbound.proofs.Common.{Reset, At, IsSound, ReachedAddress, HasTwoHeights, IsCyclic, IsTotal, Keeps}
 use Rattle.m51_stackbound.proofs.Common.{IsLeast, ◌+◌, Nothing, One, ComesTo, IsDepth}
+use Rattle.std.proofs.lemmas.Map.Made.{IsDistinct-from_AllPairs, length-le_from_is_member}
 use Rattle.m51_cells.proofs.Members.{Every, In, Pairs, all_pairs, contains_in, every_in, in_contains, in_map, map_in}
 use Rattle.std.specs.Prelude.{Some}
 use Rattle.m51_module.specs.declared.stack_bound.StackError.{StackError}
 use Rattle.m51_module.specs.declared.stack_bound.StackError.TheVariants.{K1, K2, K3, K4, K5, K6, Limit, Memory}
 use Rattle.m51_module.proofs.Units.{one_root}
 use Rattle.m51_stackbound.specs.declared.judging.Rule.TheVariants.{WritesSp, Computed, PopsBelow}
-use Rattle.m51_stackbound.specs.Bounds.{AreEach, AreFew, Answers, Breaks, IsBound, IsProc, IsRootDepth, IsTooDeep, Adds}
-use Rattle.m51_stackbound.specs.Bounds.{Two}
-use Rattle.m51_stackbound.specs.Depths.{ComesFirst, IsPath}
+use Rattle.m51_stackbound.specs.Bounds.{AreEach, AreFew, Answers, Breaks, IsBound, IsRootDepth, IsTooDeep, Adds, Two}
+use Rattle.m51_stackbound.specs.Depths.{ComesFirst}
 use Rattle.m51_stackbound.specs.Laws.{IsTied, AnswerIsUnique, DepthsAdd, NoHandler, OneHandler, TwoHandlers}
 use Rattle.m51_stackbound.specs.Laws.{IsSumOfDepths, HaveDepths, TotalIsSumOfDepths}
 use Rattle.m51_stackbound.specs.Search.{AreDifferent}
@@ -68,24 +67,12 @@ no_more xs ys different among =
     (λ q h. list_any-from_Contains laws-law q ys (among q (Contains-from_any same_point q xs h)))
 
 module _ (l : LayoutParts) (image : List ℕ) where
-  path_same : (start : Start) (p q : List Start) → IsPath l image start p → IsPath l image start q → p ≡ q
-  path_same start p q h k = grind (arith, first_same)
-
-  total_same : (a b : ℕ) → IsTotal l image a → IsTotal l image b → a ≡ b
-  total_same a b h k =
-      omega (arith, h.most b k.comes, k.most a h.comes)
-
   module _ (sound : IsSound l) where
-    proc_same : (p q : Proc) → p.at ≡ q.at → IsProc l image p → IsProc l image q → p ≡ q
-    proc_same p q e h k =
-        grind arith
-
     row_same : (start : Start) (vector : ℕ) (r s : RootDepth) → IsRootDepth l image start vector r
         → IsRootDepth l image start vector s → r ≡ s
     row_same start vector r s h k =
         let root = one_root l sound vector r.root s.root h.root k.root in
-        let path = path_same start r.path s.path h.path k.path in
-        grind arith
+        grind (arith, first_same r.path s.path)
 
     rows_same : (vs : List ℕ) (rs ss : List RootDepth)
         → AreEach (λ vector. IsRootDepth l image (At vector) vector) vs rs
@@ -100,11 +87,12 @@ module _ (l : LayoutParts) (image : List ℕ) where
     listed_in b c h k p listed =
         let is = h.procs p (contains_in b.procs p listed) in
         let other = in_map at_of c.procs p.at (grind (arith, in_contains)) in
-        rw (proc_same other.0 p other.2 (k.procs other.0 (contains_in c.procs other.0 other.1)) is) at other.1
+        let there = k.procs other.0 (contains_in c.procs other.0 other.1) in
+        grind (arith, is, other.1, other.2)
 
     bound_same : (b c : StackBound) → IsBound l image b → IsBound l image c → b ≡ c
     bound_same b c h k =
-        let total = total_same b.total c.total h.total k.total in
+        let total : b.total ≡ c.total = omega (arith, h.total.most _ k.total.comes, k.total.most _ h.total.comes) in
         let procs = same_lists b.procs c.procs (all_pairs (λ (m n : ℕ). m < n) (map at_of b.procs) h.rising)
         (all_pairs (λ (m n : ℕ). m < n) (map at_of c.procs) k.rising) (listed_in b c h k) (listed_in c b k h) in
         let heads = row_same Reset 0 h.reset k.reset h.reset_is k.reset_is in
@@ -140,8 +128,7 @@ module _ (l : LayoutParts) (image : List ℕ) where
     )
     comes_at (Err (K1 start at)) tied h = ((tt, h.0), λ k. k (record { start = start; address = at }) h.1.0)
     comes_at (Err (K2 start at)) tied h = (((tt, h.0), h.1), λ k. k (record { start = start; address = at }) h.2.0)
-    comes_at (Err (K3 start at)) tied h =
-        ((((tt, h.0), h.1), h.2), λ k. k (record { start = start; address = at }) h.3.0)
+    comes_at (Err (K3 start at)) tied h = (grind arith, λ k. k (record { start = start; address = at }) h.3.0)
     comes_at (Err (K4 start)) tied h = (grind arith, λ k. k start h.1.cyclic)
     comes_at (Err (K5 start at)) tied h = (grind arith, λ k. k (record { start = start; address = at }) h.1.0)
     comes_at (Err K6) tied h = (grind arith, λ k. k h.1)
@@ -151,10 +138,7 @@ module _ (l : LayoutParts) (image : List ℕ) where
     rung_below : (n m : ℕ) → n < m → Passes m → Rung n
     unfolding Passes
     rung_below n zero low h = absurd (omega (arith, low))
-    rung_below n (suc m) low h = elim (cases_lt n m) [
-      | inl less ↦ rung_below n m less h.0
-      | inr not_less ↦ let same : m ≡ n = omega (arith, low, not_less) in rw same at h.1
-    ]
+    rung_below n (suc m) low h = grind (arith, cases_lt n m, rung_below n m)
 
     -- an answer that comes later does not come beside one that comes earlier
     not_before : (r s : Result StackBound StackError) → IsTied r → IsTied s → Answers l image r → Answers l image s
@@ -165,39 +149,30 @@ module _ (l : LayoutParts) (image : List ℕ) where
     at_place : (E : Start → ℕ → StackError) (Is : ReachedAddress → Type 0) (s t : Start) (a b : ℕ)
         → IsLeast Is (Some (record { start = s; address = a })) → IsLeast Is (Some (record { start = t; address = b }))
         → E s a ≡ E t b
-    at_place E Is s t a b h k =
-        grind arith
+    at_place E Is s t a b h k = grind arith
 
     same_stage : (r s : Result StackBound StackError) → IsTied r → IsTied s → Answers l image r → Answers l image s
         → stage r ≡ stage s → r ≡ s
     unfolding stage
     same_stage (Err Limit) (Err Limit) one two h k e = refl
-    same_stage (Err (K1 s a)) (Err (K1 t b)) one two h k e =
-        ap Err (at_place K1 (Breaks l image WritesSp) s t a b h.1 k.1)
-    same_stage (Err (K2 s a)) (Err (K2 t b)) one two h k e =
-        ap Err (at_place K2 (Breaks l image Computed) s t a b h.2 k.2)
-    same_stage (Err (K3 s a)) (Err (K3 t b)) one two h k e =
-        ap Err (at_place K3 (Breaks l image PopsBelow) s t a b h.3 k.3)
+    same_stage (Err (K1 s a)) (Err (K1 t b)) one two h k e = cc (at_place K1 (Breaks l image WritesSp) s t a b h.1 k.1)
+    same_stage (Err (K2 s a)) (Err (K2 t b)) one two h k e = cc (at_place K2 (Breaks l image Computed) s t a b h.2 k.2)
+    same_stage (Err (K3 s a)) (Err (K3 t b)) one two h k e = cc (at_place K3 (Breaks l image PopsBelow) s t a b h.3 k.3)
     same_stage (Err (K4 s)) (Err (K4 t)) one two h k e = grind arith
-    same_stage (Err (K5 s a)) (Err (K5 t b)) one two h k e =
-        ap Err (at_place K5 (HasTwoHeights l image) s t a b h.1 k.1)
+    same_stage (Err (K5 s a)) (Err (K5 t b)) one two h k e = cc (at_place K5 (HasTwoHeights l image) s t a b h.1 k.1)
     same_stage (Err K6) (Err K6) one two h k e = refl
     same_stage (Ok b) (Ok c) one two h k e = ap Ok (bound_same b c h k)
     same_stage (Err Memory) s one two h k e = absurd one
     same_stage r s one two h k e = grind arith
 
-    pub one_answer : (r s : Result StackBound StackError) → IsTied r → IsTied s → Answers l image r → Answers l image s
-        → r ≡ s
-    one_answer r s one two h k = omega (
-      arith,
-      not_before r s one two h k,
-      cases_lt (stage s) (stage r),
-      not_before s r two one k h,
-      same_stage r s one two h k,
-    )
-
 pub answer_is_unique : AnswerIsUnique
-answer_is_unique l image sound r s one two h k = one_answer l image sound r s one two h k
+answer_is_unique l image sound r s one two h k = omega (
+  arith,
+  not_before l image sound r s one two h k,
+  cases_lt (stage s) (stage r),
+  not_before l image sound s r two one k h,
+  same_stage l image sound r s one two h k,
+)
 
 module _ (l : LayoutParts) (image : List ℕ) where
   -- what depths add is added
@@ -215,17 +190,14 @@ module _ (l : LayoutParts) (image : List ℕ) where
   module _ (have : HaveDepths l image) where
     depths_above : (bytes : ℕ) → Adds l image bytes → AddsAbove bytes
     depths_above _ Nothing = record { sum = 0; adds = NoHandler; high = omega arith }
-    depths_above _ (One v d path h t) =
-        let k = have.handler v h in
-        grind (arith, OneHandler v k.0 h k.1)
+    depths_above _ (One v d path h t) = let k = have.handler v h in grind (arith, OneHandler v k.0 h k.1)
     depths_above _ (Two v w d e path other h k ne t u) =
         let i = have.handler v h in
         let j = have.handler w k in
         grind (arith, TwoHandlers v w i.0 j.0 h k ne i.1 j.1)
 
     comes : (reset more : ℕ) → IsDepth l image Reset reset → DepthsAdd l image more → ComesTo l image (reset + more)
-    comes reset more d a =
-        grind (arith, added)
+    comes reset more d a = grind (arith, added)
 
     on : (total : ℕ) → IsTotal l image total → IsSumOfDepths l image total
     on total t =

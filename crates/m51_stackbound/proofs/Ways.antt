@@ -1,9 +1,8 @@
 -- The table of how paths continue: of the ways in which points give a depth it keeps the one that comes first.
-use Rattle.m51_stackbound.proofs.Common.{◌≡◌, ◌≢◌, ◌<◌, ◌+◌, ℕ, List, [], length, get_or, set, take, replicate, refl}
-use Rattle.m51_stackbound.proofs.Common.{sym, ap, arith, ◌⊎◌, inl, inr, Option, Some}
-use Rattle.m51_stackbound.proofs.Common.{common_steps, get_or-set_other, length-set, LayoutParts, Start, At}
-use Rattle.m51_stackbound.proofs.Common.{same_or_not, Next, Point, depth_in, next_in, AreNexts, call_of, rank}
-use Rattle.std.proofs.lemmas.Bool.{eq-eqb}
+use Rattle.m51_stackbound.proofs.Common.{◌≡◌, ◌<◌, ◌+◌, ℕ, List, [], length, get_or, set, take, replicate, refl, ap}
+use Rattle.m51_stackbound.proofs.Common.{arith, ◌⊎◌, inl, inr, Option, Some, common_steps, get_or-set_other, length-set}
+use Rattle.m51_stackbound.proofs.Common.{LayoutParts, Start, At, same_or_not, Next, Point, depth_in, next_in, AreNexts}
+use Rattle.m51_stackbound.proofs.Common.{call_of, rank}
 use Rattle.m51_stackbound.specs.declared.paths.Next.TheVariants.{Unknown, Ends, Calls}
 use Rattle.m51_stackbound.specs.Nexts.{next_by, earlier, IsNoLater, Gives, IsEarliest}
 use Rattle.m51_stackbound.proofs.Leasts.{front_cases, front_kept, front_next}
@@ -15,21 +14,16 @@ earlier_second a b = grind arith
 earlier_cases : (a b : Next) → (earlier a b ≡ a) ⊎ (earlier a b ≡ b)
 earlier_cases a b = grind arith
 
-pub blank_next : (n k : ℕ) → get_or (replicate n Unknown) k Unknown ≡ Unknown
-blank_next n k = grind (arith, common_steps)
-
 -- what the ways say of heights
 pub ends_from : (depths : List ℕ) (p : Point) (o : Option ℕ) → p.height ≡ depth_in depths p.start
     → next_by depths p o ≡ Ends
 unfolding next_by
-ends_from depths p o h =
-    cc (eq-eqb p.height (depth_in depths p.start) h)
+ends_from depths p o h = grind arith
 
 pub calls_from : (depths : List ℕ) (p : Point) (o : Option ℕ) (to : ℕ) → o ≡ Some to
     → p.height + 2 + depth_in depths (At to) ≡ depth_in depths p.start → next_by depths p o ≡ Calls to
 unfolding next_by
-calls_from depths p o to e h =
-    grind arith
+calls_from depths p o to e h = grind arith
 
 -- a call that gives the depth
 pub record IsGiving (depths : List ℕ) (p : Point) (o : Option ℕ) (to : ℕ) : Type 0 where
@@ -41,17 +35,14 @@ Says depths p o Unknown = Unit {0}
 Says depths p o Ends = p.height ≡ depth_in depths p.start
 Says depths p o (Calls to) = IsGiving depths p o to
 
-way_says : (depths : List ℕ) (p : Point) (o : Option ℕ) → Says depths p o (next_by depths p o)
-unfolding next_by
-way_says depths p o = grind arith
-
 pub says : (depths : List ℕ) (p : Point) (o : Option ℕ) (n : Next) → next_by depths p o ≡ n → Says depths p o n
-says depths p o n h = rw h at (way_says depths p o)
+unfolding next_by
+says depths p o n h = rw (← h) (grind arith)
 
 module _ (l : LayoutParts) (image : List ℕ) (points : List Point) (depths : List ℕ) where
   pub nexts_none : (count : ℕ) (nexts : List Next) → count ≡ 65537 → nexts ≡ replicate count Unknown
       → AreNexts l image [] depths nexts
-  nexts_none count nexts is e = grind (arith, common_steps, blank_next count)
+  nexts_none count nexts is e = grind (arith, common_steps)
 
   module _ (i : ℕ) (d : Point) (below : i < length points) where
     abbrev here : Point
@@ -72,19 +63,7 @@ module _ (l : LayoutParts) (image : List ℕ) (points : List Point) (depths : Li
         → IsEarliest l image (take (i + 1) points) depths start (earlier old way)
     one_more start o s h = record {
       given = grind (arith, earlier_cases o way, kept start o, newest start s);
-      earliest = λ p k q. elim (front_cases points i d p below k) [
-        | inl before ↦ grind arith
-        | inr is ↦ rw (← is) (earlier_second o way)
-      ];
-    }
-
-    -- another start
-    other_start : (start : Start) (old : Next) → here.start ≢ start
-        → IsEarliest l image (take i points) depths start old
-        → IsEarliest l image (take (i + 1) points) depths start old
-    other_start start old other h = record {
-      given = grind (arith, kept);
-      earliest = λ p k q. grind (arith, front_cases points i d p below k);
+      earliest = λ p k q. grind (arith, front_cases points i d p below k, earlier_second o way);
     }
 
     pub nexts_more : (old new : List Next) → rank here.start < length old
@@ -103,6 +82,9 @@ module _ (l : LayoutParts) (image : List ℕ) (points : List Point) (depths : Li
             )
         | inr ne ↦ rw (get_or-set_other old (rank here.start) (rank start) (earlier (next_in old here.start) way)
             Unknown ne)
-            (other_start start (next_in old start) (λ e. ne (ap rank (sym e))) (h.each start))
+            (record {
+              given = grind (arith, kept, h.each start);
+              earliest = λ p k q. grind (arith, front_cases points i d p below k, h.each start, ap rank);
+            })
       ];
     })

@@ -27,7 +27,7 @@ use m51_module::{Image, Layout, StackBound, StackError};
 use std::alloc::Global;
 
 // The first reached address at which a point of the program breaks the rule.
-#[tactic(auto, using(crate::proofs::Lifting::first_of_points))]
+#[tactic(auto, using(crate::proofs::Leasts::first_of_points))]
 fn first_broken(
     layout: &Layout,
     image: &Image,

@@ -1,7 +1,6 @@
 use Rattle.m51_stackbound.proofs.Common.{refl}
 use Rattle.m51_stackbound.proofs.Covering.{handler_root}
-use Rattle.m51_stackbound.proofs.Deciding.{covered_noted, lists}
-use Rattle.m51_stackbound.proofs.Deciding.{tables}
+use Rattle.m51_stackbound.proofs.Deciding.{covered_noted, lists, tables}
 use Rattle.m51_stackbound.proofs.bounding.listed.Goals as goal
 
 pub procs_of-requires-clause-covered : goal.procs_of-requires-clause-covered

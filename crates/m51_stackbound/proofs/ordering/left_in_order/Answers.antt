@@ -1,10 +1,10 @@
-use Rattle.m51_stackbound.proofs.CallRows.{marks_len}
+use Rattle.m51_stackbound.proofs.Common.{length-replicate}
 use Rattle.m51_stackbound.proofs.ordering.left_in_order.Goals as goal
 use Rattle.m51_stackbound.proofs.ordering.left_in_order.Goals.{in-Some+in_ok-follow}
 use Rattle.m51_stackbound.proofs.ordering.left_in_order.Goals.{in_default+then-first-lt-ADDRESSES+in_ok-enter}
 
 pub loop-init : goal.loop-init
-loop-init c = marks_len 65536 c.in_ok-entered.entered.items c.in_ok-entered.ensures
+loop-init c = rw (c.in_ok-entered.ensures, length-replicate)
 
 pub loop-preserved : goal.loop-preserved
 loop-preserved c = elim c.match-pop.branch [

@@ -1,22 +1,18 @@
 -- The heaviest walks, raised along the edges and followed from each root.
-use Rattle.m51_place.proofs.Common.{◌||◌, ◌≡◌, inl, inr, ℕ, ◌<◌, false, tally, Edges, HasEdge, leads, cases_Bool, ◌+◌}
-use Rattle.m51_place.proofs.Common.{◌≤◌, true, Bool, List, [], ◌∷◌, ◌++◌, length, map, take, get_or, refl, sym, ap}
-use Rattle.m51_place.proofs.Common.{subst, ◌∙◌, arith, false≢true, sum_by-cons, LayoutParts, weight_along, weight_of}
-use Rattle.m51_place.proofs.Common.{Contains-append_left, IsSound, none_in_empty, IsRising, ◌≢◌, ◌⊎◌, drop, Option}
-use Rattle.m51_place.proofs.Common.{Some, None, append_assoc}
-use Rattle.m51_place.proofs.Common.{nat_lt, append-nil, cases_lt, Chain, IsWalk, drop_rest, IsFront}
-use Rattle.std.proofs.Common.{set, sum}
-use Rattle.std.proofs.lemmas.List.{take_more, get_or-set_same, get_or-set_other, length-set, drop_all}
-use Rattle.std.proofs.lemmas.List.Elements.{Contains-push, Contains-push_cases, Contains-get_or}
-use Rattle.std.proofs.lemmas.List.Sums.{sum_by-set}
+use Rattle.m51_place.proofs
+use Rattle.m51_place.specs
+use proofs.Common.{IsHeaviestFrom, IsNextAmong, LayoutParts, [], append_assoc, cases_order, none_in_empty, weight_along}
+use proofs.Common.{AreReached, ComesFirst, IsHeaviest, append-nil, cases_Bool, false≢true, inl, sum_by-cons, sum_by-set}
+use proofs.Common.{ChainsAt, HasNoRoot, IsNext, IsRising, IsRootAt, cases_lt, drop_rest, ltb-false, ltb-true, weight_of}
+use proofs.Common.{Chain, Edges, HasEdge, IsFront, IsSound, IsWalk, Option, arith, false, get_or, leads, length, nat_lt}
+use proofs.Common.{Bool, List, None, Some, drop, inr, map, refl, set, subst, sum, sym, take, tally, true, ℕ, ◌++◌, ◌||◌}
+use proofs.Common.{ap, ◌+◌, ◌<◌, ◌∙◌, ◌∷◌, ◌≡◌, ◌≢◌, ◌≤◌, ◌⊎◌}
 use Rattle.m51_cells.proofs.ListsAndOptions.{sum_most}
 use Rattle.m51_module.proofs.Units.{same_or_not}
-use Rattle.m51_place.specs.Heaviest.{AreReached, AreWeights, HasWalk, Lifts, AreBest, FollowsHeaviest, IsHeaviestFrom}
-use Rattle.m51_place.specs.Heaviest.{HasRoom, IsNext, IsNextAmong, LeadsOn, lesser, Steps}
-use Rattle.m51_place.proofs.Weights.{walk_bound}
-use Rattle.std.proofs.lemmas.Bool.{cases_order, ltb-false, ltb-true}
-use Rattle.m51_module.specs.Chains.{ChainsAt, ComesFirst, HasNoRoot, IsHeaviest}
-use Rattle.m51_module.specs.Plan.{IsRootAt}
+use Rattle.std.proofs.lemmas.List.{drop_all, get_or-set_other, get_or-set_same, length-set, take_more}
+use Rattle.std.proofs.lemmas.List.Elements.{Contains-append_left, Contains-get_or, Contains-push, Contains-push_cases}
+use specs.Heaviest.{AreBest, AreWeights, FollowsHeaviest, HasRoom, HasWalk, LeadsOn, Lifts, Steps, lesser}
+use proofs.Weights.{walk_bound}
 
 -- How many units reach a unit: more along each edge.
 

@@ -1,22 +1,17 @@
 -- Owners of joined segments and their conflict, decided.
-use Rattle.m51_place.proofs.Common.{◌≡◌, ◌≢◌, ◌⊎◌, inl, inr, ℕ, true, false, Bool, cond, not, ◌&&◌, nat_eq, List, []}
-use Rattle.m51_place.proofs.Common.{◌∷◌, length, Option, Some, None, refl, sym, arith, slice_get, option_map_or}
-use Rattle.m51_place.proofs.Common.{Decides, Contains, list_any, range_with_len, false≢true, Decides-eqb}
-use Rattle.m51_place.proofs.Common.{same_from_decides, Space, AreRelated, Same, Before, After, FirstUnderNone}
-use Rattle.m51_place.proofs.Common.{SecondUnderNone, UnderTwo, FirstPlain, SecondPlain, Owners, vectors, HasEdge}
-use Rattle.m51_place.proofs.Common.{Reaches, contains_behind, first_or_behind, none_in_empty, GraphParts, edge_test}
-use Rattle.m51_place.proofs.Common.{IsArgument, IsOwn, Owns, SegmentsConflict, UnitLiesUnder, joined_graph, and_decides}
-use Rattle.m51_place.proofs.Common.{above_tells, Numbered, are_owners_related, in_conflict, is_argument_at, owners_at}
-use Rattle.m51_place.proofs.Common.{owners_with, own_at, conflicting, extents_in, none-some}
-use Rattle.m51_place.proofs.Numbering.{filter_in}
-use Rattle.std.proofs.lemmas.Bool.Decides.{Decides-like, Decides-not}
+use Rattle.m51_place.proofs
+use proofs.Common.{FirstUnderNone, SecondUnderNone, SegmentsConflict, contains_behind, first_or_behind, range_with_len}
+use proofs.Common.{SecondPlain, UnitLiesUnder, [], above_tells, conflicting, joined_graph, none_in_empty, option_map_or}
+use proofs.Common.{AreRelated, Bool, FirstPlain, GraphParts, IsArgument, edge_tells, extents_in, false≢true, in_the_way}
+use proofs.Common.{Contains, Decides, HasEdge, Numbered, UnderTwo, edge_test, filter_in, list_any, none-some, slice_get}
+use proofs.Common.{After, Before, IsOwn, Option, Owners, Reaches, Space, arith, false, length, nat_eq, own_at, vectors}
+use proofs.Common.{List, None, Owns, Same, Some, cond, inl, inr, not, refl, sym, true, ℕ, ◌∷◌, ◌≡◌, ◌≢◌, ◌⊎◌}
 use Rattle.m51_cells.proofs.Members.{contains_in, in_contains, in_filter, range_in}
+use Rattle.m51_graph.proofs.Deciding.{and_decides, any_decides, leads_tells, or_decides}
 use Rattle.m51_graph.specs.Graph.{AreOfUnits, IsOverlaid}
-use Rattle.m51_graph.proofs.Closed.{edge_tells}
-use Rattle.m51_graph.proofs.Deciding.{any_decides, leads_tells, or_decides}
-use Rattle.m51_place.specs.Conflicts.{are_apart, are_on_walk, are_related, are_under_two, callers_of, is_under}
-use Rattle.m51_place.specs.Conflicts.{is_under_none}
-use Rattle.m51_place.specs.InTheWay.{in_the_way}
+use Rattle.std.proofs.lemmas.Bool.Decides.{Decides-eqb, Decides-like, Decides-not}
+use Rattle.m51_place.specs.Conflicts.{are_on_walk, are_owners_related, are_under_two, is_argument_at, is_under_none}
+use Rattle.m51_place.specs.Conflicts.{are_apart, are_related, callers_of, in_conflict, is_under, owners_at, owners_with}
 
 -- a value that is read and is not the default is an element
 read_found : {A : Type 0} (o : Option A) (none x : A) → (none ≡ x → ⊥) → option_map_or (λ y. y) o none ≡ x
@@ -102,11 +97,9 @@ module _ (g : GraphParts) where
 
     two_tells : (one two : ℕ) → Decides (are_under_two g one two) (IsUnderTwo one two)
     unfolding are_under_two
-    two_tells one two =
-        let differ : ℕ → ℕ → Bool = λ x y. not (nat_eq x y) && (is_under g x one && is_under g y two) in
-        any_decides (λ x. list_any (differ x) vectors) (λ x. (y : ℕ) × Contains vectors y × Two one two x y)
-        (λ x. any_decides (differ x) (Two one two x) (λ y. and_decides _ _ (differ_tells x y)
-        (and_decides _ _ (above_tells g x one) (above_tells g y two))) vectors) vectors
+    two_tells one two = any_decides _ _ (λ x. any_decides _ (Two one two x)
+        (λ y. and_decides _ _ (differ_tells x y) (and_decides _ _ (above_tells g x one) (above_tells g y two)))
+        vectors) vectors
 
     abbrev OnWalk : ℕ → ℕ → Type 0
     OnWalk one two = (one ≡ two) ⊎ (Reaches g.edges one two ⊎ Reaches g.edges two one)
@@ -115,12 +108,10 @@ module _ (g : GraphParts) where
     Apart one two = UnderNone one ⊎ (UnderNone two ⊎ IsUnderTwo one two)
 
     walk_tells : (one two : ℕ) → Decides (are_on_walk g one two) (OnWalk one two)
-    walk_tells one two =
-        search (or_decides, Decides-eqb, leads_tells)
+    walk_tells one two = search (or_decides, Decides-eqb, leads_tells)
 
     apart_tells : (one two : ℕ) → Decides (are_apart g one two) (Apart one two)
-    apart_tells one two =
-        search (or_decides, none_tells, two_tells)
+    apart_tells one two = search (or_decides, none_tells, two_tells)
 
     sides : (one two : ℕ) → OnWalk one two ⊎ Apart one two → AreRelated (joined_graph g) one two
     sides one two (inl (inl same)) = Same same
@@ -151,9 +142,7 @@ module _ (g : GraphParts) where
 
     near_tells : (ones twos : List ℕ)
         → Decides (list_any (λ x. list_any (are_related g x) twos) ones) ((a : ℕ) × Contains ones a × Near twos a)
-    near_tells ones twos =
-        any_decides (λ x. list_any (are_related g x) twos) (Near twos)
-        (λ a. any_decides (are_related g a) (AreRelated (joined_graph g) a) (related_tells a) twos) ones
+    near_tells ones twos = any_decides _ (Near twos) (λ a. any_decides _ _ (related_tells a) twos) ones
 
     no_owner : (s : ℕ) → owners_at g s ≡ [] → IsOverlaid g s → ⊥
     no_owner s h o = cc (rw (own_read s o.0 o.1) at h)
@@ -187,9 +176,6 @@ module _ (g : GraphParts) where
         Decides-like _ (λ h. h.1) (λ h. (differ, h))
         (and_decides (not (nat_eq s t)) (are_owners_related g (owners_at g s) (owners_at g t)) (differ_tells s t)
         (segments_tell s t))
-
-    pub conflict_is : (s t : ℕ) (r : Bool) → s ≢ t → Decides r (SegmentsConflict g s t) → r ≡ in_conflict g s t
-    conflict_is s t r differ h = same_from_decides r (in_conflict g s t) h (conflict_tells s t differ)
 
 -- the extents of a memory in conflict with a segment are those in conflict that lie in it
 pub in_the_way_is : (g : GraphParts) (number : ℕ) (space : Space) (es : List Numbered) → in_the_way g number space es

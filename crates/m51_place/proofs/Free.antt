@@ -1,25 +1,25 @@
 -- The bases that are free of what was placed before, and the segments that are placed there one after another.
-use Rattle.m51_place.proofs.Common.{◌≡◌, ℕ, zero, suc, ◌+◌, ◌<◌, ◌≤◌, false, Bool, refl, sym, ◌∙◌, arith, Decides, ◌&&◌}
-use Rattle.m51_place.proofs.Common.{false≢true, same_from_decides, Space, Extent, Kind, Direct, Number, Reloc, Covers}
-use Rattle.m51_place.proofs.Common.{Meet, Fits, parted, and_decides, same_space, ◌≢◌, inl, inr, true, not, List, []}
-use Rattle.m51_place.proofs.Common.{◌∷◌, Option, Some, None, ap, find, MatchOption, list_all, range_with_len, and_parts}
-use Rattle.m51_place.proofs.Common.{IsPermutation, All-permutation, cases_Bool, cases_lt, UnitType, extent_of, Placed}
-use Rattle.m51_place.proofs.Common.{extent_at, extents_in, ◌++◌, filter, map, Result, Ok, Err, append_assoc, nat_eq}
-use Rattle.m51_place.proofs.Common.{option_map_or, slice_get, append-nil, L12, GraphParts, Numbered, Ranked, Refusal}
-use Rattle.m51_place.proofs.Common.{base_for, located_at, place_after, conflicting, in_conflict_with, ◌-◌, ◌*◌, subst}
-use Rattle.m51_place.proofs.Common.{Ram, Cell, AreOneRun, IsOpen, ◌⊎◌, list_any, nat_lt}
-use Rattle.std.proofs.lemmas.Bool.Decides.{nat_tests, Decides-by_and, Decides-like, Decides-not}
-use Rattle.std.specs.Prelude.{IfSome, ◌↔◌}
-use Rattle.m51_cells.proofs.Meeting.{shared}
-use Rattle.m51_place.specs.Bases.{overlap, share, fits_at, HasNoBase, is_free, IsApart, IsFree, IsLeastBase, least_base}
-use Rattle.std.proofs.lemmas.Bool.{cases_eq, false_from_ne_true, eq-eqb, eqb-true, lt-ltb, ltb-true}
-use Rattle.std.proofs.lemmas.List.Sorted.{IsPermutation-sym}
-use Rattle.m51_place.specs.Laws.{LeastIsLeast}
-use Rattle.m51_bases.specs.Raising.{IsClear, IsFirstClear, IsOutside, NoneIsClear}
-use Rattle.m51_cells.proofs.Members.{all_every, Every, every_all, every_weaker, Pairs, pairs_push, every_in, every_of}
-use Rattle.m51_cells.proofs.Members.{In, in_cases, in_left, in_right, every_map, map_got, map_in, total, total-append}
-use Rattle.m51_cells.proofs.Members.{total_map, in_contains, in_filter, in_map}
-use Rattle.std.proofs.lemmas.List.Folds.{Any-from_list_any}
+use Rattle.m51_place.proofs
+use proofs.Common.{Any-from_list_any, IsPermutation, LeastIsLeast, false_from_ne_true, in_conflict_with, range_with_len}
+use proofs.Common.{Decides, GraphParts, IsLeastBase, MatchOption, append_assoc, conflicting, option_map_or, place_after}
+use proofs.Common.{HasNoBase, IsApart, and_parts, append-nil, cases_Bool, extent_at, extents_in, false≢true, located_at}
+use proofs.Common.{Numbered, Refusal, UnitType, base_for, cases_eq, cases_lt, eqb-true, extent_of, nat_tests, slice_get}
+use proofs.Common.{Covers, Direct, IfSome, IsFree, Number, Option, Pairs, Placed, list_all, list_any, ltb-true, overlap}
+use proofs.Common.{Bool, Err, Ranked, Reloc, Result, Space, arith, eq-eqb, false, filter, lt-ltb, nat_eq, nat_lt, subst}
+use proofs.Common.{Fits, Kind, L12, List, Meet, None, Ram, Some, find, inl, inr, map, not, refl, true, zero, ◌&&◌, ◌++◌}
+use proofs.Common.{In, Ok, [], ap, suc, sym, ℕ, ◌*◌, ◌+◌, ◌-◌, ◌<◌, ◌↔◌, ◌∙◌, ◌∷◌, ◌≡◌, ◌≢◌, ◌≤◌, ◌⊎◌}
+use Rattle.m51_bases.specs.Raising.{IsClear, IsFirstClear, IsOutside, NoneIsClear, same_space}
+use Rattle.m51_cells.proofs.Meeting.{parted, shared}
+use Rattle.m51_cells.proofs.Members.{all_every, every_all, every_weaker, in_contains, in_left, pairs_push, total-append}
+use Rattle.m51_cells.proofs.Members.{every_in, every_map, every_of, in_cases, in_filter, in_right, map_got, total_map}
+use Rattle.m51_cells.proofs.Members.{Every, in_map, map_in, total}
+use Rattle.m51_cells.specs.declared.cell.Cell.{Cell}
+use Rattle.m51_cells.specs.declared.extent.Extent.{Extent}
+use Rattle.m51_graph.proofs.Deciding.{and_decides}
+use Rattle.std.proofs.lemmas.Bool.Decides.{Decides-by_and, Decides-like, Decides-not}
+use Rattle.std.proofs.lemmas.List.Sorted.{All-permutation, IsPermutation-sym}
+use Rattle.m51_place.specs.Bases.{fits_at, is_free, least_base, share}
+use Rattle.m51_place.specs.Overlay.{AreOneRun, IsOpen}
 
 -- where no element passes a test, each fails
 pub all_fail : {A : Type 0} (test : A → Bool) (xs : List A) → list_any test xs ≡ false → Every (λ x. test x ≡ false) xs
@@ -51,15 +51,17 @@ share_tells a b =
           both.1 (sym ca.space ∙ cb.space, ((o.first_some, o.second_some), (o.first_before, o.second_before))),
     )
 
-pub share_is : (a b : Extent) (r : Bool) → Decides r (Meet a b) → r ≡ share a b
-share_is a b r h = same_from_decides r (share a b) h (share_tells a b)
-
 -- fitting
 
 pub fits_tells : (kind : Kind) (reloc : Reloc) (base size : ℕ)
     → Decides (fits_at kind reloc base size) (Fits kind reloc base size)
 unfolding fits_at
 fits_tells kind reloc base size = (λ h. grind (arith, nat_tests), λ h. grind (arith, nat_tests))
+
+-- where the cells of segments end
+pub cells_end : (kind : Kind) (base size : ℕ) → base < 65536 → size < 65536
+    → (extent_of kind base size).first + (extent_of kind base size).len ≤ 1048576
+cells_end kind base size b s = grind arith
 
 -- The first base that is found free is the least of all, and so is the first that is clear of the extents in one
 -- memory.
@@ -130,14 +132,8 @@ start_low : (kind : Kind) → start kind ≤ 32
 unfolding start
 start_low kind = grind arith
 
-no_cells : (kind : Kind) (base : ℕ) → (extent_of kind base 0).len ≡ 0
-no_cells kind base = grind arith
-
 nothing_met : (kind : Kind) (base : ℕ) (e : Extent) → Meet e (extent_of kind base 0) → ⊥
-nothing_met kind base e meet = omega (arith, no_cells kind base, (parted e (extent_of kind base 0) meet).second_some)
-
-fits_kind : (kind : Kind) (reloc : Reloc) (base size : ℕ) → Fits kind reloc base size → kind ≢ Number
-fits_kind kind reloc base size h e = rw e at h
+nothing_met kind base e meet = let some = (parted e (extent_of kind base 0) meet).second_some in grind (arith, some)
 
 -- where a base is free, one below 65,536 is
 low_free : (others : List Placed) (kind : Kind) (reloc : Reloc) (size base : ℕ) → IsFree others kind reloc size base
@@ -147,7 +143,7 @@ low_free others kind reloc zero base h = (
   start kind,
   omega (arith, start_low kind),
   record {
-    fits = start_fits kind reloc (fits_kind kind reloc base 0 h.fits);
+    fits = start_fits kind reloc (λ e. rw e at h.fits);
     apart = λ k d below. record { none = λ meet. nothing_met kind (start kind) _ meet };
   },
 )

@@ -1,9 +1,7 @@
 pub mod Chained
 pub mod Common
 pub mod Conflicting
-pub mod Ends
 pub mod Free
-pub mod Numbering
 pub mod Ordered
 pub mod Piled
 pub mod Ranks

@@ -1,29 +1,23 @@
 -- Overlaid segments in the order: they stand together, by the roots above their units and the levels of those.
-use Rattle.m51_place.proofs.Common.{◌≡◌, inl, inr, ℕ, zero, suc, ◌+◌, ◌-◌, ◌<◌, ◌≤◌, false, Bool, not, List, [], ◌∷◌}
-use Rattle.m51_place.proofs.Common.{Option, Some, None, unwrap_or, refl, sym, subst, ◌∙◌, arith, find, range_with_len}
-use Rattle.m51_place.proofs.Common.{cases_lt, false≢true, not-true, Edges, HasEdge, IsWalk, Reaches, true, cond, nat_eq}
-use Rattle.m51_place.proofs.Common.{◌++◌, length, get_or, ap, nat_lt, is_some, and_parts, fails_before_first, Direct}
-use Rattle.m51_place.proofs.Common.{UnitType, AreRelated, Same, Before, After, FirstUnderNone, SecondUnderNone}
-use Rattle.m51_place.proofs.Common.{UnderTwo, FirstPlain, SecondPlain, Owners, vectors, GraphParts, IsArgument, IsGraph}
-use Rattle.m51_place.proofs.Common.{IsOwn, Owns, SegmentsConflict, UnitLiesUnder, joined_graph, lies_under, leads}
-use Rattle.m51_place.proofs.Common.{above_tells, Control, JoinedSegment, Ranked, are_owners_related, in_conflict}
-use Rattle.m51_place.proofs.Common.{owners_at, own_at, before_by, class_number, comes_before, group_before}
-use Rattle.m51_place.proofs.Common.{group_number, order_of, root_number, before_overlaid, overlaid_in, OverlaysData}
-use Rattle.m51_place.proofs.Common.{cases_Bool}
-use Rattle.std.proofs.lemmas.Bool.{not-false}
-use Rattle.std.proofs.lemmas.Bool.Decides.{nat_tests}
-use Rattle.m51_module.specs.Walks.{last_of}
-use Rattle.m51_graph.specs.Levels.{EndsWalk, ends_walk, level_of}
-use Rattle.m51_graph.proofs.Climbing.{ends_on, walk_short}
-use Rattle.m51_graph.proofs.Walking.{ends_walk_tells, fewer}
-use Rattle.m51_place.proofs.Free.{find_first}
-use Rattle.std.proofs.lemmas.List.Sums.{passes_at_first}
+use Rattle.m51_place.proofs
+use proofs.Common.{FirstUnderNone, SecondUnderNone, SegmentsConflict, class_number, fails_before_first, passes_at_first}
+use proofs.Common.{JoinedSegment, UnitLiesUnder, comes_before, group_before, group_number, joined_graph, range_with_len}
+use proofs.Common.{AreRelated, FirstPlain, GraphParts, IsArgument, SecondPlain, above_tells, cases_Bool, root_number, ℕ}
+use proofs.Common.{UnderTwo, and_parts, before_by, false≢true, lies_under, nat_tests, not-false, unwrap_or, walk_short}
+use proofs.Common.{Before, Control, HasEdge, IsGraph, Reaches, UnitType, cases_lt, ends_on, is_some, not-true, order_of}
+use proofs.Common.{Direct, IsWalk, Option, Owners, Ranked, [], get_or, last_of, length, nat_eq, nat_lt, own_at, vectors}
+use proofs.Common.{After, Bool, Edges, IsOwn, List, None, Owns, Pairs, Same, Some, ap, arith, cond, false, leads, subst}
+use proofs.Common.{find, inl, inr, not, refl, suc, sym, true, zero, ◌++◌, ◌+◌, ◌-◌, ◌<◌, ◌∙◌, ◌∷◌, ◌≡◌, ◌≤◌}
+use Rattle.m51_cells.proofs.Members.{Every, every_append, every_right, every_weaker}
 use Rattle.m51_control.specs.declared.control.Class.TheVariants.{Direct as DirectClass}
+use Rattle.m51_graph.proofs.Walking.{ends_walk_tells, fewer}
+use Rattle.m51_graph.specs.Levels.{EndsWalk, ends_walk, level_of}
+use Rattle.m51_place.specs.Conflicts.{are_owners_related, in_conflict, owners_at}
+use Rattle.m51_place.specs.Overlay.{OverlaysData, before_overlaid, overlaid_in}
 use Rattle.m51_place.specs.declared.ranked.Group.TheVariants.{Overlaid}
-use Rattle.m51_place.specs.Order.{group_unless_overlaid, naming_of}
-use Rattle.m51_place.proofs.Conflicting.{own_is, segments_tell}
-use Rattle.m51_cells.proofs.Members.{Every, every_append, every_right, every_weaker, Pairs}
-use Rattle.m51_place.proofs.Ranks.{front_within, IsRankedOf, order_ranked, Earlier, order_rises}
+use proofs.Conflicting.{own_is, segments_tell}
+use proofs.Free.{find_first}
+use proofs.Ranks.{Earlier, IsRankedOf, front_within, order_ranked, order_rises}
 
 -- Levels rise along walks.
 
@@ -135,11 +129,8 @@ between g t u v a b h k =
     (rw (a.local.class, a.local.group) at h) in
     let second = numbers_rise (class_number u.rank.class) 2 (group_number u.rank.group) 2 _
     (rw (b.local.class, b.local.group) at k) in
-    let same = le_both _ _ first.roots second.roots in
-    sym (le_both _ _ (first.levels same) (second.levels (sym same)))
-  where
-    le_both : (x y : ℕ) → x ≤ y → y ≤ x → x ≡ y
-    le_both x y p q = omega (arith, p, q)
+    let same : 2 ≡ class_number u.rank.class = omega (arith, first.roots, second.roots) in
+    omega (arith, first.levels same, second.levels (sym same))
 
 -- an order, split at its overlaid segments
 pub record AreParts (g : GraphParts) (order : List Ranked) : Type 0 where
@@ -201,16 +192,12 @@ parts g (t ∷ more) either rising =
           }
     ]
 
--- a plain segment is in no group of overlaid ones
-plain_groups : (j : JoinedSegment) (naming : Option ℕ) → group_number (group_unless_overlaid j naming) ≡ 2 → ⊥
-plain_groups j naming h = grind arith
-
 module _ (g : GraphParts) (controls : List (ℕ × Control)) (segments : List JoinedSegment)
     (data_only : OverlaysData segments g) where
   either : (t : Ranked) (own : Option ℕ) → IsRankedOf g controls segments t → t.own ≡ own → IsEither g t
   either t None is h = OnePlain h (record {
     lone = sym is.own ∙ h;
-    other = λ two. plain_groups t.segment (naming_of controls t.segment) (rw (is.rank, h) at two);
+    other = λ two. let in_group = rw (is.rank, h) at two in grind (arith, in_group);
   })
   either t (Some unit) is h =
       let own = own_is g t.number unit (sym is.own ∙ h) in
@@ -333,14 +320,13 @@ pub split : (order : List Ranked) → order ≡ before_overlaid order ++ from_ov
 split [] = refl
 split (t ∷ more) = grind (arith, split more)
 
-no_own : (own : Option ℕ) → is_some own ≡ false → own ≡ None
-no_own own h = grind arith
-
 -- those before it are plain
 pub lone_before : (g : GraphParts) (controls : List (ℕ × Control)) (segments : List JoinedSegment)
     (order : List Ranked) → Every (IsRankedOf g controls segments) order → Every (IsPlain g) (before_overlaid order)
 lone_before g controls segments [] h = tt
 lone_before g controls segments (t ∷ more) h = elim (cases_Bool (is_some t.own)) [
   | inl own ↦ rw own tt
-  | inr none ↦ rw none (sym h.0.own ∙ no_own t.own none, lone_before g controls segments more h.1)
+  | inr none ↦
+      let bare : t.own ≡ None = grind (arith, none) in
+      rw none (sym h.0.own ∙ bare, lone_before g controls segments more h.1)
 ]

@@ -1,28 +1,23 @@
 -- How high overlaid DATA is piled, and that each segment has a base where the run is long enough.
-use Rattle.m51_place.proofs.Common.{◌≡◌, inl, inr, ℕ, ◌+◌, true, false, Bool, ◌&&◌, cond, List, [], ◌∷◌, Option, Some}
-use Rattle.m51_place.proofs.Common.{None, refl, sym, ap, ◌∙◌, arith, slice_get, option_map_or, and_parts, cases_Bool}
-use Rattle.m51_place.proofs.Common.{is_absolute, Control, Overlaid, is_overlaid_data, JoinedSegment, GraphParts}
-use Rattle.m51_place.proofs.Common.{Numbered, Ranked, order_of, own_at, ranked_from, bytes_joined, overlaid_in}
-use Rattle.m51_place.proofs.Common.{located_at, mark_of, zero, suc, ◌<◌, ◌≤◌, nat_eq, ◌++◌, get_or, subst, cases_lt}
-use Rattle.m51_place.proofs.Common.{nat_lt, sum_along, vectors, Edges, IsWalk, Reaches, IsGraph, IsRootAt, root_number}
-use Rattle.m51_place.proofs.Common.{AreOneRun, ◌*◌, ◌/◌, Ok, Err, append_assoc, append-nil, Direct, extent_of}
-use Rattle.m51_place.proofs.Common.{Covers, IsOwn, in_conflict, base_for, conflicting, in_conflict_with}
-use Rattle.m51_place.proofs.Common.{place_after, length, Chain, ChainsFrom, ProgramGraph}
-use Rattle.m51_place.proofs.Free.{AreAfter, later_total, Answer, least_is_least, AtLow, IsOut, IsSeated, base_cases}
-use Rattle.m51_place.proofs.Free.{OnTop, open_out, ram, seated, free_at}
-use Rattle.m51_cells.proofs.Members.{Every, total, total_moved, total-append, every_append, every_in}
-use Rattle.m51_cells.proofs.Members.{every_weaker, In, in_cases, every_of, Pairs}
-use Rattle.m51_place.proofs.Ranks.{IsRankedOf, order_moves, Earlier}
-use Rattle.m51_place.proofs.Weights.{bytes, is_data, Local, along_total}
-use Rattle.m51_place.proofs.Numbering.{at_number, with_numbers}
-use Rattle.std.proofs.lemmas.Bool.{cases_eq, eq-eqb, ltb-true}
-use Rattle.m51_module.specs.Walks.{last_of}
-use Rattle.std.proofs.lemmas.Bool.Decides.{nat_tests}
-use Rattle.m51_place.proofs.Ordered.{EarlierRoot, few_roots, Leads, Precedes, root_above, SameUnit, UnderNone}
-use Rattle.m51_place.proofs.Ordered.{IsLocalOne, precedes}
-use Rattle.m51_place.specs.Bases.{IsFree}
-use Rattle.m51_place.proofs.Conflicting.{own_read}
-use Rattle.m51_module.specs.Chains.{IsHeaviestWalk}
+use Rattle.m51_place.proofs
+use proofs.Common.{IsHeaviestWalk, JoinedSegment, Numbered, ProgramGraph, append_assoc, in_conflict_with, option_map_or}
+use proofs.Common.{ChainsFrom, and_parts, conflicting, is_absolute, place_after, ranked_from, root_number, with_numbers}
+use proofs.Common.{GraphParts, append-nil, at_number, base_for, cases_Bool, extent_of, located_at, nat_tests, slice_get}
+use proofs.Common.{Bool, Control, IsGraph, Reaches, cases_eq, cases_lt, last_of, ltb-true, order_of, sum_along, vectors}
+use proofs.Common.{Covers, Direct, IsFree, IsWalk, List, Option, Ranked, eq-eqb, get_or, length, nat_eq, nat_lt, own_at}
+use proofs.Common.{Chain, Edges, Err, IsOwn, None, Pairs, Some, arith, cond, inl, refl, subst, true, zero, ◌&&◌, ◌++◌}
+use proofs.Common.{In, Ok, [], ap, inr, suc, sym, ℕ, ◌*◌, ◌+◌, ◌/◌, ◌<◌, ◌∙◌, ◌∷◌, ◌≡◌, ◌≤◌}
+use Rattle.m51_cells.proofs.Members.{Every, every_append, every_in, every_of, every_weaker, total-append, total_moved}
+use Rattle.m51_cells.proofs.Members.{in_cases, total}
+use Rattle.m51_graph.specs.Graph.{IsRootAt}
+use Rattle.m51_place.specs.Conflicts.{in_conflict}
+use Rattle.m51_place.specs.Overlay.{AreOneRun, bytes_joined, overlaid_in}
+use proofs.Conflicting.{own_read}
+use proofs.Free.{Answer, AreAfter, AtLow, IsSeated, base_cases, free_at, later_total, least_is_least, open_out, seated}
+use proofs.Free.{IsOut, OnTop, ram}
+use proofs.Ordered.{EarlierRoot, IsLocalOne, Leads, Precedes, SameUnit, UnderNone, few_roots, precedes, root_above}
+use proofs.Ranks.{Earlier, IsRankedOf, order_moves}
+use proofs.Weights.{Local, along_total, bytes, is_data}
 
 -- The bytes of overlaid DATA in what is placed, in an order and among joined segments are one number.
 
@@ -39,12 +34,6 @@ placed_bytes g test e = bytes test (local_at g e)
 
 abbrev pub ranked_bytes : GraphParts → (ℕ → Bool) → Ranked → ℕ
 ranked_bytes g test t = placed_bytes g test (located_at t 0)
-
--- the bytes of a joined segment
-one_joined : (test : ℕ → Bool) (j : JoinedSegment) (own : Option ℕ)
-    → cond (option_map_or test own false) (cond (is_overlaid_data j.kind j.reloc (mark_of own)) j.size 0) 0
-    ≡ cond (is_overlaid_data j.kind j.reloc Overlaid && option_map_or test own false) j.size 0
-one_joined test j own = grind arith
 
 module _ (g : GraphParts) (test : ℕ → Bool) where
   bare_sum : (es : List Numbered) → Every (λ e. own_of g e ≡ None) es → total (placed_bytes g test) es ≡ 0
@@ -66,7 +55,7 @@ module _ (g : GraphParts) (test : ℕ → Bool) where
         → total (ranked_bytes g test) (ranked_from g controls number rest) ≡ bytes_joined g test number rest
     joined_sum number [] plain = refl
     joined_sum number (j ∷ more) plain =
-        grind (arith, joined_sum (number + 1) more plain.1, plain.0, one_joined test j (own_at g number))
+        grind (arith, joined_sum (number + 1) more plain.1, plain.0)
 
     -- the overlaid segments of an order have all the bytes that count
     overlaid_sum : (order : List Ranked) → Every (IsRankedOf g controls segments) order
@@ -245,32 +234,28 @@ module _ (s : Scene) where
         let here : placed_bytes s.g test e ≡ size = rw (own_is, data_is, is) in
         omega (arith, total-append (placed_bytes s.g test) done (e ∷ []), here)
 
-    own : sum (nat_eq unit) more ≡ sum (nat_eq unit) done + size
-    own = pushed (nat_eq unit) (eq-eqb unit unit refl)
-
-    loose : number unit ≡ 7 → sum s.free more ≡ sum s.free done + size
-    loose seven = pushed s.free (s.is_free unit seven)
+    -- where it begins no higher than a segment of its unit may end
+    on_same : (base : ℕ) → IsHigh done unit base → IsHigh more unit (base + size)
+    on_same base h = record {
+      under = λ below. let u = h.under below in
+          (u.0, u.1, omega (arith, u.2, pushed (nat_eq unit) (eq-eqb unit unit refl)));
+      bare = λ seven. omega (arith, h.bare seven, pushed s.free (s.is_free unit seven));
+    }
 
     -- where it begins no higher than the roots before its own
     pub fresh : (base : ℕ) → base ≤ s.low + top (number unit) → IsHigh more unit (base + size)
-    fresh base h = record {
-      under = λ below. (0, first_walk unit below, omega (arith, h, own));
-      bare = λ seven. omega (arith, h, loose seven, ap top seven);
-    }
-
-    on_same : (base : ℕ) → IsHigh done unit base → IsHigh more unit (base + size)
-    on_same base h = record {
-      under = λ below. let u = h.under below in (u.0, u.1, omega (arith, u.2, own));
-      bare = λ seven. omega (arith, h.bare seven, loose seven);
-    }
+    fresh base h = on_same base (record {
+      under = λ below. (0, first_walk unit below, omega (arith, h));
+      bare = λ seven. omega (arith, h, ap top seven);
+    })
 
     on_caller : (base u : ℕ) → number u ≡ number unit → Reaches s.g.edges u unit → sum (nat_eq u) done ≤ s.w u
         → IsHigh done u base → IsHigh more unit (base + size)
-    on_caller base u same reach most h = record {
+    on_caller base u same reach most h = on_same base (record {
       under = λ below. let v = h.under (omega (arith, same, below)) in
-          (v.0 + s.w u, walk_on u unit v.0 same reach v.1, omega (arith, v.2, most, ap top same, own));
-      bare = λ seven. omega (arith, h.bare (omega (arith, same, seven)), loose seven);
-    }
+          (v.0 + s.w u, walk_on u unit v.0 same reach v.1, omega (arith, v.2, most, ap top same));
+      bare = λ seven. h.bare (omega (arith, same, seven));
+    })
 
     -- where it begins at the end of an earlier one in conflict
     pub on_top : (base u : ℕ) → sum (nat_eq u) done ≤ s.w u → Precedes s.g u unit → IsHigh done u base
@@ -283,10 +268,8 @@ module _ (s : Scene) where
         ))
     on_top base u most (SameUnit same) h = on_same base (rw same at h)
     on_top base u most (Leads same reach) h = on_caller base u same reach most h
-    on_top base u most (UnderNone end end') h = record {
-      under = λ below. absurd (omega (arith, below, end'));
-      bare = λ _. omega (arith, h.bare end, loose end');
-    }
+    on_top base u most (UnderNone end end') h =
+        on_same base (record { under = λ below. absurd (omega (arith, below, end')); bare = λ _. h.bare end })
 
 -- Overlaid DATA in its order, each segment on the run or on earlier ones: none ends too high, and each has a base where
 -- the run is long enough.
@@ -301,19 +284,17 @@ pub against_plain : (g : GraphParts) (number unit : ℕ) (e : Numbered) → IsOw
     → in_conflict_with g number e ≡ true
 against_plain g number unit e own plain = against_none g number unit e.number (own_read g number unit own) plain
 
--- the highest end of those in conflict, or the low end of the run
-record IsPeak (g : GraphParts) (done : List Numbered) (t : Ranked) (low : ℕ) (xs : List Numbered)
-    (base : ℕ) : Type 0 where
-  seat : IsSeated g done t low base
-  above : low ≤ base
-  clears : Every (λ e. in_conflict_with g t.number e ≡ true → 0 < e.placed.size → e.placed.base + e.placed.size ≤
-      base) xs
-
 module _ (g : GraphParts) (done : List Numbered) (t : Ranked) (low : ℕ) where
   abbrev Clears : ℕ → Numbered → Type 0
   Clears base e = in_conflict_with g t.number e ≡ true → 0 < e.placed.size → e.placed.base + e.placed.size ≤ base
 
-  peak : (xs : List Numbered) → Every (λ e. In e done) xs → (base : ℕ) × IsPeak g done t low xs base
+  -- the highest end of those in conflict, or the low end of the run
+  record IsPeak (xs : List Numbered) (base : ℕ) : Type 0 where
+    seat : IsSeated g done t low base
+    above : low ≤ base
+    clears : Every (Clears base) xs
+
+  peak : (xs : List Numbered) → Every (λ e. In e done) xs → (base : ℕ) × IsPeak xs base
   peak [] inside = (low, record { seat = AtLow refl; above = omega arith; clears = tt })
   peak (x ∷ xs) inside =
       let rest = peak xs inside.1 in

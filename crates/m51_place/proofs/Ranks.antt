@@ -1,40 +1,24 @@
 -- The joined segments and their graph, and the relocatable ones in their order.
-use Rattle.m51_place.proofs.Common.{◌≡◌, ◌≢◌, inl, inr, ℕ, ◌+◌, ◌<◌, true, false, Bool, cond, List, [], ◌∷◌, ◌++◌}
-use Rattle.m51_place.proofs.Common.{get_or, Option, Some, None, Result, Ok, refl, sym, ap, subst, ◌∙◌, arith, All}
-use Rattle.m51_place.proofs.Common.{list_any, cases_Bool, All-head, All-tail, Code, Number, Abs, Fits, Control, Refusal}
-use Rattle.m51_place.proofs.Common.{ModuleParts, IsValid, JoinedSegment, segments_of, GraphParts, graph_of, unless}
-use Rattle.m51_place.proofs.Common.{leads, is_absolute, units_of, suc, ◌/◌, ◌≤◌, not, length, drop, unwrap_or, position}
-use Rattle.m51_place.proofs.Common.{nat_lt, position_or_len, lies_under, drop_rest, above_tells, Ranked, comes_before}
-use Rattle.m51_place.proofs.Common.{put, nat_eq, slice_get, IsPermutation, append-nil, length-map, All-permutation}
-use Rattle.m51_place.proofs.Common.{slice_get_within, Numbered, absolutes_from, one_if, order_of, own_at, put_all}
-use Rattle.m51_place.proofs.Common.{ranked_of, ranked_from, ◌⊎◌, false≢true, before_by, class_number, group_number}
-use Rattle.m51_place.proofs.Common.{absolute, AreKept, filter, map, not-true}
-use Rattle.m51_cells.proofs.KindLaws.{absolute_is, overlay_kind, overlay_reloc}
-use Rattle.m51_cells.specs.Fits.{allows}
-use Rattle.m51_module.specs.declared.segment.Segment.{Segment}
-use Rattle.m51_module.specs.Validity.{IsSegmentValid}
-use Rattle.m51_resolve.specs.Joining.{all_segments, are_parts, firsts, firsts_after, joined_of}
-use Rattle.m51_graph.specs.Drawing.{edges_of, fixup_edges}
-use Rattle.m51_graph.specs.Graphs.{judged, parts_of}
+use Rattle.m51_place.proofs
+use proofs.Common.{Number, false_from_ne_true, position_or_len, prefix_len-le-length, second_sort_key, slice_get_within}
+use proofs.Common.{IsInOrder, IsPermutation, JoinedSegment, absolutes_from, class_number, first_sort_key, overlay_reloc}
+use proofs.Common.{IsPlaceable, ModuleParts, Pairs, above_tells, comes_before, group_number, overlay_kind, with_numbers}
+use proofs.Common.{GraphParts, absolute_is, append-nil, fixup_edges, is_absolute, ranked_from, segments_of, unit_titles}
+use proofs.Common.{Numbered, at_number, before_by, cases_Bool, drop_rest, false≢true, is_number, length-map, lies_under}
+use proofs.Common.{Option, absolute, edges_of, graph_of, list_any, nat_tests, not-true, ranked_of, slice_get, unwrap_or}
+use proofs.Common.{AreBits, AreKept, Control, Refusal, Segment, arith, order_of, parts_of, position, roots_of, units_of}
+use proofs.Common.{Ok, Ranked, Result, allows, filter, get_or, insert, judged, length, nat_eq, one_if, put_all, rank_of}
+use proofs.Common.{Abs, Bool, Code, Fits, List, Rank, Some, drop, false, leads, own_at, refl, subst, true, unless, ◌++◌}
+use proofs.Common.{All, [], ap, inl, inr, map, not, put, suc, sym, ℕ, ◌%◌, ◌+◌, ◌/◌, ◌<◌, ◌∙◌, ◌∷◌, ◌≡◌, ◌≢◌, ◌≤◌, ◌⊎◌}
+use Rattle.m51_cells.proofs.Members.{all_every, every_all, every_append, every_in, every_map, every_weaker, total_moved}
+use Rattle.m51_cells.proofs.Members.{Every, every_of, got_in, in_filter, pairs_all, total}
 use Rattle.m51_graph.specs.Locals.{own_units}
-use Rattle.m51_graph.specs.Units.{roots_of, unit_titles}
-use Rattle.std.proofs.Common.{◌%◌}
-use Rattle.std.specs.List.{insert}
-use Rattle.std.proofs.lemmas.Bool.{false_from_ne_true}
-use Rattle.std.proofs.lemmas.Bool.Decides.{nat_tests}
-use Rattle.std.proofs.lemmas.List.Sums.{prefix_len-le-length}
-use Rattle.m51_graph.specs.Graph.{AreBits}
+use Rattle.m51_module.specs.Validity.{IsSegmentValid, IsValid}
+use Rattle.m51_resolve.specs.Joining.{all_segments, are_parts, firsts, firsts_after, joined_of}
+use Rattle.std.proofs.lemmas.List.Elements.{All-head, All-tail}
 use Rattle.std.proofs.lemmas.List.Sorted.{IsPermutation-append_right, IsPermutation-insert, IsPermutation-middle}
-use Rattle.std.proofs.lemmas.List.Sorted.{IsPermutation-refl, IsPermutation-sym, IsPermutation-trans}
-use Rattle.m51_place.specs.Order.{rank_of, first_sort_key, second_sort_key}
-use Rattle.m51_place.specs.Placement.{is_number}
-use Rattle.m51_place.specs.Ready.{IsPlaceable}
-use Rattle.m51_place.proofs.Weights.{has_byte}
-use Rattle.m51_cells.proofs.Members.{all_every, Every, every_all, total, total_moved, every_weaker, Pairs, pairs_all}
-use Rattle.m51_cells.proofs.Members.{every_append, every_in, every_map, every_of, got_in, in_filter}
-use Rattle.m51_place.proofs.Numbering.{at_number, with_numbers}
-use Rattle.m51_place.specs.declared.ranked.Rank.{Rank}
-use Rattle.m51_place.specs.Laws.{IsInOrder}
+use Rattle.std.proofs.lemmas.List.Sorted.{All-permutation, IsPermutation-refl, IsPermutation-sym, IsPermutation-trans}
+use proofs.Weights.{has_byte}
 
 -- What is known of the joined segments of valid modules, and of their graph.
 
@@ -118,11 +102,8 @@ place_in p xs = unwrap_or (position p xs) (length xs)
 pub front_within : {X : Type 0} → (p : X → Bool) (xs : List X) → position_or_len p xs ≤ length xs
 front_within p xs = prefix_len-le-length (λ x. not (p x)) xs
 
-or_end : (index end : ℕ) → index ≤ end → unwrap_or (cond (nat_lt index end) (Some index) None) end ≡ index
-or_end index end below = grind (arith, nat_tests)
-
 pub place_is : {X : Type 0} → (p : X → Bool) (xs : List X) → place_in p xs ≡ position_or_len p xs
-place_is p xs = or_end (position_or_len p xs) (length xs) (front_within p xs)
+place_is p xs = let within = front_within p xs in grind (arith, nat_tests, within)
 
 -- one more is put before the first that it comes before
 pub put_is : (t : Ranked) (order : List Ranked) → put t order
@@ -239,6 +220,11 @@ pub record Program : Type 0 where
   pub kept : AreKept controls
   pub of : graph_of modules controls ≡ Ok g
 
+abbrev pub program : (modules : List ModuleParts) (controls : List (ℕ × Control)) (g : GraphParts)
+    → All IsValid modules → AreKept controls → graph_of modules controls ≡ Ok g → Program
+program modules controls g valid kept of =
+    record { modules = modules; controls = controls; g = g; valid = valid; kept = kept; of = of }
+
 module _ (c : Program) where
   abbrev pub segments : List JoinedSegment
   segments = segments_of c.modules
@@ -301,18 +287,12 @@ level_trans : (x y z : ℕ) (n m k : Bool) → (n ≡ true → m ≡ true → k 
 level_trans x y z n m k next h h' = grind (arith, nat_tests)
 
 -- of two ranks with different numbers one comes before the other
-numbers_total : (x y : ℕ) → x ≢ y → Either (nat_lt x y) (nat_lt y x)
-numbers_total x y ne = grind (arith, nat_tests)
-
 rank_total : (a b : Rank) → a.number ≢ b.number → Either (comes_before a b) (comes_before b a)
 rank_total a b ne =
     level_total (class_number a.class) (class_number b.class) _ _
     (level_total (group_number a.group) (group_number b.group) _ _
     (level_total (first_sort_key a.group) (first_sort_key b.group) _ _
-    (level_total (second_sort_key a.group) (second_sort_key b.group) _ _ (numbers_total a.number b.number ne))))
-
-numbers_trans : (x y z : ℕ) → nat_lt x y ≡ true → nat_lt y z ≡ true → nat_lt x z ≡ true
-numbers_trans x y z h h' = grind (arith, nat_tests)
+    (level_total (second_sort_key a.group) (second_sort_key b.group) _ _ (grind (arith, nat_tests, ne)))))
 
 rank_trans : (a b c : Rank) → comes_before a b ≡ true → comes_before b c ≡ true → comes_before a c ≡ true
 rank_trans a b c =
@@ -320,7 +300,7 @@ rank_trans a b c =
     (level_trans (group_number a.group) (group_number b.group) (group_number c.group) _ _ _
     (level_trans (first_sort_key a.group) (first_sort_key b.group) (first_sort_key c.group) _ _ _
     (level_trans (second_sort_key a.group) (second_sort_key b.group) (second_sort_key c.group) _ _ _
-    (numbers_trans a.number b.number c.number))))
+    (λ h h'. grind (arith, nat_tests, h, h')))))
 
 abbrev pub Earlier : Ranked → Ranked → Type 0
 Earlier t u = comes_before t.rank u.rank ≡ true

@@ -1,28 +1,23 @@
 -- L12 names an overlaid segment exactly if the run has fewer bytes than the weight.
-use Rattle.m51_place.proofs.Common.{◌≡◌, ℕ, ◌+◌, ◌≤◌, Ok, Err, refl, arith, Numbered, place_after, overlaid_in, inl}
-use Rattle.m51_place.proofs.Common.{inr, true, false, not, List, [], ◌∷◌, Some, sym, ap, ◌∙◌, slice_get, cases_lt}
-use Rattle.m51_place.proofs.Common.{false≢true, is_absolute, ModuleParts, JoinedSegment, segments_of, ◌-◌, ◌++◌, Option}
-use Rattle.m51_place.proofs.Common.{None, is_some, length, Refusal, L12, GraphParts, IsGraph, unless, Ranked, first_met}
-use Rattle.m51_place.proofs.Common.{shared_after, shared_at, shared_extents, own_at, before_overlaid, IsWeightOf}
-use Rattle.m51_place.proofs.Common.{OverlaysData, base_for, located_at, located_of}
-use Rattle.m51_place.specs.Overlay.{OverlayFits, PlacesOverlaid, ExceedsRun, LeavesRun, OverlayRefused, PlacesBefore}
-use Rattle.m51_place.specs.Overlay.{RefusesOverlaid}
-use Rattle.m51_place.proofs.Numbering.{pairs_between}
-use Rattle.m51_place.proofs.Free.{all_fail, Answer, and_then, base_cases, place_append}
-use Rattle.m51_place.proofs.Piled.{Piles}
-use Rattle.m51_place.proofs.Tight.{answer as settled, scene, Setting, unrooted, weighs, holds}
-use Rattle.m51_place.proofs.Whole.{fixed}
-use Rattle.std.proofs.lemmas.Slice.Eq.{bytes_eq-Decides}
-use Rattle.m51_module.specs.declared.segment.Segment.{Segment}
-use Rattle.m51_resolve.specs.Joining.{all_segments, are_parts, firsts, joined_of, title_of}
+use Rattle.m51_place.proofs
+use proofs.Common.{JoinedSegment, ModuleParts, is_absolute, pairs_between, placing_from, shared_after, shared_extents}
+use proofs.Common.{GraphParts, Numbered, Pairs, false≢true, located_at, located_of, place_after, segments_of, slice_get}
+use proofs.Common.{IsGraph, List, Option, Ranked, Refusal, Segment, base_for, cases_lt, is_some, length, own_at, unless}
+use proofs.Common.{Err, L12, None, Some, arith, false, inl, inr, refl, sym, true, ℕ, ◌++◌, ◌+◌, ◌-◌, ◌∙◌, ◌∷◌, ◌≡◌, ◌≤◌}
+use proofs.Common.{In, Ok, [], ap}
+use Rattle.m51_cells.proofs.Members.{Every, every_in, in_filter, in_left, in_right, map_at}
 use Rattle.m51_resolve.proofs.FirstSight.{AreApart, firsts_apart}
-use Rattle.m51_cells.proofs.Members.{map_at, Every, every_in, In, in_filter, in_left, in_right, Pairs}
-use Rattle.std.specs.Option.{option_or}
-use Rattle.m51_module.specs.declared.linked.Refusal.TheVariants.{L9}
-use Rattle.m51_place.specs.Placement.{placing_from}
-use Rattle.m51_place.proofs.Conflicting.{own_is, own_read}
-use Rattle.m51_place.proofs.Ordered.{AreParts, IsPlain, order_parts, lone_before}
-use Rattle.m51_place.proofs.Ranks.{IsRankedOf, order, Program, ranked, segments}
+use Rattle.m51_resolve.specs.Joining.{all_segments, are_parts, firsts, joined_of, title_of}
+use Rattle.std.proofs.lemmas.Slice.Eq.{bytes_eq-Decides}
+use Rattle.m51_place.specs.Overlay.{OverlayRefused, OverlaysData, PlacesOverlaid, RefusesOverlaid, before_overlaid}
+use Rattle.m51_place.specs.Overlay.{ExceedsRun, IsWeightOf, LeavesRun, OverlayFits, PlacesBefore, overlaid_in}
+use proofs.Conflicting.{own_is, own_read}
+use proofs.Free.{Answer, all_fail, and_then, base_cases, place_append}
+use proofs.Ordered.{AreParts, IsPlain, lone_before, order_parts}
+use proofs.Piled.{Piles}
+use proofs.Ranks.{IsRankedOf, Program, order, program, ranked, segments}
+use proofs.Tight.{Setting, answer as settled, holds, scene, setting_of, unrooted, weighs}
+use proofs.Whole.{fixed, number_of}
 
 -- L12 comes for no overlaid segment where the run has as many bytes as the weight.
 
@@ -34,17 +29,8 @@ placed t room (Err refusal) is piles = absurd (omega (arith, piles, room, weighs
 
 pub overlay_fits : OverlayFits
 overlay_fits modules controls g low high weight valid kept is graph_is shares data_only run h room =
-    let t : Setting = record {
-      c = record { modules = modules; controls = controls; g = g; valid = valid; kept = kept; of = graph_is };
-      is = is;
-      low = low;
-      high = high;
-      weight = weight;
-      shares = shares;
-      data_only = data_only;
-      finds = run;
-      weighed = h;
-    } in
+    let c : Program = program modules controls g valid kept graph_is in
+    let t : Setting = setting_of c is low high weight shares data_only run h in
     placed t room _ refl (settled t)
 
 -- Relocatable joined segments of one title are one.
@@ -98,16 +84,7 @@ named_in g (t ∷ more) earlier refusal h = elim (base_cases (base_for g earlier
 -- L9 is not L12
 not_shared : (fixed earlier : List Numbered) (title : List ℕ) → shared_after earlier fixed ≡ Some (L12 title) → ⊥
 not_shared [] earlier title h = cc h
-not_shared (e ∷ more) earlier title h =
-    passed_over (first_met earlier e) (not_shared more (earlier ++ e ∷ []) title) h
-  where
-    passed_over : (found : Option ℕ) → (shared_after (earlier ++ e ∷ []) more ≡ Some (L12 title) → ⊥)
-        → option_or (shared_at earlier e found) (shared_after (earlier ++ e ∷ []) more) ≡ Some (L12 title) → ⊥
-    passed_over found again h = grind arith
-
-own_some : (own : Option ℕ) → is_some own ≡ true → (unit : ℕ) × (own ≡ Some unit)
-own_some None absent = absurd (false≢true absent)
-own_some (Some unit) there = (unit, refl)
+not_shared (e ∷ more) earlier title h = grind (arith, not_shared more (earlier ++ e ∷ []) title, h)
 
 refused_by : (count : ℕ) (g : GraphParts) (answer : Answer) (refusal : Refusal) → placing_from g count answer
     ≡ Err refusal → answer ≡ Err refusal
@@ -146,17 +123,8 @@ module _ (c : Program) (is : IsGraph c.g) (low high weight : ℕ) (data_only : O
   in_order t there = rw parts.are there
 
   abbrev setting : shared_extents (fixed c) ≡ None → PlacesBefore c.g (fixed c) (order c) → Setting
-  setting shares before = record {
-    c = c;
-    is = is;
-    low = low;
-    high = high;
-    weight = weight;
-    shares = shares;
-    data_only = data_only;
-    finds = record { extents = before.extents; placed = before.is; run = leaves before.extents before.is };
-    weighed = h;
-  }
+  setting shares before = setting_of c is low high weight shares data_only
+      (record { extents = before.extents; placed = before.is; run = leaves before.extents before.is }) h
 
   module _ (r : RefusesOverlaid c.modules c.controls c.g) where
     abbrev refusal : Refusal
@@ -220,7 +188,7 @@ module _ (c : Program) (is : IsGraph c.g) (low high weight : ℕ) (data_only : O
       let named = named_in c.g (overlaid_in (order c)) e.before.extents refusal is in
       let there = in_filter (λ (t : Ranked). is_some t.own) (order c) named.0 named.1 in
       let of = every_in (IsRankedOf c.g c.controls (segments c)) (order c) named.0 (ranked c) there.0 in
-      let unit = own_some named.0.own there.1 in
+      let unit = number_of named.0.own (λ none. false≢true (rw none at there.1)) in
       let stopped : place_after c.g (fixed c) (order c) ≡ Err refusal = rw (placing, e.before.is, is) in
       record {
         number = named.0.number;
@@ -233,8 +201,7 @@ module _ (c : Program) (is : IsGraph c.g) (low high weight : ℕ) (data_only : O
 
 pub overlay_is_refused : OverlayRefused
 overlay_is_refused modules controls g low high weight valid kept is graph_is data_only leaves h =
-    let c : Program = record
-    { modules = modules; controls = controls; g = g; valid = valid; kept = kept; of = graph_is } in (
+    let c : Program = program modules controls g valid kept graph_is in (
       exceeds c is low high weight data_only leaves h,
       λ e. refuses_by c is low high weight data_only leaves h e _ refl,
     )

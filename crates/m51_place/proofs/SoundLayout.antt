@@ -1,35 +1,27 @@
 -- The layout of what was placed is sound, and each vector has at most one root.
-use Rattle.m51_place.proofs.Common.{◌≡◌, inl, inr, ℕ, zero, suc, ◌+◌, ◌<◌, ◌≤◌, true, false, Bool, cond, nat_eq, List}
-use Rattle.m51_place.proofs.Common.{filter, [], ◌∷◌, get_or, map, Some, refl, sym, ap, subst, ◌∙◌, arith, slice_get}
-use Rattle.m51_place.proofs.Common.{Contains, list_any, list_any_at, and_parts, vectors, JoinedSegment, is_absolute}
-use Rattle.m51_place.proofs.Common.{code_segments, units_of, ◌≢◌, ◌++◌, Option, None, same_Some, Code, Covers, Control}
-use Rattle.m51_place.proofs.Common.{extent_at, GraphParts, Numbered, in_conflict, absolute, absolutes_from, banks_of}
-use Rattle.m51_place.proofs.Common.{reserves_of, shared_extents, own_at, length, option_map_or, append-nil, length-map}
-use Rattle.m51_place.proofs.Common.{slice_get_within, Meet, LayoutParts, Overlaid, Placed, FirstPlain, SecondPlain}
-use Rattle.m51_place.proofs.Common.{Owners, IsSegment, layout_graph, owners_of, IsSound, reach_edge, none_in_empty}
-use Rattle.m51_place.proofs.Common.{edge_test, IsGraph, SegmentsConflict, is_argument_at, owners_at, parts_of_layout}
-use Rattle.m51_place.proofs.Numbering.{at_number, filter_in, number_at, numbers_rise, pairs_between, with_numbers}
-use Rattle.std.proofs.lemmas.Bool.{eq-eqb, cases_eq, ne_eqb}
-use Rattle.m51_cells.specs.Kinds.{is_code}
-use Rattle.m51_graph.specs.Units.{is_root, roots_from, units_from}
-use Rattle.m51_cells.proofs.Members.{contains_in, every_in, got_in, In, in_contains, in_filter, in_map, in_right}
-use Rattle.m51_cells.proofs.Members.{map_at, map_got, map_in, pairs_all, pairs_filter, pairs_in, pairs_range}
-use Rattle.m51_place.proofs.Ranks.{absolute_at, absolutes_are, IsOf, is_fixed, joined_at, Program, segments, shape}
-use Rattle.m51_cells.proofs.KindLaws.{code_is}
-use Rattle.m51_module.specs.Cells.{code_cell}
-use Rattle.m51_place.proofs.Free.{KeepApart}
-use Rattle.m51_place.proofs.Whole.{bare_absolute, fixed, fixed_pairs, overlaid_at, segment_at, IsSegmentOf, IsSpot}
-use Rattle.m51_place.proofs.Whole.{found, IsWhole, only}
-use Rattle.std.proofs.lemmas.List.FromFn.{get_or-map-range_with_len, length-map-range_with_len}
-use Rattle.m51_module.specs.Laws.{HaveSameUnits}
-use Rattle.m51_module.specs.Plan.{ExtentsConflict, IsCodeSegment, IsOverlaid, IsPlaced, IsRootAt, Owns}
+use Rattle.m51_place.proofs
+use proofs.Common.{HaveSameUnits, SegmentsConflict, absolutes_from, parts_of_layout, shared_extents, slice_get_within}
+use proofs.Common.{FirstPlain, JoinedSegment, code_segments, conflict_back, none_in_empty, option_map_or, pairs_between}
+use proofs.Common.{LayoutParts, SecondPlain, inl, layout_graph, numbers_rise, placing_with, related_there, with_numbers}
+use proofs.Common.{GraphParts, append-nil, is_absolute, joined_base, list_any_at, owner_pairs, reserves_of, under_there}
+use proofs.Common.{Control, IsSegment, and_parts, at_number, length-map, pairs_with, reach_edge, roots_from, units_from}
+use proofs.Common.{Contains, In, code_cell, edge_test, extent_at, filter_in, number_at, owners_of, same_Some, slice_get}
+use proofs.Common.{IsGraph, IsRootAt, IsSound, Numbered, Overlaid, [], absolute, banks_of, cases_eq, list_any, units_of}
+use proofs.Common.{Covers, Option, Owners, Placed, code_is, eq-eqb, filter, get_or, is_code, is_root, length, vectors}
+use proofs.Common.{Bool, Code, List, Meet, None, Some, arith, cond, false, nat_eq, ne_eqb, own_at, refl, subst, true, ℕ}
+use proofs.Common.{ap, inr, map, suc, sym, zero, ◌++◌, ◌+◌, ◌<◌, ◌∙◌, ◌∷◌, ◌≡◌, ◌≢◌, ◌≤◌}
+use Rattle.m51_cells.proofs.Members.{contains_in, in_contains, in_filter, map_got, pairs_all, pairs_filter, pairs_range}
+use Rattle.m51_cells.proofs.Members.{every_in, got_in, in_map, in_right, map_at, map_in, pairs_in}
+use Rattle.m51_module.specs.Plan.{ExtentsConflict, IsCodeSegment, IsOverlaid, IsPlaced, Owns}
 use Rattle.m51_module.specs.Rising.{Rises}
-use Rattle.m51_module.proofs.Conflicts.{conflict_back, related_there, under_there}
-use Rattle.m51_place.specs.Conflicts.{callers_of}
-use Rattle.m51_place.specs.Placement.{owner_pairs, owners_of_extent, pairs_with, joined_index, joined_base}
-use Rattle.m51_place.specs.Placement.{placing_with}
-use Rattle.m51_place.proofs.Conflicting.{caller_edge, conflict_tells, own_read, owner_owns}
+use Rattle.std.proofs.lemmas.List.FromFn.{get_or-map-range_with_len, length-map-range_with_len}
+use Rattle.m51_place.specs.Conflicts.{callers_of, in_conflict, is_argument_at, owners_at}
+use Rattle.m51_place.specs.Placement.{joined_index, owners_of_extent}
 use Rattle.m51_place.specs.Places.{ArePlaces, IsPlacedAs, IsSegmentAt}
+use proofs.Conflicting.{caller_edge, conflict_tells, own_read, owner_owns}
+use proofs.Free.{KeepApart}
+use proofs.Ranks.{IsOf, Program, absolute_at, absolutes_are, is_fixed, joined_at, segments, shape}
+use proofs.Whole.{IsSegmentOf, IsSpot, IsWhole, bare_absolute, fixed, fixed_pairs, found, only, overlaid_at, segment_at}
 use Rattle.m51_graph.specs.Graph as graph
 
 -- Units, the segments that they are, and roots.

@@ -1,45 +1,35 @@
 -- The weight of a graph and of its layouts, and how few bytes placing covers.
-use Rattle.m51_place.proofs.Common.{◌≡◌, ◌≢◌, inl, inr, ℕ, ◌+◌, ◌-◌, ◌<◌, ◌≤◌, true, Bool, cond, nat_eq, List, [], ◌∷◌}
-use Rattle.m51_place.proofs.Common.{◌++◌, map, Option, Some, None, Ok, refl, sym, ap, ◌∙◌, arith, slice_get, Chain}
-use Rattle.m51_place.proofs.Common.{Overlaid, Owners, AreRelated, vectors, JoinedSegment, segments_of, GraphParts}
-use Rattle.m51_place.proofs.Common.{IsGraph, joined_graph, Numbered, Ranked, nat_lt, shared_extents, own_at}
-use Rattle.m51_place.proofs.Common.{before_overlaid, bytes_joined, IsWeightOf, overlaid_in, OverlaysData, unit_weight}
-use Rattle.m51_place.proofs.Common.{before_by, class_number, comes_before, group_number, is_some, located_at}
-use Rattle.m51_place.proofs.Common.{place_after, Result, Err, subst, owners_of, option_map_or, Refusal}
-use Rattle.m51_place.proofs.Common.{LayoutParts, Placed, ChainsFrom, weight_of, layout_graph, AreResolved, ProgramGraph}
-use Rattle.m51_place.proofs.Common.{Placing, bytes_passing, owners_at, located_of, parts_of_layout, list_any, and_parts}
-use Rattle.m51_place.proofs.Common.{none-some, covers_byte, Kind, Direct, Reloc, UnitType, Mark, is_overlaid_data}
-use Rattle.m51_place.proofs.Numbering.{at_number, with_numbers}
-use Rattle.std.proofs.Common.{min}
-use Rattle.std.proofs.lemmas.Bool.Decides.{nat_tests}
-use Rattle.m51_place.specs.declared.ranked.Rank.{Rank}
-use Rattle.m51_place.specs.Order.{first_sort_key, second_sort_key}
-use Rattle.m51_place.proofs.Free.{are_after, AreAfter, at_base, conflicts, KeepApart, later_every, pick_at, pick_in}
-use Rattle.m51_place.proofs.Free.{both_ok, place_append}
-use Rattle.m51_place.proofs.Weights.{AreLocals, has_byte, has_byte_tells, tally_range, weight_bound, bytes, data_byte}
-use Rattle.m51_place.proofs.Weights.{is_data, IsLocal, KeptApart, Local, first_of_list, local_of, locals, passing_is}
-use Rattle.m51_place.proofs.Weights.{weight_is, count_is, least, data_kind}
-use Rattle.m51_place.proofs.Conflicting.{conflict_tells, own_is}
-use Rattle.m51_place.proofs.Piled.{Scene, AreLaid, IsLaid, Piles, piles, AreTops, top, tops, local_at, located_sum}
-use Rattle.m51_place.proofs.Piled.{order_sum, own_of, ranked_bytes, order_all, under_all}
-use Rattle.m51_cells.proofs.Members.{Every, every_append, every_map, every_of, every_weaker, Pairs, pairs_at}
-use Rattle.m51_cells.proofs.Members.{pairs_both, pairs_got, pairs_map, pairs_filter, total, total_map, total_sum}
-use Rattle.m51_cells.proofs.Members.{every_in, got_in, In, in_cases, in_contains, in_filter, in_map}
-use Rattle.m51_place.proofs.SoundLayout.{one_root_each, owners_are, same_units, sound}
-use Rattle.m51_module.specs.Laws.{HaveSameUnits}
-use Rattle.m51_module.specs.Roots.{LiesUnder}
-use Rattle.m51_module.proofs.Conflicts.{same_back, under_there}
-use Rattle.m51_module.specs.Chains.{IsHeaviestWalk}
-use Rattle.m51_place.proofs.Ordered.{AreParts, IsPlain, no_root, order_parts, lone_before}
-use Rattle.m51_place.proofs.Ranks.{IsRankedOf, Earlier, order, order_rises, Program, ranked, segments, shape}
-use Rattle.m51_place.proofs.Whole.{bare_absolute, fixed, fixed_bare, fixed_pairs, overlaid_at, IsWhole, placed_whole}
-use Rattle.m51_place.proofs.Whole.{unless_none, IsSpot}
-use Rattle.std.specs.Prelude.{◌↔◌}
-use Rattle.m51_place.specs.Bound.{IsWeight, count_below, covered_bytes, overlaid_bytes, overlays_byte}
-use Rattle.m51_place.specs.Overlay.{WeightsAgree, FindsRun, PlacingIsTight, FigureIsWeight}
-use Rattle.m51_place.specs.Placement.{placing_from, placing_with}
-use Rattle.std.proofs.lemmas.List.Folds.{Any-from_list_any}
-use Rattle.m51_graph.proofs.Climbing.{tally_mono}
+use Rattle.m51_place.proofs
+use Rattle.m51_place.specs
+use proofs.Common.{Any-from_list_any, HaveSameUnits, IsHeaviestWalk, is_overlaid_data, parts_of_layout, second_sort_key}
+use proofs.Common.{AreRelated, JoinedSegment, ProgramGraph, class_number, first_sort_key, option_map_or, shared_extents}
+use proofs.Common.{In, comes_before, group_number, joined_graph, layout_graph, placing_from, placing_with, with_numbers}
+use proofs.Common.{AreResolved, ChainsFrom, GraphParts, LayoutParts, located_at, place_after, segments_of, under_there}
+use proofs.Common.{LiesUnder, and_parts, at_number, before_by, located_of, nat_tests, none-some, owners_of, tally_mono}
+use proofs.Common.{Direct, Numbered, Overlaid, UnitType, list_any, pairs_at, pairs_got, same_back, slice_get, weight_of}
+use proofs.Common.{IsGraph, Option, Owners, Placed, Ranked, Refusal, Result, is_some, nat_eq, nat_lt, own_at, vectors}
+use proofs.Common.{Bool, Chain, Kind, List, Mark, None, Pairs, Rank, Reloc, Some, arith, cond, refl, subst, true, ◌++◌}
+use proofs.Common.{Err, Ok, [], ap, inl, inr, map, min, sym, ℕ, ◌+◌, ◌-◌, ◌<◌, ◌↔◌, ◌∙◌, ◌∷◌, ◌≡◌, ◌≢◌, ◌≤◌}
+use Rattle.m51_cells.proofs.Members.{every_append, every_map, every_weaker, in_contains, pairs_both, pairs_filter}
+use Rattle.m51_cells.proofs.Members.{every_in, every_of, got_in, in_cases, in_filter, pairs_map, total_map, total_sum}
+use Rattle.m51_cells.proofs.Members.{Every, in_map, total}
+use specs.Bound.{IsWeight, bytes_passing, count_below, covered_bytes, covers_byte, overlaid_bytes, overlays_byte}
+use specs.Conflicts.{owners_at}
+use specs.Overlay.{FigureIsWeight, FindsRun, OverlaysData, PlacingIsTight, WeightsAgree, before_overlaid, bytes_joined}
+use specs.Overlay.{IsWeightOf, overlaid_in, unit_weight}
+use specs.declared.placing.Placing.{Placing}
+use proofs.Conflicting.{conflict_tells, own_is}
+use proofs.Free.{AreAfter, KeepApart, are_after, at_base, both_ok, conflicts, later_every, pick_at, place_append}
+use proofs.Free.{pick_in}
+use proofs.Ordered.{AreParts, IsPlain, lone_before, no_root, order_parts}
+use proofs.Piled.{AreLaid, AreTops, IsLaid, Piles, local_at, located_sum, order_all, order_sum, ranked_bytes, under_all}
+use proofs.Piled.{Scene, own_of, piles, top, tops}
+use proofs.Ranks.{Earlier, IsRankedOf, Program, order, order_rises, program, ranked, segments, shape}
+use proofs.SoundLayout.{one_root_each, owners_are, same_units, sound}
+use proofs.Weights.{AreLocals, IsLocal, KeptApart, first_of_list, has_byte_tells, passing_is, tally_range, weight_bound}
+use proofs.Weights.{Local, bytes, count_is, data_byte, data_kind, has_byte, is_data, least, local_of, locals, weight_is}
+use proofs.Whole.{IsSpot, IsWhole, bare_absolute, fixed_bare, fixed_pairs, overlaid_at, placed_whole, unless_none}
+use proofs.Whole.{fixed}
 
 -- Placing valid modules over their graph, as far as the overlaid segments: what they are placed over, and what that
 -- answers.
@@ -71,6 +61,21 @@ pub record Setting : Type 0 where
   pub data_only : OverlaysData (segments c) c.g
   pub finds : FindsRun c.g (fixed c) (order c) low high
   pub weighed : IsWeightOf (segments c) c.g weight
+
+abbrev pub setting_of : (c : Program) → IsGraph c.g → (low high weight : ℕ) → shared_extents (fixed c) ≡ None
+    → OverlaysData (segments c) c.g → FindsRun c.g (fixed c) (order c) low high → IsWeightOf (segments c) c.g weight
+    → Setting
+setting_of c is low high weight shares data_only finds weighed = record {
+  c = c;
+  is = is;
+  low = low;
+  high = high;
+  weight = weight;
+  shares = shares;
+  data_only = data_only;
+  finds = finds;
+  weighed = weighed;
+}
 
 module _ (t : Setting) where
   pub all_parts : AreParts t.c.g (order t.c)
@@ -359,17 +364,7 @@ module _ (c : Program) (is : IsGraph c.g) (resolved : AreResolved c.modules) (lo
   module _ (low high weight : ℕ) (data_only : OverlaysData (segments c) c.g)
       (finds : FindsRun c.g (fixed c) (order c) low high) (h : IsWeight layout weight) where
     abbrev t : Setting
-    t = record {
-      c = c;
-      is = is;
-      low = low;
-      high = high;
-      weight = weight;
-      shares = rules.0;
-      data_only = data_only;
-      finds = finds;
-      weighed = back weight h;
-    }
+    t = setting_of c is low high weight rules.0 data_only finds (back weight h)
 
     -- what is placed up to the last overlaid segment, and the rest
     parts : AreParts c.g (order c)
@@ -446,15 +441,13 @@ module _ (c : Program) (is : IsGraph c.g) (resolved : AreResolved c.modules) (lo
 
 pub weights_agree : WeightsAgree
 weights_agree modules controls g p weight valid resolved kept is graph_is placed h =
-    let c : Program = record
-    { modules = modules; controls = controls; g = g; valid = valid; kept = kept; of = graph_is } in
+    let c : Program = program modules controls g valid kept graph_is in
     let of = of_located g _ (located_of modules controls g) p placed in
     rw (← of.placing) (agree c is resolved of.located of.is weight h)
 
 pub placing_tight : PlacingIsTight
 placing_tight modules controls g p low high weight valid resolved kept is graph_is placed data_only finds h =
-    let c : Program = record
-    { modules = modules; controls = controls; g = g; valid = valid; kept = kept; of = graph_is } in
+    let c : Program = program modules controls g valid kept graph_is in
     let of = of_located g _ (located_of modules controls g) p placed in
     rw (← of.placing) (tight c is resolved of.located of.is low high weight data_only finds (rw (← of.placing) at h))
 

@@ -1,29 +1,19 @@
 -- Segments of overlaid DATA as bytes: those of related units have together no more than they cover.
-use Rattle.m51_place.proofs.Common.{◌||◌, ◌≡◌, ℕ, zero, suc, ◌+◌, ◌-◌, ◌<◌, ◌≤◌, true, Bool, cond, ◌&&◌, not, List, []}
-use Rattle.m51_place.proofs.Common.{◌∷◌, inl, inr, refl, sym, ◌∙◌, arith, nat_lt, Decides, false≢true, cases_Bool}
-use Rattle.m51_place.proofs.Common.{one_if, tally, ◌*◌, false, nat_eq, Option, Some, None, ap, subst, list_any}
-use Rattle.m51_place.proofs.Common.{option_map_or, slice_get, Contains, Ram, Kind, Direct, Reloc, Covers, extent_of}
-use Rattle.m51_place.proofs.Common.{LayoutParts, Mark, Overlaid, Placed, extent_at, data_of, is_first, is_overlaid_data}
-use Rattle.m51_place.proofs.Common.{sum_along, weight_along, weight_of, AreRelated, Same, Before, After, Owners}
-use Rattle.m51_place.proofs.Common.{layout_graph, owners_of, ProgramGraph, IsInside, IsSound, Edges, IsWalk, Reaches}
-use Rattle.m51_place.proofs.Common.{reach_edge, bytes_passing, own_passes, ◌++◌, map, sum_by, list_any_at}
-use Rattle.m51_place.proofs.Common.{get_or_from_slice_get, slice_get_within, Chain, ChainsFrom, FirstUnderNone}
-use Rattle.m51_place.proofs.Common.{SecondUnderNone, UnderTwo, vectors, covers_byte}
-use Rattle.m51_place.proofs.Numbering.{at_number, number_got, with_numbers}
-use Rattle.std.proofs.lemmas.Bool.Decides.{nat_tests}
-use Rattle.std.specs.Prelude.{nat_le}
-use Rattle.std.proofs.Common.{min}
-use Rattle.m51_cells.proofs.Members.{Every, Pairs, every_both, total, any_in, every_map, every_of, every_weaker, In}
-use Rattle.m51_cells.proofs.Members.{pairs_got, pairs_map, pairs_weaker, total_add, total_le, total_sum, total_swap}
-use Rattle.m51_cells.proofs.Members.{total_zero, in_cases, total-append}
-use Rattle.std.proofs.lemmas.Bool.{eqb-true, or_cases, false_from_ne_true}
-use Rattle.std.proofs.lemmas.List.Sums.{sum-map}
+use Rattle.m51_place.proofs
+use proofs.Common.{Bool, SecondUnderNone, false_from_ne_true, get_or_from_slice_get, is_overlaid_data, slice_get_within}
+use proofs.Common.{FirstUnderNone, IsHeaviestWalk, LayoutParts, ProgramGraph, layout_graph, option_map_or, weight_along}
+use proofs.Common.{AreRelated, ChainsFrom, cases_Bool, false≢true, list_any_at, number_got, reach_edge, with_numbers, ℕ}
+use proofs.Common.{LiesUnder, at_number, extent_at, extent_of, nat_tests, owners_of, pairs_got, reach_from, slice_get}
+use proofs.Common.{Contains, IsInside, Overlaid, UnderTwo, eqb-true, list_any, or_cases, sum_along, tally_le, weight_of}
+use proofs.Common.{Before, Covers, Decides, Direct, IsSound, IsWalk, Option, Owners, Reaches, data_of, sum-map, vectors}
+use proofs.Common.{After, Chain, Edges, Kind, Pairs, Placed, Reloc, arith, false, nat_eq, nat_le, nat_lt, subst, sum_by}
+use proofs.Common.{List, Mark, None, Ram, Same, Some, cond, inl, inr, map, refl, tally, true, zero, ◌&&◌, ◌++◌, ◌||◌}
+use proofs.Common.{In, [], ap, min, not, suc, sym, ◌*◌, ◌+◌, ◌-◌, ◌<◌, ◌∙◌, ◌∷◌, ◌≡◌, ◌≤◌}
+use Rattle.m51_cells.proofs.Members.{every_both, every_weaker, pairs_weaker, total-append, total_swap, total_zero}
+use Rattle.m51_cells.proofs.Members.{any_in, every_map, every_of, in_cases, pairs_map, total_add, total_le, total_sum}
+use Rattle.m51_cells.proofs.Members.{Every, total}
 use Rattle.m51_cells.specs.Cells.{cells_in}
-use Rattle.m51_graph.proofs.Climbing.{tally_le}
-use Rattle.m51_module.specs.Roots.{LiesUnder}
-use Rattle.m51_module.proofs.Reach.{reach_from}
-use Rattle.m51_module.specs.Chains.{IsHeaviestWalk}
-use Rattle.m51_place.specs.Bound.{count_below, WeightIsLeast}
+use Rattle.m51_place.specs.Bound.{WeightIsLeast, bytes_passing, count_below, covers_byte}
 
 -- Segments that share no byte have together no more bytes than they cover.
 
@@ -35,27 +25,19 @@ pub has_byte_tells : (base size byte : ℕ) → Decides (has_byte base size byte
 has_byte_tells base size byte = (λ h. grind (arith, nat_tests), λ h. grind (arith, nat_tests))
 
 -- how many of the bytes below n there are
-byte_more : (base size n : ℕ)
-    → one_if (has_byte base size n) + (min n (base + size) - min n base) ≡ min (suc n) (base + size) - min (suc n) base
-byte_more base size n = grind (arith, nat_tests)
-
 pub tally_range : (base size n : ℕ) → tally (has_byte base size) n ≡ min n (base + size) - min n base
 tally_range base size zero = omega arith
-tally_range base size (suc n) = omega (arith, tally_range base size n, byte_more base size n)
+tally_range base size (suc n) = grind (arith, nat_tests, tally_range base size n)
 
 -- what is left of a test without the bytes of one
 without : (ℕ → Bool) → ℕ → ℕ → ℕ → Bool
 without hit base size byte = hit byte && not (has_byte base size byte)
 
-one_more : (h b : Bool) → (b ≡ true → h ≡ true) → one_if (h && not b) + one_if b ≡ one_if h
-one_more h b k = grind arith
-
 parted : (hit : ℕ → Bool) (base size n : ℕ) → ((byte : ℕ) → has_byte base size byte ≡ true → hit byte ≡ true)
     → tally (without hit base size) n + tally (has_byte base size) n ≡ tally hit n
 unfolding without
 parted hit base size zero h = refl
-parted hit base size (suc n) h =
-    omega (arith, parted hit base size n h, one_more (hit n) (has_byte base size n) (h n))
+parted hit base size (suc n) h = grind (arith, parted hit base size n h, h n)
 
 taken : (hit : ℕ → Bool) (base size n : ℕ) → (0 < size → base + size ≤ n)
     → ((byte : ℕ) → has_byte base size byte ≡ true → hit byte ≡ true)
@@ -257,27 +239,16 @@ local_at l p = local_of p.1 (owners_of l.owners p.0)
 abbrev pub locals : LayoutParts → ℕ → List Placed → List Local
 locals l number rest = map (local_at l) (with_numbers number rest)
 
-one_passing : (test : ℕ → Bool) (d : Bool) (size : ℕ) (owners : List ℕ) → cond (d && own_passes test owners) size 0
-    ≡ cond (option_map_or test (first_of_list owners) false) (cond d size 0) 0
-one_passing test d size owners = grind arith
-
-first_is : (unit : ℕ) (owners : List ℕ) → is_first unit owners ≡ own_passes (nat_eq unit) owners
-first_is unit owners = grind arith
-
 pub passing_is : (l : LayoutParts) (test : ℕ → Bool) (number : ℕ) (rest : List Placed)
     → bytes_passing l test number rest ≡ total (bytes test) (locals l number rest)
 passing_is l test number [] = refl
 passing_is l test number (p ∷ more) =
-    omega (
-      arith,
-      passing_is l test (number + 1) more,
-      one_passing test (is_data p) p.size (owners_of l.owners number),
-    )
+    grind (arith, passing_is l test (number + 1) more)
 
 pub weight_is : (l : LayoutParts) (unit number : ℕ) (rest : List Placed)
     → data_of l unit number rest ≡ bytes_passing l (nat_eq unit) number rest
 weight_is l unit number [] = refl
-weight_is l unit number (p ∷ more) = rw (first_is, weight_is l unit (number + 1) more)
+weight_is l unit number (p ∷ more) = grind (arith, weight_is l unit (number + 1) more)
 
 own_first : (us : List ℕ) (o : ℕ) → first_of_list us ≡ Some o → Contains us o
 own_first [] o h = absurd (cc h)
@@ -343,14 +314,11 @@ walk_bound l sound u more walk =
       once = λ o own. walk_once p sound.no_cycle u more o walk;
       bound = λ o own here. refl;
     }) (sound_locals l sound).each)
-    (λ a b h k. walk_related p u more a b walk (any_in a (u ∷ more) (either a h)) (any_in b (u ∷ more) (either b k)))
+    (λ a b h k. walk_related p u more a b walk (any_in a (u ∷ more) (grind (arith, h)))
+    (any_in b (u ∷ more) (grind (arith, k))))
     (every_weaker (IsLocal p) _ xs (λ x h byte o own is has. refl) (sound_locals l sound).each) in
     omega (arith, all, along_total (weight_of l) (u ∷ more), same_totals, tally_le (λ byte. true) 256)
   where
-    either : (o : ℕ) → (list_any (λ v. nat_eq v o) (u ∷ more) || false) ≡ true
-        → list_any (λ v. nat_eq v o) (u ∷ more) ≡ true
-    either o h = grind arith
-
     same_totals : total (weight_of l) (u ∷ more)
         ≡ total (λ v. total (bytes (nat_eq v)) (locals l 0 l.placed)) (u ∷ more)
     same_totals = ap (λ (w : ℕ → ℕ). total w (u ∷ more))

@@ -1,40 +1,30 @@
 -- What each placed extent is, and that each joined segment is placed once.
-use Rattle.m51_place.proofs.Common.{◌≢◌, ◌≡◌, ℕ, zero, suc, ◌+◌, ◌*◌, ◌<◌, ◌≤◌, true, List, [], ◌∷◌, Option, Some, None}
-use Rattle.m51_place.proofs.Common.{refl, sym, ap, subst, ◌∙◌, arith, slice_get, option_map_or, All, false≢true}
-use Rattle.m51_place.proofs.Common.{slice_get-map, same_Some, none-some, Kind, Code, Xdata, Direct, Number, Reloc, Abs}
-use Rattle.m51_place.proofs.Common.{extent_of, Fits, Control, Absolute, Overlaid, Placed, IsSegment, IsInside, IsFit}
-use Rattle.m51_place.proofs.Common.{JoinedSegment, GraphParts, is_absolute, Numbered, Ranked, absolute, absolutes_from}
-use Rattle.m51_place.proofs.Common.{own_at, located_at, mark_of, ◌-◌, false, Bool, ◌++◌, length, get_or, append_assoc}
-use Rattle.m51_place.proofs.Common.{position, position_or_len, append-nil, fails_before_first, slice_get-get_or, Ram}
-use Rattle.m51_place.proofs.Common.{IsAllowed, ModuleParts, extent_at, banks_of, fixed_of, first_met, reserves_of}
-use Rattle.m51_place.proofs.Common.{shared_at, shared_after, nat_eq, Result, Ok, length-map, map, one_if}
-use Rattle.m51_place.proofs.Common.{slice_get_within, AreKept, Refusal, Plain, IsValid, segments_of, AreResolved}
-use Rattle.m51_place.proofs.Common.{graph_of, unless, shared_extents, ranked_from, located_of, place_after, IsNumbered}
-use Rattle.m51_place.proofs.Numbering.{at_number, with_numbers}
-use Rattle.std.proofs.lemmas.Bool.{true_from_ne_false, eq-eqb}
-use Rattle.std.proofs.lemmas.Bool.Decides.{nat_tests}
-use Rattle.m51_graph.specs.Locals.{overlaid_by}
-use Rattle.m51_graph.specs.Units.{unit_titles}
-use Rattle.m51_cells.proofs.Members.{Every, all_every, every_append, every_of, every_weaker, Pairs, pairs_push, total}
-use Rattle.m51_cells.proofs.Members.{total-append, total_none, every_all, contains_in, every_map, in_filter}
-use Rattle.std.proofs.Common.{filter, codes, length-append}
-use Rattle.m51_place.proofs.Ranks.{absolute_at, absolutes_are, as_many_own, extent_count, is_fixed, IsOf, IsRankedOf}
-use Rattle.m51_place.proofs.Ranks.{joined_at, once, order, order_moves, place_is, Program, ranked, ranked_count}
-use Rattle.m51_place.proofs.Ranks.{segments, shape}
-use Rattle.std.specs.List.{cons_option}
-use Rattle.std.proofs.lemmas.List.Quantifiers.{position-Some}
-use Rattle.m51_graph.proofs.Judged.{none_of_both}
-use Rattle.m51_cells.specs.declared.cell.Space.TheVariants.{Xram}
+use Rattle.m51_place.proofs
+use proofs.Common.{AreKept, fails_before_first, position_or_len, slice_get-get_or, slice_get_within, true_from_ne_false}
+use proofs.Common.{IsAllowed, JoinedSegment, absolutes_from, append_assoc, length-append, shared_extents, slice_get-map}
+use proofs.Common.{AreResolved, Control, ModuleParts, cons_option, is_absolute, place_after, shared_after, with_numbers}
+use proofs.Common.{GraphParts, IsNumbered, append-nil, false≢true, ranked_from, reserves_of, segments_of, unit_titles}
+use proofs.Common.{IsSegment, at_number, extent_at, extent_of, first_met, is_number, length-map, located_at, located_of}
+use proofs.Common.{Absolute, IsFit, IsInside, Numbered, Overlaid, nat_tests, none-some, same_Some, shared_at, slice_get}
+use proofs.Common.{Direct, Number, Ok, Option, Placed, Ranked, Refusal, absolute, banks_of, find_at, graph_of, position}
+use proofs.Common.{Pairs, Plain, Reloc, Result, Xdata, arith, eq-eqb, filter, get_or, length, one_if, own_at, unless, ℕ}
+use proofs.Common.{Bool, Code, Fits, Kind, List, None, Some, Xram, codes, false, find, refl, share, subst, true, zero}
+use proofs.Common.{Abs, All, Ram, [], ap, map, suc, sym, ◌*◌, ◌++◌, ◌+◌, ◌-◌, ◌<◌, ◌∙◌, ◌∷◌, ◌≡◌, ◌≢◌, ◌≤◌}
+use Rattle.m51_cells.proofs.Members.{contains_in, every_append, every_weaker, pairs_push, total-append, total_none}
+use Rattle.m51_cells.proofs.Members.{Every, all_every, every_all, every_map, every_of, in_filter, total}
 use Rattle.m51_control.specs.declared.control.Control.TheVariants.{Reserve}
-use Rattle.m51_place.specs.Bases.{share}
-use Rattle.m51_place.specs.Fixed.{bank, bank_if, reserve_as, reserve_of, uses, without_number}
-use Rattle.m51_place.proofs.Free.{all_fail, KeepApart, share_tells, are_after, at_base, later_every, later_total}
+use Rattle.m51_graph.proofs.Judged.{none_of_both}
+use Rattle.m51_graph.specs.Locals.{overlaid_by}
+use Rattle.m51_module.specs.Validity.{IsValid}
 use Rattle.m51_resolve.proofs.Positions.{none_found}
-use Rattle.m51_place.proofs.Piled.{own_of}
-use Rattle.std.specs.Prelude.{find}
-use Rattle.std.proofs.lemmas.List.Folds.{find_at}
+use Rattle.std.proofs.lemmas.List.Quantifiers.{position-Some}
 use Rattle.std.proofs.lemmas.List.Sorted.{length_permutation}
-use Rattle.m51_place.specs.Placement.{is_number, joined_index}
+use Rattle.m51_place.specs.Fixed.{bank, bank_if, fixed_of, reserve_as, reserve_of, uses, without_number}
+use Rattle.m51_place.specs.Placement.{joined_index, mark_of}
+use proofs.Free.{KeepApart, all_fail, are_after, at_base, later_every, later_total, share_tells}
+use proofs.Piled.{own_of}
+use proofs.Ranks.{IsRankedOf, Program, absolute_at, absolutes_are, as_many_own, extent_count, order_moves, ranked_count}
+use proofs.Ranks.{IsOf, is_fixed, joined_at, once, order, place_is, program, ranked, segments, shape}
 
 -- What each placed extent is.
 
@@ -59,7 +49,7 @@ pub record IsSpot (g : GraphParts) (segments : List JoinedSegment) (e : Numbered
   pub numbered : (number : ℕ) → e.number ≡ Some number → IsSegmentOf g segments number e.placed
   pub free : e.number ≡ None → IsSegment e.placed.mark → ⊥
 
-number_of : (number : Option ℕ) → (number ≡ None → ⊥) → (n : ℕ) × (number ≡ Some n)
+pub number_of : (number : Option ℕ) → (number ≡ None → ⊥) → (n : ℕ) × (number ≡ Some n)
 number_of None h = absurd (h refl)
 number_of (Some n) h = (n, refl)
 
@@ -80,12 +70,9 @@ fits_inside kind reloc base size h c covers =
     let from = covers.from in let below = covers.below in grind (arith, h, from, below)
 
 -- what fits in program memory ends in it, but for an empty segment of a block, whose base is an address
-code_room : (reloc : Reloc) (base size : ℕ) → base ≤ 65536 → Fits Code reloc base size → base + size ≤ 65536
-code_room reloc base size low h = grind arith
-
 room_of : (kind : Kind) (reloc : Reloc) (base size : ℕ) → (Fits Code reloc base size → base ≤ 65536)
     → Fits kind reloc base size → kind ≡ Code → base + size ≤ 65536
-room_of kind reloc base size low h code = let fits = rw code at h in code_room reloc base size (low fits) fits
+room_of kind reloc base size low h code = let fits = rw code at h in let below = low fits in grind (arith, fits, below)
 
 module _ (c : Program) where
   -- the own unit of a joined segment is that of the graph
@@ -155,21 +142,17 @@ module _ (c : Program) where
         room = room_of j.kind j.reloc base j.size (λ _. omega (arith, low)) fits;
         segment = plain_segment t.own;
         fixed = λ abs. absurd (false≢true (sym h.relocatable ∙ abs));
-        absolute = λ e. absurd (not_absolute t.own e);
-        overlaid = λ e. let owner = has_owner t.own e in (owner.0, sym h.own ∙ owner.1);
+        absolute = λ e. grind (arith, e);
+        overlaid = λ e.
+            let marked : mark_of t.own ≡ Overlaid = e in
+            let owner = number_of t.own (λ none. cc (rw none at marked)) in
+            (owner.0, sym h.own ∙ owner.1);
         owned = λ unit owner. ap mark_of (h.own ∙ owner);
       }) fits
     where
       plain_segment : (owner : Option ℕ) → IsSegment (mark_of owner)
       plain_segment None = tt
       plain_segment (Some unit) = tt
-
-      not_absolute : (owner : Option ℕ) → mark_of owner ≡ Absolute → ⊥
-      not_absolute owner e = grind arith
-
-      has_owner : (owner : Option ℕ) → mark_of owner ≡ Overlaid → (unit : ℕ) × (owner ≡ Some unit)
-      has_owner None e = absurd (cc e)
-      has_owner (Some unit) e = (unit, refl)
 
 -- The fixed extents: what each is, which joined numbers they have, and that no two of them share a cell.
 
@@ -337,8 +320,7 @@ pub placed_whole : (modules : List ModuleParts) (controls : List (ℕ × Control
     (located : List Numbered) → graph_of modules controls ≡ Ok g → All IsValid modules → AreResolved modules
     → AreKept controls → located_of modules controls g ≡ Ok located → IsWhole g (segments_of modules) located
 placed_whole modules controls g located is valid resolved kept h =
-    let c : Program = record
-    { modules = modules; controls = controls; g = g; valid = valid; kept = kept; of = is } in
+    let c : Program = program modules controls g valid kept is in
     let rules = unless_none (shared_extents (fixed c)) (place_after g (fixed c) (order c)) located h in
     let after = are_after g (order c) (fixed c) located (fixed_pairs c rules.0) rules.1 in
     let moved = length_permutation (ranked_from g controls 0 (segments c)) (order c)
@@ -372,9 +354,6 @@ placed_whole modules controls g located is valid resolved kept h =
     }
 
 -- extents with the number of a joined segment, and how many there are
-number_is : (m : ℕ) (number : Option ℕ) → option_map_or (nat_eq m) number false ≡ true → number ≡ Some m
-number_is m number h = grind (arith, nat_tests)
-
 one_counted : (m : ℕ) (es : List Numbered) (k : ℕ) (e : Numbered) → slice_get es k ≡ Some e → e.number ≡ Some m
     → 1 ≤ total (extent_count m) es
 one_counted m [] k e h number = absurd (cc h)
@@ -410,7 +389,7 @@ find_place located m (Some index) is h =
       e = get_or located index d;
       at = rw is there;
       first = find_at (is_number m) located ∙ rw (← first) there;
-      number = number_is m (get_or located index d).number at.1;
+      number = let is = at.1 in grind (arith, nat_tests, is);
     }
 
 pub found : (g : GraphParts) (js : List JoinedSegment) (located : List Numbered) → IsWhole g js located

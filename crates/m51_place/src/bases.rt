@@ -23,7 +23,7 @@ fn share(a: &Extent, b: &Extent) -> bool
 }
 
 // The cells of a segment; what has no kind covers none.
-#[tactic(auto, using(crate::proofs::Ends::cells_end))]
+#[tactic(auto, using(crate::proofs::Free::cells_end))]
 fn cells_at(kind: Kind, base: u16, size: u16) -> Extent
     ensures cells { result ≡ extent_of kind base size }
     ensures end { result.first + result.len ≤ 1048576 }

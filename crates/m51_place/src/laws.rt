@@ -10,6 +10,7 @@ ghost use Rattle.m51_place.specs.Overlay.{WeightsAgree};
 /// those.
 ///
 /// Source: own choice ("Heaviest chains").
+#[tactic(auto, using(crate::proofs::Weights::least))]
 pub fn weight_is_least()
     ensures { WeightIsLeast }
 {}
@@ -51,6 +52,7 @@ pub fn overlay_is_refused()
 /// that placing gives over it.
 ///
 /// Source: own choice ("Heaviest chains").
+#[tactic(auto, using(crate::proofs::Tight::weights_agree))]
 pub fn weights_agree()
     ensures { WeightsAgree }
 {}
@@ -58,6 +60,7 @@ pub fn weights_agree()
 /// The decision by which two extents share a cell: it is whether a cell is in both.
 ///
 /// Source: own choice ("Extents go by numbers").
+#[tactic(auto, using(crate::proofs::Free::share_tells))]
 pub fn sharing_is_meeting()
     ensures { SharingIsMeeting }
 {}
@@ -65,6 +68,7 @@ pub fn sharing_is_meeting()
 /// The base of the definition is free, and no smaller one is; it is `None` exactly if no base is free.
 ///
 /// Source: RL51 guide.
+#[tactic(auto, using(crate::proofs::Free::least_is_least))]
 pub fn least_is_least()
     ensures { LeastIsLeast }
 {}

@@ -1,9 +1,9 @@
-use Rattle.m51_place.proofs.Common.{ℕ, List, ap, ◌∙◌, IsPermutation, All-permutation, Placed, conflicting, extents_in}
-use Rattle.m51_place.specs.Bases.{least_base}
-use Rattle.m51_bases.specs.Raising.{EndsWithin}
-use Rattle.m51_place.proofs.Free.{found_below, least_is}
-use Rattle.m51_place.proofs.Conflicting.{in_the_way_is}
-use Rattle.m51_place.proofs.bases.base_for.Goals as goal
+use Rattle.m51_place.proofs
+use proofs.Common.{EndsWithin, IsPermutation, List, Placed, ap, conflicting, extents_in, least_base, ℕ, ◌∙◌}
+use Rattle.std.proofs.lemmas.List.Sorted.{All-permutation}
+use proofs.Conflicting.{in_the_way_is}
+use proofs.Free.{found_below, least_is}
+use proofs.bases.base_for.Goals as goal
 
 pub first_clear-requires-clause-ends : goal.first_clear-requires-clause-ends
 first_clear-requires-clause-ends c =

@@ -1,6 +1,6 @@
-use Rattle.m51_place.proofs.Common.{◌≤◌, ℕ, length, none-some}
+use Rattle.m51_place.proofs.Common.{length, none-some, ℕ, ◌≤◌}
 use Rattle.m51_place.proofs.Chained.{first_all, first_with, first_without}
-use Rattle.m51_place.proofs.chaining.chains_at.Goals.{in-Some+in_ok-chain_of-in-Some+in_ok-push-in-Some, in-None}
+use Rattle.m51_place.proofs.chaining.chains_at.Goals.{in-None, in-Some+in_ok-chain_of-in-Some+in_ok-push-in-Some}
 use Rattle.m51_place.proofs.chaining.chains_at.Goals as goal
 
 pub loop-address-preserved : goal.loop-address-preserved

@@ -1,8 +1,7 @@
-use Rattle.m51_place.proofs.Common.{◌-◌, ◌<◌, ℕ, [], length, refl, arith, append-nil, leads, IsFront}
-use Rattle.m51_graph.proofs.Climbing.{rank_edge, tally_le}
-use Rattle.m51_place.specs.Heaviest.{IsNext}
-use Rattle.m51_place.proofs.Chained.{front_more, rank}
-use Rattle.m51_place.proofs.chaining.units_from.Goals as goal
+use Rattle.m51_place.proofs
+use proofs.Common.{IsFront, IsNext, [], append-nil, arith, leads, length, rank_edge, refl, tally_le, ℕ, ◌-◌, ◌<◌}
+use proofs.Chained.{front_more, rank}
+use proofs.chaining.units_from.Goals as goal
 
 pub loop-next-init : goal.loop-next-init
 loop-next-init c = rw c.in_ok-units.ensures.items

@@ -1,6 +1,4 @@
-use Rattle.m51_place.proofs.Common.{◌≡◌, ◌++◌, drop, All}
-use Rattle.m51_bases.specs.Raising.{EndsWithin}
-use Rattle.m51_place.specs.InTheWay.{in_the_way}
+use Rattle.m51_place.proofs.Common.{All, EndsWithin, drop, in_the_way, ◌++◌, ◌≡◌}
 use Rattle.m51_place.proofs.conflicts.in_the_way.Given as goal
 
 abbrev pub invariant-loop-extent : goal.invariant-loop-extent

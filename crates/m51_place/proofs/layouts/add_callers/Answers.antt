@@ -1,10 +1,9 @@
-use Rattle.m51_place.proofs.Common.{◌≡◌, ℕ, ◌+◌, ◌++◌, Bool, cond, List, [], ◌∷◌, append-nil, filter, sym, ◌∙◌}
-use Rattle.m51_place.proofs.Common.{range_with_len, edge_test, append_assoc}
-use Rattle.std.proofs.lemmas.List.{map-append}
-use Rattle.m51_place.specs.Placement.{pairs_with}
-use Rattle.std.proofs.lemmas.List.Elements.{filter-append}
+use Rattle.m51_place.proofs.Common.{Bool, List, append-nil, append_assoc, edge_test, filter, pairs_with, range_with_len}
+use Rattle.m51_place.proofs.Common.{[], cond, sym, ℕ, ◌++◌, ◌+◌, ◌∙◌, ◌∷◌, ◌≡◌}
 use Rattle.m51_cells.proofs.Small.{range_more}
-use Rattle.m51_place.proofs.layouts.add_callers.Goals.{then-is_caller+in_ok-push, else-is_caller}
+use Rattle.std.proofs.lemmas.List.{map-append}
+use Rattle.std.proofs.lemmas.List.Elements.{filter-append}
+use Rattle.m51_place.proofs.layouts.add_callers.Goals.{else-is_caller, then-is_caller+in_ok-push}
 use Rattle.m51_place.proofs.layouts.add_callers.Goals as goal
 
 more_pairs : (p : ℕ → Bool) (index count : ℕ) (old now : List (ℕ × ℕ))

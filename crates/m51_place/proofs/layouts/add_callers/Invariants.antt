@@ -1,5 +1,4 @@
-use Rattle.m51_place.proofs.Common.{◌≡◌, ◌++◌, filter, range_with_len, edge_test}
-use Rattle.m51_place.specs.Placement.{pairs_with}
+use Rattle.m51_place.proofs.Common.{edge_test, filter, pairs_with, range_with_len, ◌++◌, ◌≡◌}
 use Rattle.m51_place.proofs.layouts.add_callers.Given as goal
 
 abbrev pub invariant-loop-caller : goal.invariant-loop-caller

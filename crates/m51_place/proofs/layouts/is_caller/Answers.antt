@@ -1,5 +1,4 @@
-use Rattle.m51_place.proofs.Common.{same_from_decides, edge_test}
-use Rattle.m51_graph.proofs.Closed.{edge_tells}
+use Rattle.m51_place.proofs.Common.{edge_tells, edge_test, same_from_decides}
 use Rattle.m51_place.proofs.layouts.is_caller.Goals as goal
 
 pub returns : goal.returns

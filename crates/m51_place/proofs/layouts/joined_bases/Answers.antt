@@ -1,6 +1,5 @@
-use Rattle.m51_place.proofs.Common.{ℕ, sym, arith}
+use Rattle.m51_place.proofs.Common.{arith, joined_base, sym, ℕ}
 use Rattle.std.proofs.lemmas.List.FromFn.{map-range_with_len_more}
-use Rattle.m51_place.specs.Placement.{joined_base}
 use Rattle.m51_place.proofs.layouts.joined_bases.Goals as goal
 
 pub loop-number-preserved : goal.loop-number-preserved

@@ -1,5 +1,4 @@
-use Rattle.m51_place.proofs.Common.{◌≡◌, map, range_with_len}
-use Rattle.m51_place.specs.Placement.{joined_base}
+use Rattle.m51_place.proofs.Common.{joined_base, map, range_with_len, ◌≡◌}
 use Rattle.m51_place.proofs.layouts.joined_bases.Given as goal
 
 abbrev pub invariant-loop-number : goal.invariant-loop-number

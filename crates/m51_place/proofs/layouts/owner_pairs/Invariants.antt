@@ -1,5 +1,4 @@
-use Rattle.m51_place.proofs.Common.{◌≡◌, ◌++◌, drop}
-use Rattle.m51_place.specs.Placement.{owner_pairs}
+use Rattle.m51_place.proofs.Common.{drop, owner_pairs, ◌++◌, ◌≡◌}
 use Rattle.m51_place.proofs.layouts.owner_pairs.Given as goal
 
 abbrev pub invariant-loop-index : goal.invariant-loop-index

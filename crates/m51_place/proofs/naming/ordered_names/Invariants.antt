@@ -1,5 +1,4 @@
-use Rattle.m51_place.proofs.Common.{◌≡◌, ◌++◌, drop}
-use Rattle.m51_place.specs.Order.{ordered_names}
+use Rattle.m51_place.proofs.Common.{drop, ordered_names, ◌++◌, ◌≡◌}
 use Rattle.m51_place.proofs.naming.ordered_names.Given as goal
 
 abbrev pub invariant-loop-line : goal.invariant-loop-line

@@ -1,4 +1,4 @@
-use Rattle.m51_place.proofs.Common.{◌≡◌, [], drop, put_all}
+use Rattle.m51_place.proofs.Common.{[], drop, put_all, ◌≡◌}
 use Rattle.m51_place.proofs.ordering.in_order.Given as goal
 
 abbrev pub invariant-loop-next : goal.invariant-loop-next

@@ -1,5 +1,4 @@
-use Rattle.m51_place.proofs.Common.{◌≡◌, List, sym, ap, ◌∙◌, Ranked, comes_before}
-use Rattle.std.specs.List.{insert}
+use Rattle.m51_place.proofs.Common.{List, Ranked, ap, comes_before, insert, sym, ◌∙◌, ◌≡◌}
 use Rattle.m51_place.proofs.Ranks.{place_in, put_is}
 use Rattle.m51_place.proofs.ordering.put.Goals as goal
 

@@ -1,4 +1,4 @@
-use Rattle.m51_place.proofs.Common.{◌≡◌, ◌++◌, drop, ranked_from}
+use Rattle.m51_place.proofs.Common.{drop, ranked_from, ◌++◌, ◌≡◌}
 use Rattle.m51_place.proofs.ordering.ranked_segments.Given as goal
 
 abbrev pub invariant-loop-number : goal.invariant-loop-number

@@ -1,5 +1,5 @@
 use Rattle.m51_place.proofs.Common.{arith, vectors}
-use Rattle.m51_place.proofs.Ranks.{bit_set, bits_left, bit_clear}
+use Rattle.m51_place.proofs.Ranks.{bit_clear, bit_set, bits_left}
 use Rattle.m51_place.proofs.ordering.root_number.Goals as goal
 
 pub returns-then-bits-eq1 : goal.returns-then-bits-eq1

@@ -1,5 +1,4 @@
-use Rattle.m51_place.proofs.Common.{◌≡◌, ◌+◌, drop, position_or_len, lies_under, leads, vectors, root_number}
-use Rattle.m51_graph.specs.Graph.{AreBits}
+use Rattle.m51_place.proofs.Common.{AreBits, drop, leads, lies_under, position_or_len, root_number, vectors, ◌+◌, ◌≡◌}
 use Rattle.m51_place.proofs.ordering.root_number.Given as goal
 
 abbrev pub invariant-loop-index : goal.invariant-loop-index

@@ -1,4 +1,4 @@
-use Rattle.m51_place.proofs.Common.{◌≡◌, drop, All, place_after, IsNumbered}
+use Rattle.m51_place.proofs.Common.{All, IsNumbered, drop, place_after, ◌≡◌}
 use Rattle.m51_place.proofs.placing.place_after.Given as goal
 
 abbrev pub invariant-loop-ranked : goal.invariant-loop-ranked

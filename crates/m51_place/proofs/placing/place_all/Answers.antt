@@ -1,10 +1,10 @@
-use Rattle.m51_place.proofs.Common.{List, length, map, sym, ap, subst, ◌∙◌, range_with_len, IsSound, JoinedSegment}
-use Rattle.m51_place.proofs.Common.{segments_of, Numbered, parts_of_layout}
-use Rattle.m51_place.specs.Placement.{joined_base}
-use Rattle.m51_place.proofs.Ranks.{graph_is}
-use Rattle.m51_place.proofs.SoundLayout.{places_are, sound}
-use Rattle.m51_place.proofs.Whole.{numbered, placed_whole}
-use Rattle.m51_place.proofs.placing.place_all.Goals as goal
+use Rattle.m51_place.proofs
+use proofs.Common.{IsSound, JoinedSegment, Numbered, joined_base, length, parts_of_layout, range_with_len, segments_of}
+use proofs.Common.{List, ap, map, subst, sym, ◌∙◌}
+use proofs.Ranks.{graph_is}
+use proofs.SoundLayout.{places_are, sound}
+use proofs.Whole.{numbered, placed_whole}
+use proofs.placing.place_all.Goals as goal
 
 pub parts_of_layout-requires : goal.parts_of_layout-requires
 parts_of_layout-requires c =

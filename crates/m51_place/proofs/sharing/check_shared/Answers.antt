@@ -1,10 +1,8 @@
-use Rattle.m51_place.proofs.Common.{◌≡◌, ℕ, ◌+◌, ◌<◌, List, [], ◌∷◌, ◌++◌, length, drop, take, get_or, Option, Err, sym}
-use Rattle.m51_place.proofs.Common.{ap, ◌∙◌, arith, Refusal, drop_rest, Numbered, first_met, shared_at, shared_after}
-use Rattle.m51_place.proofs.Common.{shared_extents}
-use Rattle.std.specs.Option.{option_or}
+use Rattle.m51_place.proofs
+use proofs.Common.{Numbered, Option, Refusal, drop_rest, first_met, option_or, shared_after, shared_at, shared_extents}
+use proofs.Common.{Err, List, [], ap, arith, drop, get_or, length, passed, sym, take, ℕ, ◌++◌, ◌+◌, ◌<◌, ◌∙◌, ◌∷◌, ◌≡◌}
 use Rattle.std.proofs.lemmas.Result.{err_from_is_err_and}
-use Rattle.m51_graph.specs.Graphs.{passed}
-use Rattle.m51_place.proofs.sharing.check_shared.Goals as goal
+use proofs.sharing.check_shared.Goals as goal
 
 -- what an extent answers for itself
 abbrev next_rule : List Numbered → Numbered → Option Refusal

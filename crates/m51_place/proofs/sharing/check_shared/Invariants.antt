@@ -1,4 +1,4 @@
-use Rattle.m51_place.proofs.Common.{◌≡◌, drop, take, shared_after, shared_extents}
+use Rattle.m51_place.proofs.Common.{drop, shared_after, shared_extents, take, ◌≡◌}
 use Rattle.m51_place.proofs.sharing.check_shared.Given as goal
 
 abbrev pub invariant-loop-index : goal.invariant-loop-index

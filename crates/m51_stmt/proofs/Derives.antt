@@ -1,40 +1,57 @@
 -- What is in the grammar is read.
-use Rattle.std.proofs.Common.{◌≡◌, ℕ, suc, ◌<◌, ◌≤◌, ◌==◌, Bool, true, false, List, [], ◌∷◌, ◌++◌, length, Option, Some}
-use Rattle.std.proofs.Common.{None, refl, sym, ap, ◌∙◌, arith, slice_get, ⊎_elim}
-use Rattle.std.specs.Prelude.{codes, option_map}
+use Rattle.m51_stmt.proofs
+use proofs.Common.{◌≡◌, ℕ, Bool, true, false, List, [], ◌∷◌, Some, refl, suc, ◌<◌, ◌≤◌, ◌==◌, ◌++◌, length, Option}
+use proofs.Common.{None, sym, ap, ◌∙◌, arith, slice_get, codes, option_map, list_all, bytes_eq, bytes_eq-Decides}
+use proofs.Common.{and_parts, common_steps, Kind, Reloc, Symbol, Tree, prefix_rank, is_open, leaf_of, Line, Writes}
+use proofs.Common.{Leaf, Parens, Before, Between, Tighter, Directive, directive_form, DefinitionWord, Awaited, BodyTree}
+use proofs.Common.{OperandTree, ItemTree, StmtTree, Plain, is_comma, parts, list_of, name_alone, expression, value}
+use proofs.Common.{item, operands, externs_from, is_allowed, is_overlayable, segment, definition_form, said, with_label}
+use proofs.Common.{statement, IsExpr, IsList, IsOperand, AreOperands, IsName, IsValue, IsItem, is_text_alone}
+use proofs.Common.{AreExterns, HasType, HasOverlay, IsDefinition, IsDirective, IsSaid, IsStatement}
+use Rattle.std.proofs.Common.{⊎_elim}
+use Rattle.std.specs.Prelude.{is_none}
+use Rattle.std.specs.List.{list_any}
 use Rattle.std.proofs.str.Laws.{order}
-use Rattle.std.proofs.lemmas.Slice.Eq.{bytes_eq-Decides}
-use Rattle.std.proofs.lemmas.Grind.{common_steps}
-use Rattle.m51_cells.specs.declared.kind.Kind.{Kind}
-use Rattle.m51_cells.specs.declared.kind.Reloc.{Reloc}
-use Rattle.m51_cells.specs.declared.kind.Reloc.TheVariants as reloc
-use Rattle.m51_expr.specs.declared.tree.Binary.TheVariants as binary
-use Rattle.m51_expr.specs.declared.symbol.Symbol.{Symbol}
-use Rattle.m51_expr.specs.declared.symbol.Symbol.TheVariants as symbols
-use Rattle.m51_expr.specs.Tree.{Tree}
-use Rattle.m51_expr.specs.Ranks.{prefix_operator, of_rank, prefix_rank, is_open, leaf_of}
-use Rattle.m51_expr.specs.Reading.{Line}
-use Rattle.m51_expr.specs.Grammar.{Writes, Leaf, Parens, Before, Between, Tighter}
+use Rattle.m51_isa.specs.Mnemonics.{mnemonics, is_mnemonic}
+use Rattle.m51_expr.specs.Ranks.{prefix_operator, of_rank}
 use Rattle.m51_expr.proofs.Complete.{expression_is}
-use Rattle.m51_stmt.specs.declared.definitions.DefinitionWord.{DefinitionWord}
-use Rattle.m51_stmt.specs.declared.directives.Directive.{Directive}
-use Rattle.m51_stmt.specs.declared.externs.Awaited.{Awaited}
+use Rattle.m51_stmt.specs.Directives.{select_of, directive_of}
+use Rattle.m51_stmt.specs.Kinds.{kind_of, reloc_of}
+use Rattle.m51_stmt.specs.Lists.{all_parts}
+use Rattle.m51_stmt.specs.Operands.{operand}
+use proofs.ListWords.{Each}
+use Rattle.m51_expr.specs.declared.tree.Binary.TheVariants as binary
+use Rattle.m51_expr.specs.declared.symbol.Symbol.TheVariants as symbols
 use Rattle.m51_stmt.specs.declared.externs.Awaited.TheVariants as awaited
 use Rattle.m51_stmt.specs.Statement as body
-use Rattle.m51_stmt.specs.Statement.{BodyTree, OperandTree, ItemTree, StmtTree, Imm, Plain}
-use Rattle.m51_stmt.specs.Words.{is_comma}
-use Rattle.m51_stmt.specs.Kinds.{kind_of, reloc_of}
-use Rattle.m51_stmt.specs.Lists.{with_symbol, parts, all_parts, list_of, name_alone, expression, value, item}
-use Rattle.m51_stmt.specs.Operands.{operand, operands}
-use Rattle.m51_stmt.specs.Externs.{externs_from}
-use Rattle.m51_stmt.specs.Definitions.{is_allowed, is_overlayable, segment_body, segment, definition_form}
-use Rattle.m51_stmt.specs.Directives.{directive_form}
-use Rattle.m51_stmt.specs.Lines.{said, with_label, statement}
 use Rattle.m51_stmt.specs.Grammar as grammar
-use Rattle.m51_stmt.specs.Grammar.{IsExpr, IsList, IsOperand, AreOperands, IsName, IsValue, IsItem, is_text_alone}
-use Rattle.m51_stmt.specs.Grammar.{AreExterns, HasType, HasOverlay, IsDefinition, IsDirective, IsSaid, IsStatement}
-use Rattle.m51_stmt.proofs.ListWords.{Each}
-use Rattle.m51_stmt.proofs.DirectiveWords.{no_mnemonic}
+
+-- No mnemonic is a word of a directive.
+
+mnemonics_begin_none : list_all (λ m. is_none (directive_of m)) mnemonics ≡ true
+unfolding directive_of select_of
+mnemonics_begin_none = refl
+
+differs : (m w : List ℕ) (d : Directive) (b : Bool) → bytes_eq m w ≡ b → is_none (directive_of m) ≡ true
+    → directive_of w ≡ Some d → b ≡ false
+differs m w d false t none is = refl
+differs m w d true t none is =
+    absurd (cc (rw ((bytes_eq-Decides m w).0 t, is) at none))
+
+none_among : (words : List (List ℕ)) (w : List ℕ) (d : Directive)
+    → list_all (λ m. is_none (directive_of m)) words ≡ true → directive_of w ≡ Some d
+    → list_any (λ m. bytes_eq m w) words ≡ false
+none_among [] w d none is = refl
+none_among (m ∷ more) w d none is =
+    let parts = and_parts (is_none (directive_of m)) (list_all (λ m. is_none (directive_of m)) more) none in
+    rw (differs m w d (bytes_eq m w) refl parts.0 is) (none_among more w d parts.1 is)
+
+-- a word of a directive is no mnemonic
+pub no_mnemonic : (w : List ℕ) (d : Directive) → directive_of w ≡ Some d → is_mnemonic w ≡ false
+unfolding is_mnemonic
+no_mnemonic w d is = none_among mnemonics w d mnemonics_begin_none is
+
+-- What is in the grammar is read.
 
 -- expressions
 none_past : (l : List Symbol) → slice_get l (length l) ≡ None
@@ -92,19 +109,15 @@ expr_inside : (l : List Symbol) (e : Tree) → IsExpr l e → Each IsInside l
 expr_inside l e is = each_inside l (λ i lt. inside is.writes i (omega arith) lt)
 
 -- lists
-front_parts : (s : Symbol) (p : List Symbol × List (List Symbol)) → is_comma s ≡ false
-    → with_symbol s p ≡ (s ∷ p.0, p.1)
-front_parts s p is = rw is
-
 -- one part without a comma
 parts_alone : (l : List Symbol) → Each IsInside l → parts l ≡ (l, [])
 parts_alone [] h = refl
-parts_alone (s ∷ l) h = rw (parts_alone l h.1) (front_parts s (l, []) h.0)
+parts_alone (s ∷ l) h = rw (parts_alone l h.1, h.0)
 
 -- one part before a comma
 parts_comma : (l rest : List Symbol) → Each IsInside l → parts (l ++ symbols.Comma ∷ rest) ≡ (l, all_parts rest)
 parts_comma [] rest h = refl
-parts_comma (s ∷ l) rest h = rw (parts_comma l rest h.1) (front_parts s (l, all_parts rest) h.0)
+parts_comma (s ∷ l) rest h = rw (parts_comma l rest h.1, h.0)
 
 -- a part, which has no comma, is read
 record Reads {A : Type 0} (item : List Symbol → Option A) (l : List Symbol) (a : A) : Type 0 where
@@ -184,30 +197,20 @@ externs_read expected l xs (grammar.Last free) = rw free refl
 externs_read expected l xs (grammar.Next {rest = rest} free d) = rw (free, externs_read None rest _ d) refl
 
 -- definitions
-segment_made : (name word : List ℕ) (k : Kind) (o : Option Reloc) (r : Reloc) (b : Bool) → kind_of word ≡ Some k
-    → o ≡ Some r → is_allowed k r b ≡ true → segment_body name (kind_of word) o b ≡ Some (body.Segment name k r b)
-segment_made name word k o r b kinds types allowed = rw (kinds, types, allowed) refl
-
-no_type : reloc_of (codes "OVERLAYABLE") ≡ None
-unfolding reloc_of
-no_type = refl
-
 no_overlay : (word : List ℕ) (r : Reloc) (b : Bool) → reloc_of word ≡ Some r → is_overlayable word ≡ b → b ≡ false
-no_overlay word r true types is =
-    absurd (cc (sym (ap reloc_of ((bytes_eq-Decides word (codes "OVERLAYABLE")).0 is) ∙ no_type) ∙ types))
+unfolding reloc_of
+no_overlay word r true types is = absurd (cc (rw ((bytes_eq-Decides word (codes "OVERLAYABLE")).0 is) at types))
 no_overlay word r false types is = refl
 
 segment_read : (name word : List ℕ) (k : Kind) (r : Reloc) (b : Bool) (type last : List Symbol) → kind_of word ≡ Some k
     → HasType type r → HasOverlay last b → is_allowed k r b ≡ true
     → segment name (symbols.Word word ∷ type ++ last) ≡ Some (body.Segment name k r b)
-segment_read name word k r b type last kinds grammar.Unit grammar.Nothing allowed =
-    segment_made _ _ _ _ _ _ kinds refl allowed
-segment_read name word k r b type last kinds grammar.Unit grammar.Overlay allowed =
-    segment_made _ _ _ _ _ _ kinds refl allowed
+segment_read name word k r b type last kinds grammar.Unit grammar.Nothing allowed = rw (kinds, allowed) refl
+segment_read name word k r b type last kinds grammar.Unit grammar.Overlay allowed = rw (kinds, allowed) refl
 segment_read name word k r b type last kinds (grammar.Typed {word = w} is) grammar.Nothing allowed =
-    rw (no_overlay w r (is_overlayable w) is refl) (segment_made _ _ _ _ _ _ kinds is allowed)
+    rw (no_overlay w r (is_overlayable w) is refl, kinds, is, allowed) refl
 segment_read name word k r b type last kinds (grammar.Typed is) grammar.Overlay allowed =
-    segment_made _ _ _ _ _ _ kinds is allowed
+    rw (kinds, is, allowed) refl
 
 definition_reads : (d : DefinitionWord) (name : List ℕ) (l : List Symbol) (b : BodyTree) → IsDefinition name d l b
     → definition_form d name l ≡ Some b

@@ -1,9 +1,7 @@
 -- What holds of each answer of a reader, by the parts of the reader.
-use Rattle.std.proofs.Common.{arith}
-use Rattle.std.proofs.Common.{◌≡◌, ℕ, Bool, true, false, cond, Option, Some, None, Result, Ok, Err, refl}
-use Rattle.std.specs.Prelude.{option_and_then, option_map}
+use Rattle.m51_stmt.proofs.Common.{arith, ◌≡◌, ℕ, Bool, true, false, cond, Option, Some, None, Result, Ok, Err, refl}
+use Rattle.m51_stmt.proofs.Common.{option_and_then, option_map, same_Some}
 use Rattle.std.specs.Option.{option_or}
-use Rattle.std.proofs.lemmas.Option.{same_Some}
 use Rattle.m51_cells.proofs.Passing.{same_Ok}
 use Rattle.m51_stmt.specs.Answer.{and_then, or_fault}
 

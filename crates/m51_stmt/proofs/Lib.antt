@@ -1,3 +1,4 @@
+pub mod Common
 pub mod LineCuts
 pub mod WordCuts
 pub mod PrintedTrees
@@ -6,12 +7,10 @@ pub mod PrintedParts
 pub mod PrintedOperands
 pub mod PrintedLists
 pub mod PrintedExterns
-pub mod DirectiveWords
+pub mod Derives
 pub mod PrintedBodies
 pub mod IfRead
 pub mod ReadSymbols
 pub mod ReadStatements
-pub mod Derived
-pub mod Derives
-pub mod PrintedStatements
 pub mod LinesRead
+pub mod PrintedStatements

@@ -1,18 +1,11 @@
 -- The cut of a line into words, with blanks between them or none.
-use Rattle.std.proofs.Common.{◌≡◌, ℕ, length-append, ◌+◌, ◌-◌, ◌<◌, List, [], ◌∷◌, ◌++◌, length, drop, take, map, Ok}
-use Rattle.std.proofs.Common.{Some, refl, sym, ap, ◌∙◌, append_assoc, arith}
-use Rattle.std.specs.List.{slice_range}
-use Rattle.std.proofs.Math.Seq.{drop-append_seam, take-append_seam}
-use Rattle.m51_lex.specs.Characters.{space}
-use Rattle.m51_lex.specs.declared.token.Token.{Token}
-use Rattle.m51_lex.specs.declared.token.What.{What}
+use Rattle.m51_stmt.proofs
+use proofs.Common.{◌≡◌, ℕ, length-append, ◌+◌, ◌-◌, ◌<◌, List, [], ◌∷◌, ◌++◌, length, drop, map, Ok, Some, refl, sym}
+use proofs.Common.{ap, ◌∙◌, append_assoc, arith, slice_range, drop-append_seam, take-append_seam, space, Token, What}
+use proofs.Common.{Cut, put_front, after_lexeme, tokens_at, Symbol, symbol_by, statement, token_line, StmtTree}
 use Rattle.m51_lex.specs.Lexeme.{lexeme_of}
-use Rattle.m51_lex.specs.Tokens.{Cut, put_front, after_lexeme, tokens_at}
 use Rattle.m51_lex.proofs.Cuts.{from_front}
-use Rattle.m51_expr.specs.declared.symbol.Symbol.{Symbol}
-use Rattle.m51_expr.specs.Symbol.{symbol_by, symbol_of}
-use Rattle.m51_stmt.specs.Lines.{read, statement, token_line}
-use Rattle.m51_stmt.specs.Statement.{StmtTree}
+use Rattle.m51_expr.specs.Symbol.{symbol_of}
 
 -- a word of a line: what it is as a token, and its bytes
 pub record Word : Type 0 where

@@ -1,11 +1,10 @@
 -- The words of printed lists.
-use Rattle.std.proofs.Common.{arith}
-use Rattle.std.proofs.Common.{◌≡◌, ℕ, map, List, [], ◌∷◌, ◌++◌, refl, sym, ap, ◌∙◌, append_assoc, append-nil}
-use Rattle.m51_expr.specs.declared.symbol.Symbol.{Symbol}
-use Rattle.m51_stmt.specs.Grammar.{IsList, Last, Comma}
+use Rattle.m51_stmt.proofs
+use proofs.Common.{arith, ◌≡◌, ℕ, map, List, [], ◌∷◌, ◌++◌, refl, ◌∙◌, append_assoc, append-nil, Symbol, IsList}
+use Rattle.m51_stmt.specs.Grammar.{Last, Comma}
 use Rattle.m51_stmt.specs.Printing.{separated}
-use Rattle.m51_stmt.proofs.LineCuts.{Word, laid, AreCut, symbol}
-use Rattle.m51_stmt.proofs.WordCuts.{sign_word, sign_cut}
+use proofs.LineCuts.{Word, laid, AreCut, symbol}
+use proofs.WordCuts.{sign_word, sign_cut}
 
 abbrev pub comma_word : Word
 comma_word = sign_word 0x2C

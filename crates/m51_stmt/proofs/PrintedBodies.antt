@@ -1,44 +1,32 @@
 -- What a line says after its label reads back.
-use Rattle.std.proofs.Common.{arith}
-use Rattle.std.proofs.Common.{◌≡◌, ℕ, Bool, true, false, map, List, [], ◌∷◌, Option, Some, None, refl, sym, ap}
-use Rattle.std.proofs.Common.{append-nil, append_assoc}
-use Rattle.std.specs.Prelude.{codes}
-use Rattle.m51_cells.specs.Name.{name_of}
-use Rattle.m51_cells.specs.declared.kind.Kind.{Kind}
-use Rattle.m51_cells.specs.declared.kind.Kind.TheVariants as kind
-use Rattle.m51_cells.specs.declared.kind.Reloc.{Reloc}
-use Rattle.m51_cells.specs.declared.kind.Reloc.TheVariants as reloc
+use Rattle.m51_stmt.proofs
+use proofs.Common.{arith, ◌≡◌, ℕ, Bool, true, false, map, List, [], ◌∷◌, Option, Some, None, refl, append-nil}
+use proofs.Common.{append_assoc, codes, name_of, Kind, Reloc, word_symbol, Tree, DefinitionWord, Directive, BodyTree}
+use proofs.Common.{OperandTree, is_allowed, IsSaid, word_text, kind_word, reloc_word, item_text, extern_text}
 use Rattle.m51_isa.specs.Mnemonics.{is_mnemonic}
 use Rattle.m51_isa.proofs.FoundMnemonics.{has_mnemonic}
-use Rattle.m51_expr.specs.declared.symbol.Symbol.TheVariants as symbols
-use Rattle.m51_expr.specs.Symbol.{operator_of, prefix_word, relation_word, arithmetic_word, word_symbol}
+use Rattle.m51_expr.specs.Symbol.{operator_of, prefix_word, relation_word, arithmetic_word}
 use Rattle.m51_expr.specs.Words.{is_language_word}
-use Rattle.m51_expr.specs.Tree.{Tree}
-use Rattle.m51_stmt.specs.declared.definitions.DefinitionWord.{DefinitionWord}
-use Rattle.m51_stmt.specs.declared.definitions.DefinitionWord.TheVariants as definition
-use Rattle.m51_stmt.specs.declared.directives.Directive.{Directive}
-use Rattle.m51_stmt.specs.declared.directives.Directive.TheVariants as directive
-use Rattle.m51_stmt.specs.Statement as body
-use Rattle.m51_stmt.specs.Statement.{BodyTree, OperandTree}
 use Rattle.m51_stmt.specs.Kinds.{kind_of, reloc_of}
 use Rattle.m51_expr.specs.Looks.{has_form}
-use Rattle.m51_stmt.specs.Definitions.{is_allowed, definition_word}
+use Rattle.m51_stmt.specs.Definitions.{definition_word}
 use Rattle.m51_stmt.specs.Directives.{directive_of}
+use Rattle.m51_stmt.specs.Printing.{select_word, overlayable_text, at_text, operand_text, body_text}
+use proofs.LineCuts.{Word, laid, AreCut, symbol}
+use proofs.WordCuts.{name_word, name_cut, cuts}
+use proofs.PrintedTrees.{IsLeafName, IsTree, expr_words, expr_said, expr_cut, expr_laid, one_laid}
+use proofs.ListWords.{Each, OneOrMore, some_each, list_words, list_laid, list_cut, list_said, one_part}
+use proofs.PrintedParts.{name_symbol}
+use proofs.PrintedOperands.{IsOperand, operand_words, operand_laid, operand_cut, operand_part, operand_said}
+use proofs.PrintedLists.{name_words, names_cut, name_said, item_words, IsItem, item_laid, item_cut, item_said}
+use proofs.PrintedLists.{value_said, item_part}
+use proofs.PrintedExterns.{IsFree, IsExtern, kind_written, kind_symbol, extern_words, extern_laid, extern_cut}
+use proofs.PrintedExterns.{externs_said}
+use Rattle.m51_expr.specs.declared.symbol.Symbol.TheVariants as symbols
+use Rattle.m51_stmt.specs.declared.definitions.DefinitionWord.TheVariants as definition
+use Rattle.m51_stmt.specs.declared.directives.Directive.TheVariants as directive
+use Rattle.m51_stmt.specs.Statement as body
 use Rattle.m51_stmt.specs.Grammar as grammar
-use Rattle.m51_stmt.specs.Grammar.{IsSaid}
-use Rattle.m51_stmt.specs.Printing.{word_text, kind_word, reloc_word, select_word, overlayable_text, at_text}
-use Rattle.m51_stmt.specs.Printing.{operand_text, item_text, extern_text, body_text}
-use Rattle.m51_stmt.proofs.LineCuts.{Word, laid, AreCut, symbol}
-use Rattle.m51_stmt.proofs.WordCuts.{name_word, name_cut, cuts}
-use Rattle.m51_stmt.proofs.PrintedTrees.{IsLeafName, IsTree, expr_words, expr_said, expr_cut, expr_laid, one_laid}
-use Rattle.m51_stmt.proofs.ListWords.{Each, OneOrMore, some_each, list_words, list_laid, list_cut, list_said}
-use Rattle.m51_stmt.proofs.PrintedParts.{name_symbol}
-use Rattle.m51_stmt.proofs.PrintedOperands.{IsOperand, operand_words, operand_laid, operand_cut, operand_part}
-use Rattle.m51_stmt.proofs.PrintedOperands.{operand_said}
-use Rattle.m51_stmt.proofs.PrintedLists.{name_words, names_cut, name_said, names_said, item_words, IsItem, item_laid}
-use Rattle.m51_stmt.proofs.PrintedLists.{item_cut, items_said, values_said}
-use Rattle.m51_stmt.proofs.PrintedExterns.{IsFree, IsExtern, kind_written, kind_symbol, extern_words, extern_laid}
-use Rattle.m51_stmt.proofs.PrintedExterns.{extern_cut, externs_said}
 
 -- an instruction that can be read
 pub record IsCode (mnemonic : List ℕ) (operands : List OperandTree) : Type 0 where
@@ -154,8 +142,7 @@ pub select_written : (k : Kind) → name_of (select_word k) ≡ Some (select_wor
 select_written k = grind arith
 
 pub reloc_written : (r : Reloc) → name_of (reloc_word r) ≡ Some (reloc_word r)
-reloc_written reloc.Abs = refl
-reloc_written r = refl
+reloc_written r = grind arith
 
 overlayable_cut : (b : Bool) → AreCut (overlayable_words b)
 overlayable_cut true = (name_cut refl, tt)
@@ -189,14 +176,10 @@ operands_said (a ∷ more) is =
 mnemonic_is : (m : List ℕ) (os : List OperandTree) → has_form m os ≡ true → is_mnemonic m ≡ true
 mnemonic_is m os h = grind (arith, has_mnemonic)
 
--- an instruction
-pub mnemonic_symbol : (m : List ℕ) (os : List OperandTree) → IsCode m os → symbol (name_word m) ≡ symbols.Word m
-mnemonic_symbol m os is = rw is.written is.word
-
 code_said : (labelled : Bool) (m : List ℕ) (os : List OperandTree) → IsCode m os
     → IsSaid labelled (map symbol (body_words (body.Code m os))) (body.Code m os)
 code_said labelled m os is =
-    rw (mnemonic_symbol m os is)
+    rw (is.written, is.word)
     (grammar.Instruction (mnemonic_is m os is.form) (operands_said os is.each) is.form)
 
 directive_said : {labelled : Bool} (w : List ℕ) {d : Directive} (rest : List Word) {b : BodyTree}
@@ -214,8 +197,7 @@ define_said name w rest bare free found word is =
 
 reloc_symbol : (r : Reloc) → symbol (name_word (reloc_word r)) ≡ symbols.Word (reloc_word r)
 unfolding operator_of prefix_word relation_word arithmetic_word is_language_word
-reloc_symbol reloc.Abs = refl
-reloc_symbol r = refl
+reloc_symbol r = grind arith
 
 overlayable_symbol : symbol (name_word (codes "OVERLAYABLE")) ≡ symbols.Word (codes "OVERLAYABLE")
 unfolding operator_of prefix_word relation_word arithmetic_word is_language_word
@@ -235,8 +217,7 @@ segment_said name k r b is =
 
 pub select_symbol : (k : Kind) → symbol (name_word (select_word k)) ≡ symbols.Word (select_word k)
 unfolding operator_of prefix_word relation_word arithmetic_word is_language_word
-select_symbol kind.Code = refl
-select_symbol k = refl
+select_symbol k = grind arith
 
 select_said : (k : Kind) (e : Option Tree) → IsAt e
     → grammar.IsDirective (directive.Select k) (map symbol (at_words e)) (body.Select k e)
@@ -258,9 +239,9 @@ body_said labelled at first (body.Mod51 on) is = absurd is
 body_said labelled at first body.End is = directive_said (codes "END") [] refl refl grammar.End
 body_said labelled at first (body.Code m os) is = code_said labelled m os is
 body_said labelled at first (body.Db items) is =
-    directive_said (codes "DB") _ refl refl (grammar.Db (items_said items is))
+    directive_said (codes "DB") _ refl refl (grammar.Db (list_said _ _ item_words item_part item_said items is))
 body_said labelled at first (body.Dw items) is =
-    directive_said (codes "DW") _ refl refl (grammar.Dw (values_said items is))
+    directive_said (codes "DW") _ refl refl (grammar.Dw (list_said _ _ item_words item_part value_said items is))
 body_said labelled at first (body.Ds e) is =
     directive_said (codes "DS") _ refl refl (grammar.Ds (expr_said e is))
 body_said labelled at first (body.Dbit e) is =
@@ -284,7 +265,8 @@ body_said labelled at first (body.Address name k e) is =
     define_said name (kind_word k) _ (first is.0) is.1 (kind_defines k is.2) (kind_symbol k)
     (grammar.Address (expr_said e is.3))
 body_said labelled at first (body.Public names) is =
-    directive_said (codes "PUBLIC") _ refl refl (grammar.Public (names_said names is))
+    directive_said (codes "PUBLIC") _ refl refl
+    (grammar.Public (list_said _ _ name_words (λ n. one_part (name_word n)) name_said names is))
 body_said labelled at first (body.Extrn externs) is =
     directive_said (codes "EXTRN") _ refl refl
     (grammar.Extrn (externs_said externs is))

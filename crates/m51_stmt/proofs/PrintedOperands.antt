@@ -1,21 +1,20 @@
 -- Printed operands read back.
-use Rattle.std.proofs.Common.{◌≡◌, ℕ, ◌<◌, map, List, [], ◌∷◌, ◌++◌, Some, refl, sym, ap, arith}
-use Rattle.std.specs.Prelude.{codes}
+use Rattle.m51_stmt.proofs
+use proofs.Common.{◌≡◌, ℕ, ◌<◌, map, List, [], ◌∷◌, ◌++◌, Some, refl, arith, codes, name_of, OperandTree, Plain}
 use Rattle.m51_isa.proofs.Distinct.{of_register}
-use Rattle.m51_cells.specs.Name.{name_of}
-use Rattle.m51_expr.specs.declared.symbol.Symbol.TheVariants as symbols
 use Rattle.m51_expr.specs.Symbol.{operator_of, prefix_word, relation_word, arithmetic_word}
 use Rattle.m51_expr.specs.Words.{is_language_word}
-use Rattle.m51_stmt.specs.Statement.{OperandTree, A, Ab, C, Dptr, APc, ADptr, AtDptr, R, AtR, Imm, Plain, NotBit}
+use Rattle.m51_stmt.specs.Statement.{A, Ab, C, Dptr, APc, ADptr, AtDptr, R, AtR, Imm, NotBit}
 use Rattle.m51_stmt.specs.Words.{register_number}
-use Rattle.m51_stmt.specs.Grammar as grammar
 use Rattle.m51_stmt.specs.Operands.{register, pointer, sum}
 use Rattle.m51_stmt.specs.Printing.{register_word, operand_text}
-use Rattle.m51_stmt.proofs.LineCuts.{Word, laid, IsCut, AreCut, symbol}
-use Rattle.m51_stmt.proofs.WordCuts.{name_word, sign_word, name_cut, sign_cut, cuts}
-use Rattle.m51_stmt.proofs.PrintedTrees.{IsTree, expr_words, expr_said, expr_cut, expr_laid}
-use Rattle.m51_stmt.proofs.ListWords.{IsPart, after_word, one_part}
-use Rattle.m51_stmt.proofs.PrintedParts.{expr_part}
+use proofs.LineCuts.{Word, laid, AreCut, symbol}
+use proofs.WordCuts.{name_word, sign_word, name_cut, sign_cut, cuts}
+use proofs.PrintedTrees.{IsTree, expr_words, expr_said, expr_cut, expr_laid}
+use proofs.ListWords.{IsPart, after_word, one_part}
+use proofs.PrintedParts.{expr_part}
+use Rattle.m51_expr.specs.declared.symbol.Symbol.TheVariants as symbols
+use Rattle.m51_stmt.specs.Grammar as grammar
 
 -- an operand that can be read: its register has a number, and its tree is one of an expression
 abbrev pub IsOperand : OperandTree → Type 0
@@ -51,12 +50,9 @@ operand_laid o rest = grind (arith, expr_laid)
 pub register_written : (n : ℕ) → n < 8 → name_of (register_word n) ≡ Some (register_word n)
 register_written n h = grind arith
 
-register_cut : (n : ℕ) → n < 8 → IsCut (name_word (register_word n))
-register_cut n h = name_cut (register_written n h)
-
 pub operand_cut : (o : OperandTree) (rest : List Word) → IsOperand o → AreCut rest → AreCut (operand_words o rest)
-operand_cut (R n) rest is more = (register_cut n is, more)
-operand_cut (AtR n) rest is more = (sign_cut refl, (register_cut n (omega (arith, is)), more))
+operand_cut (R n) rest is more = (name_cut (register_written n is), more)
+operand_cut (AtR n) rest is more = (sign_cut refl, (name_cut (register_written n (omega (arith, is))), more))
 operand_cut o rest is more = search (cuts, expr_cut, more)
 
 register_symbol : (n : ℕ) → n < 8 → symbol (name_word (register_word n)) ≡ symbols.Word (register_word n)

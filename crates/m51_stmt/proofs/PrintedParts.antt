@@ -1,13 +1,12 @@
 -- A printed expression is a part of a list.
-use Rattle.std.proofs.Common.{◌≡◌, ℕ, List, ◌∷◌, ap, ◌∙◌}
+use Rattle.m51_stmt.proofs
+use proofs.Common.{◌≡◌, ℕ, List, ◌∷◌, ap, ◌∙◌, word_or_other, Tree}
+use proofs.LineCuts.{symbol}
+use proofs.WordCuts.{name_word}
+use proofs.PrintedTrees.{IsLeafName, open_word, close_word, before_word, between_word, expr_words}
+use proofs.ListWords.{IsPart, after_word, one_part, two_parts}
 use Rattle.m51_expr.specs.declared.symbol.Symbol.TheVariants as symbols
-use Rattle.m51_expr.specs.Symbol.{word_or_other}
 use Rattle.m51_expr.specs.Tree as tree
-use Rattle.m51_expr.specs.Tree.{Tree}
-use Rattle.m51_stmt.proofs.LineCuts.{symbol}
-use Rattle.m51_stmt.proofs.WordCuts.{name_word}
-use Rattle.m51_stmt.proofs.PrintedTrees.{IsLeafName, open_word, close_word, before_word, between_word, expr_words}
-use Rattle.m51_stmt.proofs.ListWords.{IsPart, after_word, one_part, two_parts}
 
 pub name_symbol : (name : List ℕ) → IsLeafName name → symbol (name_word name) ≡ symbols.Name name
 name_symbol name is = ap word_or_other is.written ∙ is.leaf

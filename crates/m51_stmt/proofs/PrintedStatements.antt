@@ -1,26 +1,24 @@
 -- Printed statements read back.
-use Rattle.std.proofs.Common.{◌≡◌, ℕ, ◌<◌, ◌==◌, true, false, map, List, [], ◌∷◌, ◌++◌, length, take, drop, Option}
-use Rattle.std.proofs.Common.{Some, None, Ok, refl, sym, ap, ◌∙◌, arith, append_assoc, inl, inr, ◌⊎◌}
-use Rattle.std.specs.List.{list_all, prefix_len}
-use Rattle.std.proofs.lemmas.Grind.{common_steps}
-use Rattle.std.proofs.Math.Seq.{drop-append_seam, take-append_seam}
+use Rattle.m51_stmt.proofs
+use proofs.Common.{◌≡◌, ℕ, ◌<◌, ◌==◌, true, false, map, List, [], ◌∷◌, ◌++◌, length, Option, Some, None, Ok, refl, sym}
+use proofs.Common.{ap, ◌∙◌, arith, append_assoc, inl, inr, list_all, prefix_len, common_steps, drop-append_seam}
+use proofs.Common.{take-append_seam, name_of, is_name, BodyTree, StmtTree, is_inside, closed_at, statement, token_line}
+use proofs.Common.{stmt_text}
+use Rattle.std.proofs.Common.{◌⊎◌}
 use Rattle.m51_cells.proofs.Small.{not_zero}
+use Rattle.m51_stmt.specs.Control.{is_ignored_word}
+use Rattle.m51_stmt.specs.Lines.{any_line}
+use Rattle.m51_stmt.specs.Printing.{body_text}
+use proofs.LineCuts.{Word, laid, laid_cut, symbol, words_read}
+use proofs.WordCuts.{name_word, sign_word, name_cut, sign_cut, run_ends}
+use proofs.PrintedParts.{name_symbol}
+use proofs.PrintedExterns.{IsFree}
+use proofs.PrintedBodies.{IsBody, body_words, body_laid, body_cut, body_said}
+use proofs.Derives.{statement_reads}
 use Rattle.m51_cells.specs.Name as cells
-use Rattle.m51_cells.specs.Name.{name_of, is_name}
-use Rattle.m51_expr.specs.declared.symbol.Symbol.TheVariants as symbols
 use Rattle.m51_stmt.specs.Statement as body
-use Rattle.m51_stmt.specs.Statement.{BodyTree, StmtTree}
 use Rattle.m51_stmt.specs.Control as control
-use Rattle.m51_stmt.specs.Control.{is_inside, closed_at, is_ignored_word}
 use Rattle.m51_stmt.specs.Grammar as grammar
-use Rattle.m51_stmt.specs.Lines.{statement, token_line, any_line}
-use Rattle.m51_stmt.specs.Printing.{body_text, stmt_text}
-use Rattle.m51_stmt.proofs.LineCuts.{Word, laid, laid_cut, symbol, words_read}
-use Rattle.m51_stmt.proofs.WordCuts.{name_word, sign_word, name_cut, sign_cut, run_ends}
-use Rattle.m51_stmt.proofs.PrintedParts.{name_symbol}
-use Rattle.m51_stmt.proofs.PrintedExterns.{IsFree}
-use Rattle.m51_stmt.proofs.PrintedBodies.{IsBody, body_words, body_laid, body_cut, body_said}
-use Rattle.m51_stmt.proofs.Derives.{statement_reads}
 
 -- a control that can be read
 abbrev pub IsControl : BodyTree → Type 0
@@ -69,16 +67,14 @@ abbrev pub labelled : List ℕ → BodyTree → StmtTree
 labelled name b = record { label = Some name; body = b }
 
 -- without a label
-bare_read : (b : BodyTree) → IsBody 0 b → statement (map symbol (body_words b)) ≡ Some (bare b)
-bare_read b is = statement_reads _ _ (grammar.Bare (body_said false 0 (λ _. refl) b is))
-
 bare_printed : (b : BodyTree) → IsBody 0 b → (b ≡ body.Empty) ⊎ Begins (body_words b)
     → any_line (stmt_text (bare b)) ≡ Ok (bare b)
 unfolding any_line body_text
 bare_printed b is (inl empty) = rw empty refl
 bare_printed b is (inr begins) =
     ap any_line (sym (body_laid 0 b is)) ∙ begun_line _ begins
-    ∙ words_read (bare b) (laid_cut _ (body_cut 0 b is)) (bare_read b is)
+    ∙ words_read (bare b) (laid_cut _ (body_cut 0 b is))
+    (statement_reads _ _ (grammar.Bare (body_said false 0 (λ _. refl) b is)))
 
 -- after a label
 abbrev labelled_words : List ℕ → BodyTree → List Word

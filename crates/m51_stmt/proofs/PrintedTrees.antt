@@ -1,28 +1,23 @@
 -- A printed expression reads back.
-use Rattle.std.proofs.Common.{◌≡◌, ℕ, zero, suc, ◌+◌, ◌-◌, ◌<◌, ◌≤◌, map, List, [], ◌∷◌, ◌++◌, length, drop, drop-drop}
-use Rattle.std.proofs.Common.{Some, None, refl, sym, ap, ◌∙◌, arith, append_assoc, slice_get}
-use Rattle.std.specs.Prelude.{codes}
-use Rattle.m51_cells.specs.Name.{name_of}
-use Rattle.m51_lex.specs.declared.token.What.{What}
-use Rattle.m51_lex.specs.declared.token.What.TheVariants as what
-use Rattle.m51_lex.specs.Characters.{space}
+use Rattle.m51_stmt.proofs
+use proofs.Common.{◌≡◌, ℕ, zero, suc, ◌+◌, ◌-◌, ◌<◌, ◌≤◌, map, List, [], ◌∷◌, ◌++◌, length, drop, Some, None, refl, sym}
+use proofs.Common.{ap, ◌∙◌, arith, append_assoc, slice_get, codes, name_of, What, space, Symbol, word_symbol, Tree}
+use proofs.Common.{prefix_rank, is_open, leaf_of, Line, line_of_symbols, Writes, Leaf, Parens, Before, Between, Tighter}
+use proofs.Common.{IsExpr, word_text, number_text}
+use Rattle.std.proofs.Common.{drop-drop}
 use Rattle.m51_expr.specs.declared.tree.Unary.{Unary}
-use Rattle.m51_expr.specs.declared.tree.Unary.TheVariants as op1
 use Rattle.m51_expr.specs.declared.tree.Binary.{Binary}
-use Rattle.m51_expr.specs.declared.tree.Binary.TheVariants as op2
-use Rattle.m51_expr.specs.declared.symbol.Symbol.{Symbol}
-use Rattle.m51_expr.specs.declared.symbol.Symbol.TheVariants as symbols
-use Rattle.m51_expr.specs.Symbol.{operator_of, prefix_word, relation_word, arithmetic_word, word_symbol}
-use Rattle.m51_expr.specs.Tree as tree
-use Rattle.m51_expr.specs.Tree.{Tree}
-use Rattle.m51_expr.specs.Ranks.{prefix_rank, infix_rank, prefix_of, infix_of, is_open, is_close, leaf_of}
-use Rattle.m51_expr.specs.Reading.{Line, line_of_symbols}
-use Rattle.m51_expr.specs.Grammar.{Writes, Leaf, Parens, Before, Between, Tighter}
+use Rattle.m51_expr.specs.Symbol.{operator_of, prefix_word, relation_word, arithmetic_word}
+use Rattle.m51_expr.specs.Ranks.{infix_rank, prefix_of, infix_of, is_close}
 use Rattle.m51_expr.proofs.Complete.{ends_within}
-use Rattle.m51_stmt.specs.Grammar.{IsExpr}
-use Rattle.m51_stmt.specs.Printing.{word_text, number_text, unary_word, binary_word, expr_text}
-use Rattle.m51_stmt.proofs.LineCuts.{Word, laid, IsCut, AreCut, symbol}
-use Rattle.m51_stmt.proofs.WordCuts.{name_word, number_word, sign_word, name_cut, number_cut, sign_cut, cuts}
+use Rattle.m51_stmt.specs.Printing.{unary_word, binary_word, expr_text}
+use proofs.LineCuts.{Word, laid, IsCut, AreCut, symbol}
+use proofs.WordCuts.{name_word, number_word, sign_word, name_cut, number_cut, sign_cut, cuts}
+use Rattle.m51_lex.specs.declared.token.What.TheVariants as what
+use Rattle.m51_expr.specs.declared.tree.Unary.TheVariants as op1
+use Rattle.m51_expr.specs.declared.tree.Binary.TheVariants as op2
+use Rattle.m51_expr.specs.declared.symbol.Symbol.TheVariants as symbols
+use Rattle.m51_expr.specs.Tree as tree
 
 -- a name that an expression may have
 pub record IsLeafName (name : List ℕ) : Type 0 where
@@ -112,19 +107,11 @@ expr_cut (tree.Two op left right) rest h more = (
 
 before_is : (op : Unary) → prefix_of (Some (symbol (before_word op))) (prefix_rank op) ≡ Some op
 unfolding operator_of prefix_word relation_word arithmetic_word
-before_is op1.Plus = refl
-before_is op = refl
+before_is op = grind arith
 
 between_is : (op : Binary) → infix_of (Some (symbol (between_word op))) (infix_rank op) ≡ Some op
 unfolding operator_of prefix_word relation_word arithmetic_word
-between_is op2.Mul = refl
-between_is op = refl
-
-prefix_low : (op : Unary) → prefix_rank op ≤ 8
-prefix_low op = grind arith
-
-infix_low : (op : Binary) → infix_rank op + 1 ≤ 8
-infix_low op = grind arith
+between_is op = grind arith
 
 loosen : (d : ℕ) {line : Line} {at : ℕ} {e : Tree} {to : ℕ} (tight rank : ℕ) → rank + d ≡ tight → tight ≤ 8
     → Writes line tight at e to → Writes line rank at e to
@@ -160,7 +147,7 @@ written line at tree.Here rest is h = leaf_written line at tree.Here (sign_word 
 written line at (tree.One op e) rest is h =
     let inner = written line (at + 1 + 1) e (close_word ∷ rest) is h.1.1 in
     let r = prefix_rank op in
-    let low : r ≤ 8 = prefix_low op in
+    let low : prefix_rank op ≤ 8 = grind arith in
     let sign : prefix_of (line (at + 1)) r ≡ Some op = rw h.1.0 (before_is op) in
     let ranked : Writes line r (at + 1) (tree.One op e) inner.next =
     Before sign (looser 8 r low (omega arith) inner.writes) in
@@ -173,7 +160,7 @@ written line at (tree.Two op left right) rest is h =
     let l = written line (at + 1) left (between_word op ∷ expr_words right (close_word ∷ rest)) is.0 h.1 in
     let m = written line (l.next + 1) right (close_word ∷ rest) is.1 l.then.1 in
     let r = infix_rank op in
-    let low : r + 1 ≤ 8 = infix_low op in
+    let low : infix_rank op + 1 ≤ 8 = grind arith in
     let sign : infix_of (line l.next) r ≡ Some op = rw l.then.0 (between_is op) in
     let ranked : Writes line r (at + 1) (tree.Two op left right) m.next =
     Between (looser 8 r (omega (arith, low)) (omega arith) l.writes) sign

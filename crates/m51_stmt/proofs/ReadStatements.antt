@@ -1,67 +1,40 @@
 -- What a line of bytes can say: the statements that can be read.
-use Rattle.std.proofs.Common.{◌≡◌, ℕ, ◌<◌, ◌≤◌, ◌==◌, ◌++◌, Bool, true, false, cond, nat_lt, List, [], ◌∷◌, length}
-use Rattle.std.proofs.Common.{take, drop, Option, Some, None, refl, sym, ap, arith, inl, inr}
-use Rattle.std.specs.Prelude.{codes, option_and_then}
-use Rattle.std.specs.Str.{bytes_eq}
-use Rattle.std.specs.List.{list_all, prefix_len, AllByRecursion}
-use Rattle.std.proofs.lemmas.Grind.{common_steps}
+use Rattle.m51_stmt.proofs
+use proofs.Common.{◌≡◌, ℕ, ◌<◌, ◌≤◌, ◌==◌, ◌++◌, Bool, true, false, cond, nat_lt, List, [], ◌∷◌, length, take, drop}
+use proofs.Common.{Option, Some, None, refl, arith, inl, inr, codes, option_and_then, bytes_eq, list_all, prefix_len}
+use proofs.Common.{common_steps, Kind, Reloc, Symbol, Tree, DefinitionWord, Directive, BodyTree, OperandTree, ItemTree}
+use proofs.Common.{StmtTree, is_inside, closed_at, reloc_word, stmt_text, IsByte}
+use Rattle.std.specs.List.{AllByRecursion}
 use Rattle.std.proofs.lemmas.List.Elements.{recursion_from_All}
 use Rattle.m51_cells.proofs.Small.{positive}
-use Rattle.m51_cells.specs.declared.kind.Kind.{Kind}
-use Rattle.m51_cells.specs.declared.kind.Reloc.{Reloc}
-use Rattle.m51_cells.specs.declared.kind.Reloc.TheVariants as reloc
 use Rattle.m51_cells.proofs.Passing.{front_passes}
-use Rattle.m51_expr.specs.declared.symbol.Symbol.{Symbol}
-use Rattle.m51_expr.specs.Tree.{Tree}
-use Rattle.m51_stmt.specs.declared.definitions.DefinitionWord.{DefinitionWord}
-use Rattle.m51_stmt.specs.declared.definitions.DefinitionWord.TheVariants as definition
-use Rattle.m51_stmt.specs.declared.directives.Directive.{Directive}
-use Rattle.m51_stmt.specs.declared.directives.Directive.TheVariants as directive
-use Rattle.m51_stmt.specs.Statement.{BodyTree, OperandTree, ItemTree, StmtTree, R}
 use Rattle.m51_stmt.specs.Words.{register_number}
 use Rattle.m51_stmt.specs.Kinds.{kind_of, reloc_of}
 use Rattle.m51_stmt.specs.Operands.{register, pointer, sum}
 use Rattle.m51_stmt.specs.Definitions.{definition_word}
 use Rattle.m51_stmt.specs.Directives.{select_of, directive_of}
+use Rattle.m51_stmt.specs.Control.{left_parenthesis, right_parenthesis, ends, behind_sign, if_ended, parenthesized}
+use Rattle.m51_stmt.specs.Control.{include, include_of, ignored_if, by_name}
+use Rattle.m51_stmt.specs.Laws.{WritesStatement, PrintedReadsBack}
+use proofs.PrintedTrees.{IsLeafName, IsTree}
+use proofs.ListWords.{Each, OneOrMore, some_each}
+use proofs.PrintedOperands.{IsOperand}
+use proofs.PrintedLists.{IsItem}
+use proofs.PrintedExterns.{IsFree, IsExtern}
+use proofs.PrintedBodies.{IsKind, IsSelected, IsBody}
+use proofs.PrintedStatements.{IsControl, IsStatement, printed}
+use proofs.IfRead.{IfSome, some_is, none_is, some_cond, some_map, some_then, IfRead, ok_is, err_is, ok_cond, ok_if}
+use proofs.ReadSymbols.{IsGood, symbols_good, tree_good, tokens_good}
+use proofs.LinesRead.{line_derived}
+use Rattle.m51_stmt.specs.declared.definitions.DefinitionWord.TheVariants as definition
+use Rattle.m51_stmt.specs.declared.directives.Directive.TheVariants as directive
 use Rattle.m51_stmt.specs.Control as control
-use Rattle.m51_stmt.specs.Control.{left_parenthesis, right_parenthesis, is_inside, ends, behind_sign, if_ended}
-use Rattle.m51_stmt.specs.Control.{closed_at, parenthesized, include, include_of, ignored_if, by_name}
 use Rattle.m51_stmt.specs.Grammar as grammar
-use Rattle.m51_stmt.specs.Printing.{reloc_word, stmt_text}
-use Rattle.m51_stmt.specs.Laws.{IsByte, WritesStatement, PrintedReadsBack}
-use Rattle.m51_stmt.proofs.PrintedTrees.{IsLeafName, IsTree}
-use Rattle.m51_stmt.proofs.ListWords.{Each, OneOrMore, some_each}
-use Rattle.m51_stmt.proofs.PrintedOperands.{IsOperand}
-use Rattle.m51_stmt.proofs.PrintedLists.{IsItem}
-use Rattle.m51_stmt.proofs.PrintedExterns.{IsFree, IsExtern}
-use Rattle.m51_stmt.proofs.PrintedBodies.{IsKind, IsSelected, IsBody}
-use Rattle.m51_stmt.proofs.PrintedStatements.{IsControl, IsStatement, printed}
-use Rattle.m51_stmt.proofs.IfRead.{IfSome, some_is, none_is, some_cond, some_map, some_then, IfRead, ok_is, err_is}
-use Rattle.m51_stmt.proofs.IfRead.{ok_cond, ok_if}
-use Rattle.m51_stmt.proofs.ReadSymbols.{IsGood, symbols_good, tree_good, tokens_good}
-use Rattle.m51_stmt.proofs.LinesRead.{line_derived}
 
 -- the words for registers
-number_good : (word : List ℕ) → IfSome (register_number word) (λ n. n < 8)
-unfolding register_number
-number_good word = record { holds = λ n is. grind arith }
-
 register_good : (word : List ℕ) → IfSome (register word) IsOperand
-unfolding register
-register_good word =
-    some_cond (bytes_eq word (codes "A")) (some_is tt) (
-    some_cond (bytes_eq word (codes "AB")) (some_is tt) (
-    some_cond (bytes_eq word (codes "C")) (some_is tt) (
-    some_cond (bytes_eq word (codes "DPTR")) (some_is tt) (
-    some_map R IsOperand (register_number word) (number_good word)))))
-
-pointer_good : (word : List ℕ) → IfSome (pointer word) IsOperand
-unfolding pointer
-pointer_good word = record { holds = λ o is. grind arith }
-
-sum_good : (word : List ℕ) → IfSome (sum word) IsOperand
-unfolding sum
-sum_good word = record { holds = λ o is. grind arith }
+unfolding register register_number
+register_good word = record { holds = λ o is. grind arith }
 
 -- the words for kinds and types
 kind_good : (word : List ℕ) → IfSome (kind_of word) IsKind
@@ -74,10 +47,6 @@ IsReloc r = reloc_of (reloc_word r) ≡ Some r
 reloc_good : (word : List ℕ) → IfSome (reloc_of word) IsReloc
 unfolding reloc_of
 reloc_good word = record { holds = λ r is. grind arith }
-
-unit_good : IsReloc reloc.Unit
-unfolding reloc_of
-unit_good = refl
 
 abbrev IsDefinition : DefinitionWord → Type 0
 IsDefinition (definition.Address k) = IsKind k
@@ -116,12 +85,8 @@ expr_good : (l : List Symbol) (e : Tree) → grammar.IsExpr l e → Each IsGood 
 expr_good l e is h = tree_good l h is.writes
 
 operand_good : (l : List Symbol) (o : OperandTree) → grammar.IsOperand l o → Each IsGood l → IsOperand o
-operand_good l o (grammar.Register {word = word} is) h = (register_good word).holds o is
-operand_good l o (grammar.Pointer {word = word} is) h = (pointer_good word).holds o is
-operand_good l o (grammar.Sum {word = word} is) h = (sum_good word).holds o is
-operand_good l o (grammar.Immediate is) h = expr_good _ _ is h.1
-operand_good l o (grammar.Inverted is) h = expr_good _ _ is h.1
-operand_good l o (grammar.Address is) h = expr_good _ _ is h
+unfolding pointer sum
+operand_good l o is h = grind (arith, expr_good, register_good)
 
 -- lists
 list_good : {A : Type 0} (P : List Symbol → A → Type 0) (Q : A → Type 0)
@@ -158,7 +123,8 @@ externs_good expected l xs (grammar.Next free d) h =
 
 -- definitions
 type_good : (l : List Symbol) (r : Reloc) → grammar.HasType l r → IsReloc r
-type_good l r grammar.Unit = unit_good
+unfolding reloc_of
+type_good l r grammar.Unit = refl
 type_good l r (grammar.Typed {word = word} is) = (reloc_good word).holds r is
 
 definition_body : (index : ℕ) (d : DefinitionWord) (name : List ℕ) (l : List Symbol) (b : BodyTree) → index ≡ 0

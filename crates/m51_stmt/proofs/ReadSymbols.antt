@@ -1,31 +1,24 @@
 -- What the symbols and the expressions of a line of bytes can be.
-use Rattle.std.proofs.Common.{◌≡◌, ℕ, zero, suc, ◌+◌, ◌-◌, ◌<◌, ◌==◌, ◌||◌, Bool, true, false, cond, max}
-use Rattle.std.proofs.Common.{map, List, [], ◌∷◌, length, take, drop, Option, Some, None, refl, ap}
-use Rattle.std.proofs.Common.{arith, slice_get, slice_index}
-use Rattle.std.specs.Char.{is_ascii_digit, is_ascii_alphanumeric, to_ascii_uppercase}
-use Rattle.std.specs.List.{prefix_len, slice_range}
-use Rattle.m51_cells.specs.Name.{name_of, is_name}
+use Rattle.m51_stmt.proofs
+use proofs.Common.{◌≡◌, ℕ, zero, suc, ◌+◌, ◌-◌, ◌<◌, ◌==◌, Bool, true, false, cond, max, map, List, [], ◌∷◌, length}
+use proofs.Common.{take, drop, Option, Some, None, refl, arith, slice_get, slice_index, is_ascii_digit}
+use proofs.Common.{is_ascii_alphanumeric, prefix_len, slice_range, name_of, is_name, Token, What, quote, space, is_sign}
+use proofs.Common.{name_lexeme, Cut, put_front, after_lexeme, tokens_at, Symbol, characters, between_quotes}
+use proofs.Common.{word_symbol, word_or_other, symbol_by, Tree, leaf_of, line_of_symbols, Writes, Leaf, Parens, Before}
+use proofs.Common.{Between, Tighter, IsByte}
+use Rattle.std.proofs.Common.{◌||◌}
+use Rattle.std.specs.Char.{to_ascii_uppercase}
 use Rattle.m51_cells.proofs.NameLaws.{upper_again, name_upper}
-use Rattle.m51_lex.specs.declared.token.Token.{Token}
-use Rattle.m51_lex.specs.declared.token.What.{What}
-use Rattle.m51_lex.specs.declared.token.What.TheVariants as what
-use Rattle.m51_lex.specs.Characters.{quote, tab, space, semicolon, is_sign}
+use Rattle.m51_lex.specs.Characters.{tab, semicolon}
 use Rattle.m51_lex.specs.Number.{number_of}
-use Rattle.m51_lex.specs.Lexeme.{lexeme_of, name_lexeme, number_or_fault, text_or_fault}
-use Rattle.m51_lex.specs.Tokens.{Cut, put_front, after_lexeme, tokens_at}
-use Rattle.m51_expr.specs.declared.symbol.Symbol.{Symbol}
+use Rattle.m51_lex.specs.Lexeme.{lexeme_of, number_or_fault, text_or_fault}
+use Rattle.m51_expr.specs.Symbol.{sign_symbol, operator_of, prefix_word, relation_word, arithmetic_word}
+use Rattle.m51_expr.specs.Symbol.{operator_or_word, symbol_of}
+use proofs.PrintedTrees.{IsLeafName, IsTree}
+use proofs.ListWords.{Each}
+use proofs.IfRead.{IfSome, some_is, none_is, some_or, IfRead, ok_is, err_is, read_cond, flip}
+use Rattle.m51_lex.specs.declared.token.What.TheVariants as what
 use Rattle.m51_expr.specs.declared.symbol.Symbol.TheVariants as symbols
-use Rattle.m51_expr.specs.Symbol.{characters, between_quotes, sign_symbol, operator_of, prefix_word, relation_word}
-use Rattle.m51_expr.specs.Symbol.{arithmetic_word, operator_or_word, word_symbol, word_or_other, symbol_by, symbol_of}
-use Rattle.m51_expr.specs.Tree as tree
-use Rattle.m51_expr.specs.Tree.{Tree}
-use Rattle.m51_expr.specs.Ranks.{leaf_of}
-use Rattle.m51_expr.specs.Reading.{line_of_symbols}
-use Rattle.m51_expr.specs.Grammar.{Writes, Leaf, Parens, Before, Between, Tighter}
-use Rattle.m51_stmt.specs.Laws.{IsByte}
-use Rattle.m51_stmt.proofs.PrintedTrees.{IsLeafName, IsTree}
-use Rattle.m51_stmt.proofs.ListWords.{Each}
-use Rattle.m51_stmt.proofs.IfRead.{IfSome, some_is, none_is, some_or, IfRead, ok_is, err_is, read_cond, flip}
 
 -- a token whose number has 16 bits
 abbrev pub HasNumber : What → Type 0
@@ -105,14 +98,12 @@ characters_good (c ∷ d ∷ more) h =
     (characters_good (d ∷ more) h.1)
 
 each_take : {A : Type 0} (P : A → Type 0) (n : ℕ) (xs : List A) → Each P xs → Each P (take n xs)
-each_take P zero xs h = tt
-each_take P (suc n) [] h = tt
 each_take P (suc n) (x ∷ xs) h = (h.0, each_take P n xs h.1)
+each_take P n xs h = grind arith
 
 each_drop : {A : Type 0} (P : A → Type 0) (n : ℕ) (xs : List A) → Each P xs → Each P (drop n xs)
-each_drop P zero xs h = h
-each_drop P (suc n) [] h = tt
 each_drop P (suc n) (x ∷ xs) h = each_drop P n xs h.1
+each_drop P n xs h = grind arith
 
 each_range : {A : Type 0} (P : A → Type 0) (xs : List A) (a b : ℕ) → Each P xs → Each P (slice_range xs a b)
 each_range P xs a b h = each_take P (b - a) (drop a xs) (each_drop P a xs h)

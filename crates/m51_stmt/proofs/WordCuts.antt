@@ -1,21 +1,19 @@
 -- Names, numbers, texts and signs are cut as tokens of their own.
-use Rattle.std.proofs.Common.{◌≡◌, ℕ, ◌+◌, ◌-◌, ◌<◌, ◌==◌, cond, nat_lt, Bool, true, false, List, [], ◌∷◌, ◌++◌, length}
-use Rattle.std.proofs.Common.{length-append, take, Some, refl, ap, arith, append_assoc, slice_index, rules}
-use Rattle.std.specs.Char.{is_ascii_digit, is_ascii_alphanumeric}
-use Rattle.std.specs.List.{list_all, prefix_len}
-use Rattle.std.proofs.lemmas.Bool.{and_parts, or_parts}
-use Rattle.std.proofs.lemmas.Grind.{common_steps}
-use Rattle.std.proofs.Math.Seq.{take-append_seam}
+use Rattle.m51_stmt.proofs
+use proofs.Common.{◌≡◌, ℕ, ◌+◌, ◌<◌, ◌==◌, cond, nat_lt, Bool, true, false, List, [], ◌∷◌, ◌++◌, length, length-append}
+use proofs.Common.{Some, refl, arith, append_assoc, slice_index, is_ascii_digit, is_ascii_alphanumeric, list_all}
+use proofs.Common.{prefix_len, and_parts, common_steps, take-append_seam, name_of, is_name, space, quote, is_sign}
+use proofs.Common.{name_lexeme, number_text, doubled}
+use Rattle.std.proofs.Common.{rules}
+use Rattle.std.proofs.lemmas.Bool.{or_parts}
 use Rattle.m51_cells.proofs.NameLaws.{name_parts, named_is_name}
 use Rattle.m51_cells.proofs.Passing.{weaker}
-use Rattle.m51_cells.specs.Name as cells
-use Rattle.m51_cells.specs.Name.{name_of, is_name}
-use Rattle.m51_lex.specs.declared.token.What.TheVariants as what
-use Rattle.m51_lex.specs.Characters.{space, quote, is_name_byte, is_sign}
+use Rattle.m51_lex.specs.Characters.{is_name_byte}
 use Rattle.m51_lex.specs.Number.{number_of}
-use Rattle.m51_lex.specs.Lexeme.{lexeme_of, name_lexeme, text_len}
-use Rattle.m51_stmt.specs.Printing.{number_text, doubled}
-use Rattle.m51_stmt.proofs.LineCuts.{Word, Stands, IsCut}
+use Rattle.m51_lex.specs.Lexeme.{lexeme_of, text_len}
+use proofs.LineCuts.{Word, Stands, IsCut}
+use Rattle.m51_cells.specs.Name as cells
+use Rattle.m51_lex.specs.declared.token.What.TheVariants as what
 
 -- these bytes continue no name and no number
 abbrev pub Ends : List ℕ → Type 0

@@ -10,12 +10,11 @@ use Rattle.m51_module.specs.Validity.{IsValid}
 use Rattle.m51_records.specs.Spelling.{bytes_of}
 use Rattle.m51_records.specs.Reading.{module_at, read_of}
 use Rattle.m51_records.proofs.FieldLaws.{IsBytes}
-use Rattle.m51_records.proofs.EndLaws.{header_agrees, end_agrees}
-use Rattle.m51_records.proofs.SegmentLaws.{segment_agrees, segments_are, segments_in_turn}
-use Rattle.m51_records.proofs.ExternalLaws.{external_agrees, externals_few, externals_are, externals_in_turn}
-use Rattle.m51_records.proofs.ExternalLaws.{public_agrees, publics_are, publics_in_turn}
-use Rattle.m51_records.proofs.PieceLaws.{piece_agrees, pieces_are, pieces_in_turn}
-use Rattle.m51_records.proofs.FixupLaws.{fixup_agrees, fixups_few, fixups_are, fixups_in_turn, seated}
+use Rattle.m51_records.proofs.EntryLaws.{header_agrees, end_agrees, segment_agrees, segments_are, segments_in_turn}
+use Rattle.m51_records.proofs.EntryLaws.{external_agrees, externals_few, externals_are, externals_in_turn}
+use Rattle.m51_records.proofs.EntryLaws.{public_agrees, publics_are, publics_in_turn}
+use Rattle.m51_records.proofs.ContentLaws.{piece_agrees, pieces_are, pieces_in_turn, fixup_agrees, fixups_few}
+use Rattle.m51_records.proofs.ContentLaws.{fixups_are, fixups_in_turn, seated}
 use Rattle.m51_records.proofs.SectionLaws.{Chain, last_record, then_record, then_records}
 use Rattle.m51_records.proofs.Tools.{ok_is}
 

@@ -7,7 +7,7 @@ use Rattle.std.proofs.lemmas.List.{append-nil}
 use Rattle.m51_frame.specs.Fields.{◌>>=◌}
 use Rattle.m51_frame.specs.Frame.{checksum_of, checksummed_bytes, record_of, begins, record_at, checksum_place}
 use Rattle.m51_records.specs.Reading.{Reader, one_at, many_at, all_at}
-use Rattle.m51_records.proofs.Tools.{bind_ok, on_ok, ok_is, done}
+use Rattle.m51_records.proofs.Tools.{on_ok, ok_is, done}
 use Rattle.m51_records.proofs.Codec.{Agrees}
 use Rattle.m51_records.proofs.FieldLaws.{IsBytes, fit_front, fit_back}
 use Rattle.m51_records.proofs.FrameLaws.{record_takes, record_again}
@@ -18,12 +18,6 @@ use Rattle.m51_module.specs.declared.object_error.ObjError.{ObjError}
 pub joined : (bytes front rest middle after : List ℕ) → bytes ≡ front ++ rest → rest ≡ middle ++ after
     → bytes ≡ (front ++ middle) ++ after
 joined bytes front rest middle after h k = cc (h, k, append_assoc front middle after)
-
--- the contents of a record of bytes are bytes
-contents_fit : (type : ℕ) (contents after : List ℕ) → IsBytes (record_of type contents ++ after) → IsBytes contents
-contents_fit type contents after h =
-    (fit_front (checksummed_bytes type contents) (checksum_of (checksummed_bytes type contents) ∷ [])
-    (fit_front (record_of type contents) after h)).1.1.1
 
 -- what is shown of a record that was read
 pub record TakesOne {X : Type 0} (type : ℕ) (contents : X → List ℕ) (Good : X → Type 0) (bytes : List ℕ)
@@ -37,17 +31,18 @@ pub one_takes : {X : Type 0} (type : ℕ) {read : Reader X} {contents : X → Li
     → one_at type read total number bytes ≡ Ok y → TakesOne type contents Good bytes y
 unfolding one_at
 one_takes type {read} {contents} {Good} total number bytes y law fits e =
-    let f = bind_ok (record_at type total number bytes) _ y e in
-    let v = bind_ok (read (checksum_place total f.0.1) f.0.0) _ y f.2 in
-    let is : bytes ≡ record_of type f.0.0 ++ f.0.1 = record_takes type total number bytes f.0 fits f.1 in
+    on_ok (record_at type total number bytes) _ y (TakesOne type contents Good bytes y) (λ f e1 h1.
+    on_ok (read (checksum_place total f.1) f.0) _ y (TakesOne type contents Good bytes y) (λ v e2 h2.
+    let is : bytes ≡ record_of type f.0 ++ f.1 = record_takes type total number bytes f fits e1 in
     let all = subst IsBytes is fits in
-    let t = law.takes (checksum_place total f.0.1) f.0.0 v.0 (contents_fit type f.0.0 f.0.1 all) v.1 in
-    subst (TakesOne type contents Good bytes) (ok_is (v.0, f.0.1) y v.2)
-    (record {
-      bytes_are = is ∙ ap (λ (c : List ℕ). record_of type c ++ f.0.1) t.0;
-      rest_fits = fit_back (record_of type f.0.0) f.0.1 all;
+    let fit = fit_front (checksummed_bytes type f.0) (checksum_of (checksummed_bytes type f.0) ∷ [])
+    (fit_front (record_of type f.0) f.1 all) in
+    let t = law.takes (checksum_place total f.1) f.0 v fit.1.1.1 e2 in
+    rw (← ok_is (v, f.1) y h2) (record {
+      bytes_are = is ∙ ap (λ (c : List ℕ). record_of type c ++ f.1) t.0;
+      rest_fits = fit_back (record_of type f.0) f.1 all;
       good = t.1;
-    })
+    })) h1) e
 
 pub one_again : {X : Type 0} (type : ℕ) {read : Reader X} {contents : X → List ℕ} {Good : X → Type 0}
     → Agrees read contents Good → (total number : ℕ) (x : X) (after : List ℕ) → Good x
@@ -88,17 +83,6 @@ module _ {X : Type 0} (type : ℕ) {read : List X → Reader X} {contents : X �
       subst (TakesMany before bytes) (ok_is (before, bytes) y e)
       (record { new = []; is = append-nil before; bytes_are = refl; rest_fits = fits; good = tt })
 
-  one_more : (before : List X) (bytes : List ℕ) (one : X × List ℕ) (y : List X × List ℕ)
-      → TakesOne type contents (Tested before) bytes one → TakesMany (before ++ one.0 ∷ []) one.1 y
-      → TakesMany before bytes y
-  one_more before bytes one y t r = record {
-    new = one.0 ∷ r.new;
-    is = sym (append_assoc before (one.0 ∷ []) r.new) ∙ r.is;
-    bytes_are = joined bytes (written one.0) one.1 (flat_map written r.new) y.1 t.bytes_are r.bytes_are;
-    rest_fits = r.rest_fits;
-    good = (t.good, r.good);
-  }
-
   many_takes : (most number : ℕ) (before : List X) (bytes : List ℕ) (y : List X × List ℕ) → IsBytes bytes
       → many_at type read total number most before bytes ≡ Ok y → TakesMany before bytes y
   unfolding many_at
@@ -106,7 +90,14 @@ module _ {X : Type 0} (type : ℕ) {read : List X → Reader X} {contents : X �
   many_takes (suc most) number before bytes y fits e = elim (cases_Bool (begins type bytes)) [
     | inl comes ↦ on_ok (one_at type (read before) total number bytes) _ y (TakesMany before bytes y) (λ one e1 h1.
         let t = one_takes type total number bytes one (law before) fits e1 in
-        one_more before bytes one y t (many_takes most (number + 1) (before ++ one.0 ∷ []) one.1 y t.rest_fits h1))
+        let r = many_takes most (number + 1) (before ++ one.0 ∷ []) one.1 y t.rest_fits h1 in
+        record {
+          new = one.0 ∷ r.new;
+          is = sym (append_assoc before (one.0 ∷ []) r.new) ∙ r.is;
+          bytes_are = joined bytes (written one.0) one.1 (flat_map written r.new) y.1 t.bytes_are r.bytes_are;
+          rest_fits = r.rest_fits;
+          good = (t.good, r.good);
+        })
         (rw comes at e)
     | inr ends ↦ stopped before bytes y fits (rw ends at e)
   ]

@@ -3,13 +3,7 @@ use Rattle.std.proofs.Common.{◌≡◌, ℕ, Bool, true, List, [], Option, Some
 use Rattle.m51_module.specs.declared.object_error.ObjError.{ObjError}
 use Rattle.m51_frame.specs.Fields.{◌>>=◌, checked, or_broken, or_absent, ended}
 
--- the value of a step that was not refused
-pub bind_ok : {A B : Type 0} (r : Result A ObjError) (f : A → Result B ObjError) (y : B) → (r >>= f) ≡ Ok y → (x : A)
-    × (r ≡ Ok x) × (f x ≡ Ok y)
-bind_ok (Ok x) f y e = (x, refl, e)
-bind_ok (Err d) f y e = absurd cc
-
--- the same, for what is to be shown of that value
+-- what is to be shown of the value of a step that was not refused
 pub on_ok : {A B : Type 0} (r : Result A ObjError) (f : A → Result B ObjError) (y : B) (P : Type 0)
     → ((x : A) → r ≡ Ok x → f x ≡ Ok y → P) → (r >>= f) ≡ Ok y → P
 on_ok (Ok x) f y P k e = k x refl e

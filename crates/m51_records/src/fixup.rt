@@ -148,7 +148,7 @@ fn is_inside(pieces: &[Piece], segment: u8, offset: u16, form: Form) -> bool
 }
 
 // The same, where the first `passed` pieces end by the field.
-#[tactic(auto, using(crate::proofs::Passing::inside_after))]
+#[tactic(auto, using(crate::proofs::ContentLaws::inside_after, std::proofs::lemmas::List::take_rest))]
 fn is_inside_after(pieces: &[Piece], passed: usize, segment: u8, offset: u16, form: Form) -> bool
     requires few { passed ≤ length pieces.now }
     requires passed { EndBy segment offset (take passed pieces.now) }
@@ -288,7 +288,7 @@ impl<'a> Reader for FixupReader<'a> {
 
     ghost knows = { λ r before. ArePassed r.pieces.now r.passed (latest before) };
 
-    #[tactic(auto, unfolding(crate::specs::Fixups::fixup_in))]
+    #[tactic(auto, unfolding(crate::specs::Fixups::fixup_in), using(crate::proofs::ContentLaws::fixup_read))]
     fn read(
         &mut self,
         _alloc: Global,

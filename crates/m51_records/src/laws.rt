@@ -8,6 +8,7 @@ ghost use Rattle.m51_records.specs.Spelling.{bytes_of};
 /// No spelling of a module is a prefix of that of another, so what follows a spelling does not change what is read.
 ///
 /// Source: own choice ("Object records").
+#[tactic(auto, using(crate::proofs::ModuleLaws::one_front))]
 pub fn one_spelling()
     ensures { (m n : ModuleParts) (x y : List ℕ) → IsValid m → IsValid n
         → bytes_of m ++ x ≡ bytes_of n ++ y → (m ≡ n) × (x ≡ y) }

@@ -218,6 +218,7 @@ fn front_of(alloc: Global, bytes: &[u8]) -> Result<(Module, usize), ObjError>
 /// external that does not exist. `Memory` is the only other error.
 ///
 /// Source: own choice ("Object records").
+#[tactic(auto, using(crate::proofs::ModuleLaws::read_again))]
 pub fn read_module(alloc: Global, bytes: &[u8]) -> Result<(Module, usize), ObjError>
     requires { length bytes.now < 2 ^ 32 }
     // The module and the length of its spelling, or the first refusal.

@@ -117,7 +117,7 @@ fn base_at(reloc: Reloc, end: u32, bytes: &[u8]) -> Result<(u16, &[u8]), ObjErro
 }
 
 // Whether an absolute segment has a byte or more, and fits.
-#[tactic(auto, using(crate::proofs::Placing::ends_from_fits, crate::proofs::Placing::fits_from_ends))]
+#[tactic(auto, using(crate::proofs::EntryLaws::ends_from_fits, crate::proofs::EntryLaws::fits_from_ends))]
 fn is_placed(kind: Kind, base: u16, size: u16) -> bool
     requires { kind ≢ Kind.Number }
     ensures { result ≡ is_placed kind base size }

@@ -1,5 +1,5 @@
 use Rattle.std.proofs.Common.{sym, ◌∙◌, arith}
-use Rattle.m51_records.proofs.Passing.{one_passed}
+use Rattle.m51_records.proofs.ContentLaws.{one_passed}
 use Rattle.m51_records.proofs.fixup.passed_by.Goals as goal
 
 pub loop-passed-preserved : goal.loop-passed-preserved

@@ -2,7 +2,7 @@ use Rattle.std.proofs.Common.{[], ◌∷◌, ◌++◌, ◌+◌, length, sym, ap,
 use Rattle.std.proofs.lemmas.Result.{err_from_is_err_and}
 use Rattle.m51_cells.specs.Outcome.{RefusesWith}
 use Rattle.m51_frame.specs.Fields.{record_refusal}
-use Rattle.m51_records.proofs.Standing.{frame_stops, value_stops, one_more, all_read}
+use Rattle.m51_records.proofs.FrameLaws.{frame_stops, value_stops, one_more, all_read}
 use Rattle.m51_records.proofs.record.read_records.Goals as goal
 
 pub returns-in_err-contents-clause-value : goal.returns-in_err-contents-clause-value

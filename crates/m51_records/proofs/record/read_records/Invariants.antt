@@ -1,6 +1,6 @@
 use Rattle.std.proofs.Common.{◌≡◌, ◌+◌, ◌≤◌, length}
 use Rattle.m51_records.specs.Reading.{all_at}
-use Rattle.m51_records.proofs.Standing.{Stands}
+use Rattle.m51_records.proofs.FrameLaws.{Stands}
 use Rattle.m51_records.proofs.record.read_records.Given as goal
 
 abbrev pub invariant-loop-alloc : goal.invariant-loop-alloc

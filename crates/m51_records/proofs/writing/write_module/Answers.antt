@@ -1,9 +1,13 @@
-use Rattle.std.proofs.Common.{◌≡◌, ◌++◌, ap, ◌∙◌}
-use Rattle.std.specs.List.{flat_map}
-use Rattle.m51_records.specs.Spelling.{segment_record, external_record, public_record, piece_record, fixup_record}
+use Rattle.std.proofs.Common.{◌≡◌, ℕ, List, [], ◌++◌, append_assoc, ap, ◌∙◌}
 use Rattle.m51_records.specs.Spelling.{header_record, end_record, bytes_of}
-use Rattle.m51_records.proofs.Gathering.{gathered}
 use Rattle.m51_records.proofs.writing.write_module.Goals as goal
+
+-- the records of a module, appended one after another
+gathered : (o0 o1 o2 o3 o4 o5 o6 o7 h s x p c f e : List ℕ) → o0 ≡ [] → o1 ≡ o0 ++ h → o2 ≡ o1 ++ s → o3 ≡ o2 ++ x
+    → o4 ≡ o3 ++ p → o5 ≡ o4 ++ c → o6 ≡ o5 ++ f → o7 ≡ o6 ++ e
+    → o7 ≡ h ++ (s ++ (x ++ (p ++ (c ++ (f ++ e)))))
+gathered o0 o1 o2 o3 o4 o5 o6 o7 h s x p c f e e0 e1 e2 e3 e4 e5 e6 e7 =
+    rw (e7, e6, e5, e4, e3, e2, e1, e0) (simp append_assoc)
 
 pub returns : goal.returns
 unfolding bytes_of
@@ -18,14 +22,9 @@ returns c =
     ∙ ap (end_record c.args.module.now.name) c.banks.ensures.banks in
     gathered _ _ _ _ _ _ _ _ _ _ _ _ _ _ _ c.new-out.ensures.items
     (c.in_ok-put_header.ensures ∙ ap (λ l. c.new-out.result.items ++ l) header)
-    (c.in_ok-write_records.ensures
-    ∙ ap (λ xs. c.put_header.new.out.items ++ flat_map segment_record xs) c.segments.ensures.list)
-    (c.in_ok-write_records-2.ensures
-    ∙ ap (λ xs. c.write_records.new.out.items ++ flat_map external_record xs) c.externals.ensures.list)
-    (c.in_ok-write_records-3.ensures
-    ∙ ap (λ xs. c.write_records-2.new.out.items ++ flat_map public_record xs) c.publics.ensures.list)
-    (c.in_ok-write_records-4.ensures
-    ∙ ap (λ xs. c.write_records-3.new.out.items ++ flat_map piece_record xs) c.pieces.ensures.list)
-    (c.in_ok-write_records-5.ensures
-    ∙ ap (λ xs. c.write_records-4.new.out.items ++ flat_map fixup_record xs) c.fixups.ensures.list)
+    (rw c.segments.ensures.list at c.in_ok-write_records.ensures)
+    (rw c.externals.ensures.list at c.in_ok-write_records-2.ensures)
+    (rw c.publics.ensures.list at c.in_ok-write_records-3.ensures)
+    (rw c.pieces.ensures.list at c.in_ok-write_records-4.ensures)
+    (rw c.fixups.ensures.list at c.in_ok-write_records-5.ensures)
     (c.in_ok-put_end.ensures ∙ ap (λ l. c.write_records-5.new.out.items ++ l) last)

@@ -1,4 +1,4 @@
-use Rattle.m51_records.proofs.NameLaws.{among_is}
+use Rattle.m51_records.proofs.EntryLaws.{among_is}
 use Rattle.m51_records.proofs.seen.SeenNames.has.Goals as goal
 
 pub returns : goal.returns

@@ -1,7 +1,7 @@
 use Rattle.std.proofs.Common.{◌≡◌, false, ap, ◌∙◌}
 use Rattle.m51_frame.specs.Fields.{is_name_among}
 use Rattle.m51_records.specs.WorkNames.{items_of}
-use Rattle.m51_records.proofs.NameLaws.{put_last}
+use Rattle.m51_records.proofs.EntryLaws.{put_last}
 use Rattle.m51_records.proofs.seen.SeenNames.note.Goals as goal
 
 pub returns : goal.returns

@@ -1,8 +1,7 @@
 -- Segments that are parts of one.
-use Rattle.std.proofs.Common.{arith}
-use Rattle.m51_resolve.proofs.Common.{◌≡◌, Bool, true, false, ◌&&◌, ◌||◌, List, [], ◌∷◌, ◌++◌, refl, ◌∙◌}
-use Rattle.m51_resolve.proofs.Common.{filter, list_any, bytes_eq, list_any-append, bytes_eq-Decides, Segment}
-use Rattle.m51_resolve.proofs.Common.{are_parts, is_relocatable}
+use Rattle.m51_resolve.proofs
+use proofs.Common.{arith, ◌≡◌, Bool, true, false, ◌&&◌, ◌||◌, List, [], ◌∷◌, ◌++◌, refl, ◌∙◌, filter, list_any}
+use proofs.Common.{bytes_eq, list_any-append, bytes_eq-Decides, Segment, are_parts, is_relocatable}
 use Rattle.std.proofs.lemmas.Bool.{and_parts}
 
 -- what is not true is false

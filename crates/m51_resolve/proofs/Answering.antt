@@ -1,26 +1,22 @@
 -- From the steps of the work to the answer.
-use Rattle.m51_resolve.proofs.Common.{◌≡◌, ℕ, ◌≤◌, Bool, false, List, [], ◌∷◌, length, map, get_or, refl, sym}
-use Rattle.m51_resolve.proofs.Common.{◌∙◌, arith, Option, Some, None, length-map, slice_get-get_or, filter}
-use Rattle.m51_resolve.proofs.Common.{option_or, All, find, option_map, map_none, ModuleParts, Segment}
-use Rattle.m51_resolve.proofs.Common.{External, all_segments, joined_of, segments_of, all_externals}
-use Rattle.m51_resolve.proofs.Common.{public_definition, unless_refused, all_growing, AreDefinitions}
-use Rattle.m51_resolve.proofs.Common.{definition_in, Growing}
+use Rattle.m51_resolve.proofs
+use proofs.Common.{◌≡◌, Bool, false, List, [], ◌∷◌, length, map, get_or, refl, sym, ◌∙◌, arith, Option, Some, None}
+use proofs.Common.{length-map, slice_get-get_or, filter, option_or, All, find, option_map, map_none, ModuleParts}
+use proofs.Common.{Segment, External, all_segments, joined_of, segments_of, all_externals, public_definition}
+use proofs.Common.{unless_refused, all_growing, AreDefinitions, definition_in, Growing}
 use Rattle.std.specs.Prelude.{IsErrAnd, Result}
 use Rattle.std.proofs.lemmas.Bool.Decides.{nat_tests}
 use Rattle.m51_cells.specs.Outcome.{Gives, RefusesWith}
-use Rattle.m51_cells.specs.Kinds.{is_code}
-use Rattle.m51_module.specs.declared.linked.Quantity.{Quantity}
 use Rattle.m51_module.specs.declared.linked.Refusal.{Refusal}
 use Rattle.m51_module.specs.declared.linked.Refusal.TheVariants.{L5}
 use Rattle.m51_resolve.specs.declared.segment.JoinedSegment.{JoinedSegment}
-use Rattle.m51_resolve.specs.WorkJoining.{growing_of, is_large, is_unit, joined_as}
+use Rattle.m51_resolve.specs.WorkJoining.{growing_of, is_large, joined_as}
 use Rattle.m51_resolve.specs.WorkRules.{rules_of_externals, rules_of_growing, rules_of_publics}
 use Rattle.m51_resolve.specs.Joining.{title_of}
-use Rattle.m51_resolve.specs.Rules.{AreResolved, but_memory, is_mixed, is_too_large}
-use Rattle.m51_resolve.specs.Rules.{more_than, first_refusal}
-use Rattle.m51_resolve.proofs.DefinedNames.{definitions_are, Table}
-use Rattle.m51_resolve.proofs.JoinSteps.{none_at}
-use Rattle.m51_resolve.proofs.Within.{find_none}
+use Rattle.m51_resolve.specs.Rules.{AreResolved, but_memory, is_mixed, is_too_large, first_refusal}
+use proofs.Tables.{definitions_are, Table}
+use proofs.JoinSteps.{none_at}
+use proofs.Within.{find_none}
 
 -- a refusal is the answer; out of memory says nothing
 pub refuses : (modules : List ModuleParts) (error : Refusal) (rule : Option Refusal) → rule ≡ Some error
@@ -66,19 +62,12 @@ module _ (all fs : List Segment) where
   large_is = named is_large (λ (g : Growing). title_of g.first) (growing_of all) fs
       ∙ sym (named is_too_large (λ (j : JoinedSegment). j.title) (joined_of all) fs)
 
-  units_is : length (filter is_unit (map (growing_of all) fs))
-      ≡ length (filter (λ (j : JoinedSegment). is_code j.kind) (map (joined_of all) fs))
-  units_is = grind (arith, counted)
-
-  count_is : length (map (growing_of all) fs) ≡ length (map (joined_of all) fs)
-  count_is = grind (arith, length-map)
-
 -- the rules of the steps
 rules_are : (modules : List ModuleParts) → first_refusal modules
     ≡ option_or (rules_of_publics modules)
     (option_or (rules_of_externals (public_definition modules) (all_externals modules))
     (rules_of_growing (all_growing (all_segments modules))))
-rules_are modules = grind (arith, mixed_is, large_is, units_is, count_is, in_steps)
+rules_are modules = grind (arith, mixed_is, large_is, counted, length-map, in_steps)
 
 pub publics_refused : (modules : List ModuleParts) (error : Refusal) → rules_of_publics modules ≡ Some error
     → first_refusal modules ≡ Some error
@@ -88,25 +77,18 @@ publics_refused modules error h = grind arith
 module _ (modules lent : List ModuleParts) (table : Table) (externals : List External)
     (are : AreDefinitions modules table) (lent_is : lent ≡ modules) (publics : rules_of_publics lent ≡ None)
     (externals_are : externals ≡ all_externals modules) where
-  later_rules : (rule : Option Refusal) → rules_of_externals (definition_in table) externals ≡ rule
+  pub later_rules : (rule : Option Refusal) → rules_of_externals (definition_in table) externals ≡ rule
       → first_refusal modules ≡ option_or rule (rules_of_growing (all_growing (all_segments modules)))
   later_rules rule h = grind (arith, definitions_are, rules_are)
-
-  pub externals_refused : (error : Refusal) → rules_of_externals (definition_in table) externals ≡ Some error
-      → first_refusal modules ≡ Some error
-  externals_refused error h = later_rules (Some error) h
 
   pub growing_refused : (growing : List Growing) (rule : Option Refusal)
       → rules_of_externals (definition_in table) externals ≡ None → growing ≡ all_growing (all_segments modules)
       → rules_of_growing growing ≡ rule → first_refusal modules ≡ rule
   growing_refused growing rule e is h = cc (later_rules None e)
 
-few : (most : ℕ) (what : Quantity) (count : ℕ) → more_than most what count ≡ None → count ≤ most
-few most what count h = grind (arith, nat_tests)
-
 -- no rule fails
 pub meets : (modules : List ModuleParts) → first_refusal modules ≡ None → AreResolved modules
-meets modules none = grind (arith, both_none, few)
+meets modules none = grind (arith, both_none, nat_tests)
 
 -- none of the joined segments is too large
 pub none_large : (growing : List Growing) → rules_of_growing growing ≡ None → All (λ g. is_large g ≡ false) growing

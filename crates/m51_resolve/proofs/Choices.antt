@@ -2,26 +2,25 @@
 -- The earliest supplier of a missing name is the first member that is needed.
 -- The members that are left are all members but those that the chosen modules leave nothing to define.
 -- The choice may stop where more modules are chosen than a link takes: the answer is known.
-use Rattle.m51_resolve.proofs.Common.{◌≡◌, ℕ, zero, suc, ◌≤◌, true, false, List, [], ◌∷◌, ◌++◌, length, refl, ap}
-use Rattle.m51_resolve.proofs.Common.{arith, Option, Some, None, length-append, option_map_or, option_map}
-use Rattle.m51_resolve.proofs.Common.{ModuleParts, choice, first_needed, is_needed, inl, inr, ◌+◌, ◌<◌, Bool, cond}
-use Rattle.m51_resolve.proofs.Common.{not, ◌&&◌, drop, get_or, sym, ◌∙◌, is_some, or_right, list_any_at}
-use Rattle.m51_resolve.proofs.Common.{position-Some, bytes_eq-Decides, list_any, nat_lt, position, bytes_eq}
-use Rattle.m51_resolve.proofs.Common.{MOST_MODULES, defines, has_public, Public, wants, public_definition, IsEarliest}
-use Rattle.m51_resolve.proofs.Common.{IsNext, IsWanted, defining_module, supplier, AreDefinitions, AreWanted}
-use Rattle.m51_resolve.proofs.Common.{definition_in, Definition, list_any-append}
+use Rattle.m51_resolve.proofs
+use proofs.Common.{◌≡◌, ℕ, zero, suc, ◌≤◌, true, false, List, [], ◌∷◌, ◌++◌, length, refl, ap, arith, Option, Some}
+use proofs.Common.{None, length-append, option_map_or, option_map, ModuleParts, choice, first_needed, is_needed, inl}
+use proofs.Common.{inr, ◌+◌, ◌<◌, cond, drop, get_or, sym, ◌∙◌, is_some, or_right, list_any_at, position-Some}
+use proofs.Common.{bytes_eq-Decides, list_any, nat_lt, position, bytes_eq, MOST_MODULES, defines, has_public, Public}
+use proofs.Common.{wants, public_definition, IsEarliest, IsNext, IsWanted, defining_module, supplier, AreDefinitions}
+use proofs.Common.{AreWanted, definition_in, Definition, list_any-append}
 use Rattle.std.proofs.lemmas.Bool.{cases_Bool, cases_lt}
 use Rattle.m51_cells.proofs.Members.{all_every, Every, every_all}
-use Rattle.m51_resolve.specs.Choice.{Chooses, Ends, Takes, IsOneChoice, is_missing, chosen_of, ChoicesAreOne}
+use Rattle.m51_resolve.specs.Choice.{Chooses, Ends, Takes, is_missing, chosen_of, ChoicesAreOne}
 use Rattle.std.proofs.lemmas.Grind.{common_steps}
 use Rattle.std.specs.List.{Any}
 use Rattle.std.proofs.lemmas.Bool.Decides.{nat_tests}
 use Rattle.std.proofs.lemmas.List.{at_drop_more}
 use Rattle.std.proofs.lemmas.List.Folds.{Any-from_list_any}
 use Rattle.m51_resolve.specs.WorkChoice.{lesser_number, IsNextAt}
-use Rattle.m51_resolve.proofs.Alike.{not_true}
-use Rattle.m51_resolve.proofs.DefinedNames.{definition_some, module_is, Table}
-use Rattle.m51_resolve.proofs.Positions.{none_found}
+use proofs.Alike.{not_true}
+use proofs.Tables.{definition_some, module_is, Table}
+use proofs.Positions.{none_found}
 use Rattle.std.proofs.Math.Bool.{or-true}
 use Rattle.std.specs.Prelude.{Err}
 use Rattle.m51_module.specs.declared.linked.Quantity.TheVariants.{Modules}
@@ -108,12 +107,6 @@ abbrev AtMost : Option ℕ → ℕ → Type 0
 AtMost None n = ⊥
 AtMost (Some m) n = m ≤ n
 
-lesser_left : (a b : Option ℕ) (n : ℕ) → a ≡ Some n → AtMost (lesser_number a b) n
-lesser_left a b n h = grind arith
-
-lesser_right : (a b : Option ℕ) (n : ℕ) → AtMost b n → AtMost (lesser_number a b) n
-lesser_right a b n h = grind arith
-
 lesser_assoc : (a b c : Option ℕ) → lesser_number (lesser_number a b) c ≡ lesser_number a (lesser_number b c)
 lesser_assoc a b c = grind arith
 
@@ -151,10 +144,8 @@ module _ (gives : List ℕ → Option ℕ) where
   bound : (names : List (List ℕ)) (name : List ℕ) (n : ℕ) → list_any (bytes_eq name) names ≡ true
       → gives name ≡ Some n → AtMost (least_of names) n
   bound [] name n h is = absurd (cc h)
-  bound (x ∷ names) name n h is = elim (cases_Bool (bytes_eq name x)) [
-    | inl same ↦ lesser_left (gives x) (least_of names) n (ap gives (sym ((bytes_eq-Decides name x).0 same)) ∙ is)
-    | inr other ↦ lesser_right (gives x) (least_of names) n (bound names name n (rw other at h) is)
-  ]
+  bound (x ∷ names) name n h is =
+      let same = (bytes_eq-Decides name x).0 in grind (arith, bytes_eq, bound names name n)
 
   -- it is the earliest of the names that modules want
   pub earliest : (ms : List ModuleParts) (names : List (List ℕ)) → AreWanted ms names
@@ -200,12 +191,9 @@ module _ (chosen : List ModuleParts) where
   pub missing_in : (m : ModuleParts) → is_needed chosen m ≡ true → HasMissing chosen m
   missing_in m h = by (Any-from_list_any (λ (p : Public). is_missing chosen p.name) m.publics h)
     where
-      both : (a b : Bool) → (a && not b) ≡ true → (a ≡ true) × (b ≡ false)
-      both a b h = grind arith
-
       by : Any (λ (p : Public). is_missing chosen p.name ≡ true) m.publics → HasMissing chosen m
       by (k, p, below, at, missing) =
-          let parts = both (list_any (wants p.name) chosen) (defines chosen p.name) missing in
+          let parts : (list_any (wants p.name) chosen ≡ true) × (defines chosen p.name ≡ false) = grind arith in
           record {
             name = p.name;
             wanted = parts.0;
@@ -231,11 +219,7 @@ module _ (chosen members : List ModuleParts) where
 
   given : (name : List ℕ) (n : ℕ) → gives_of name ≡ Some n
       → (defines chosen name ≡ false) × (position (has_public name) members ≡ Some n)
-  given name n h = by (defines chosen name) (position (has_public name) members) (sym (gives_is name) ∙ h)
-    where
-      by : (b : Bool) (o : Option ℕ) → cond b None o ≡ Some n → (b ≡ false) × (o ≡ Some n)
-      by true o h = absurd (cc h)
-      by false o h = (refl, h)
+  given name n h = let is = sym (gives_is name) ∙ h in grind arith
 
   supplies : (name : List ℕ) (k : ℕ) (d : ModuleParts) → defines chosen name ≡ false → k < length members
       → has_public name (get_or members k d) ≡ true → (n : ℕ) × (gives_of name ≡ Some n) × (n ≤ k)
@@ -253,9 +237,6 @@ module _ (chosen members : List ModuleParts) where
         ],
       )
 
-  inside : (k l n : ℕ) → cond (nat_lt k l) (Some k) None ≡ Some n → n < l
-  inside k l n h = grind (arith, nat_tests)
-
   -- so the earliest supplier is the first member that is needed
   pub next_is : (o : Option ℕ) → nat_lt MOST_MODULES (length chosen) ≡ false → IsEarliest gives_of (IsWanted chosen) o
       → IsNext chosen members o
@@ -264,7 +245,7 @@ module _ (chosen members : List ModuleParts) where
       absurd (cc (h x.name (grind arith), (supplies x.name k d x.absent below x.has).1))))
   next_is (Some least) few h =
       let g = given h.name least h.is in
-      let below : least < length members = inside _ _ least g.1 in
+      let below : least < length members = grind (arith, nat_tests, g.1) in
       record {
         few = few;
         inside = below;
@@ -383,16 +364,7 @@ choosing_done given members chosen h none =
 -- what is chosen stays chosen
 grows : (turns : ℕ) (left chosen : List ModuleParts) → length chosen ≤ length (choice turns left chosen)
 grows zero left chosen = omega arith
-grows (suc turns) left chosen = by (first_needed chosen left) (grows turns)
-  where
-    by : (o : Option (ModuleParts × List ModuleParts))
-        → ((left' chosen' : List ModuleParts) → length chosen' ≤ length (choice turns left' chosen'))
-        → length chosen ≤ length (option_map_or (λ next. choice turns next.1 (chosen ++ next.0 ∷ [])) o chosen)
-    by None more = omega arith
-    by (Some found) more = grind (arith, length-append)
-
-above : (a b c : ℕ) → nat_lt a b ≡ true → b ≤ c → nat_lt a c ≡ true
-above a b c h k = grind (arith, nat_tests)
+grows (suc turns) left chosen = grind (arith, length-append, grows turns)
 
 -- too many modules are refused, whatever they are
 too_many : (modules : List ModuleParts) → nat_lt MOST_MODULES (length modules) ≡ true → resolved_or_refused modules
@@ -406,8 +378,6 @@ few_is count h = grind (arith, nat_tests, h)
 pub stopped : (given members chosen : List ModuleParts) → IsChoosing given members chosen → IsNext chosen members None
     → resolved_or_refused chosen ≡ resolved_or_refused (chosen_of given members)
 stopped given members chosen h (inl many) =
-    too_many chosen many
-    ∙ sym (too_many (chosen_of given members)
-    (above MOST_MODULES (length chosen) (length (chosen_of given members)) many
-    (grind (arith, grows))))
+    let more : length chosen ≤ length (chosen_of given members) = grind (arith, grows) in
+    too_many chosen many ∙ sym (too_many (chosen_of given members) (grind (arith, nat_tests)))
 stopped given members chosen h (inr none) = cc (choosing_done given members chosen h none)

@@ -1,7 +1,6 @@
 -- The segments that are seen first.
-use Rattle.m51_resolve.proofs.Common.{◌≡◌, Bool, true, false, cond, ◌||◌, List, [], ◌∷◌, ◌++◌, refl}
-use Rattle.m51_resolve.proofs.Common.{arith, append_assoc, append-nil, list_any-append, list_any, Segment, are_parts}
-use Rattle.m51_resolve.proofs.Common.{is_relocatable}
+use Rattle.m51_resolve.proofs.Common.{◌≡◌, Bool, true, false, ◌||◌, List, [], ◌∷◌, ◌++◌, refl, arith, append_assoc}
+use Rattle.m51_resolve.proofs.Common.{append-nil, list_any-append, list_any, Segment, are_parts, is_relocatable}
 use Rattle.m51_resolve.specs.Joining.{firsts_after}
 use Rattle.m51_resolve.proofs.Alike.{any_last, any_more, any_same, absolute_none, part_self}
 
@@ -40,17 +39,8 @@ pub any_firsts : (before xs : List Segment) (s : Segment)
 any_firsts before [] s = refl
 any_firsts before (x ∷ xs) s =
     let p : Segment → Bool = are_parts s in
-    let c = list_any (are_parts x) before in
     let more = firsts_after (before ++ x ∷ []) xs in
     let rest : ((list_any p before || (p x || false)) || list_any p more)
     ≡ ((list_any p before || (p x || false)) || list_any p xs) =
     rw (← list_any-append p before (x ∷ [])) (any_firsts (before ++ x ∷ []) xs s) in
-    by c more rest (grind (arith, any_same))
-  where
-    by : (c : Bool) (more : List Segment)
-        → ((list_any (are_parts s) before || (are_parts s x || false)) || list_any (are_parts s) more)
-        ≡ ((list_any (are_parts s) before || (are_parts s x || false)) || list_any (are_parts s) xs)
-        → (c ≡ true → are_parts s x ≡ true → list_any (are_parts s) before ≡ true)
-        → (list_any (are_parts s) before || list_any (are_parts s) (cond c more (x ∷ more)))
-        ≡ (list_any (are_parts s) before || (are_parts s x || list_any (are_parts s) xs))
-    by c more h k = grind arith
+    grind (arith, any_same)

@@ -1,12 +1,12 @@
 -- Joining one more segment.
 -- Joining segments one by one.
 -- The numbers of joined segments by their names.
-use Rattle.m51_resolve.proofs.Common.{◌≡◌, ℕ, zero, suc, ◌+◌, Bool, true, false, cond, not, ◌||◌, List, [], ◌∷◌, ◌++◌}
-use Rattle.m51_resolve.proofs.Common.{map, refl, sym, ap, ◌∙◌, arith, Option, Some, None, append_assoc, zero-add}
-use Rattle.m51_resolve.proofs.Common.{append-nil, length-map, list_any_at, position-Some, slice_get-get_or, filter}
-use Rattle.m51_resolve.proofs.Common.{list_any, position, slice_get, Segment, are_parts, firsts, is_relocatable}
-use Rattle.m51_resolve.proofs.Common.{part_after, parts_after, all_growing, Growing, SegmentPart, ◌*◌, ◌<◌, ◌≤◌}
-use Rattle.m51_resolve.proofs.Common.{length, take, get_or, subst, All, take_more, bytes_eq, entry_by_name}
+use Rattle.m51_resolve.proofs
+use proofs.Common.{◌≡◌, ℕ, zero, suc, ◌+◌, Bool, true, false, cond, not, List, [], ◌∷◌, ◌++◌, map, refl, sym, ap, ◌∙◌}
+use proofs.Common.{arith, Option, Some, None, append_assoc, zero-add, append-nil, length-map, list_any_at}
+use proofs.Common.{position-Some, slice_get-get_or, filter, list_any, position, slice_get, Segment, are_parts, firsts}
+use proofs.Common.{is_relocatable, part_after, parts_after, all_growing, Growing, SegmentPart, ◌*◌, ◌<◌, ◌≤◌, length}
+use proofs.Common.{take, get_or, subst, All, take_more, bytes_eq, entry_by_name}
 use Rattle.std.specs.Prelude.{slice_set, IfSome}
 use Rattle.std.specs.List.{list_all, prefix_len, slice_index_or, position_from}
 use Rattle.std.proofs.lemmas.List.{map-append}
@@ -17,12 +17,12 @@ use Rattle.m51_cells.specs.declared.kind.Reloc.{Reloc}
 use Rattle.m51_cells.proofs.KindLaws.{kind_again, reloc_again}
 use Rattle.m51_resolve.specs.WorkJoining.{begun, growing_of, grown, joined_with, Joins, JoinsAt, numbers_from}
 use Rattle.m51_resolve.specs.Joining.{end_after, parts_with, start_after}
-use Rattle.m51_resolve.specs.Rules.{parts_agree, same_mark}
-use Rattle.m51_resolve.proofs.Alike.{apart_back, filter_none, filter_same, none_of, part_self, parts_back, parts_have}
-use Rattle.m51_resolve.proofs.Alike.{same_parts, any_same, not_true}
-use Rattle.m51_resolve.proofs.Positions.{none_found}
-use Rattle.m51_resolve.proofs.FirstSight.{any_firsts, AreApart, firsts_apart, firsts_append}
-use Rattle.std.proofs.Common.{◌^◌, add-zero}
+use Rattle.m51_resolve.specs.Rules.{parts_agree}
+use proofs.Alike.{apart_back, filter_none, filter_same, none_of, part_self, parts_back, parts_have, same_parts}
+use proofs.Alike.{any_same, not_true}
+use proofs.Positions.{none_found}
+use proofs.FirstSight.{any_firsts, AreApart, firsts_apart, firsts_append}
+use Rattle.std.proofs.Common.{add-zero}
 use Rattle.indexmap.specs.IndexMap.{insert_entry}
 use Rattle.std.proofs.lemmas.Iterator.Adapters.{position_from-zero}
 
@@ -36,23 +36,17 @@ start_zero reloc = grind arith
 
 -- a part agrees with itself
 agree_self : (s : Segment) → parts_agree s s ≡ true
-agree_self s = rw (kind_again s.kind, reloc_again s.reloc, mark_self s.overlay, mark_self s.argument) where
-  mark_self : (mark : Bool) → same_mark mark mark ≡ true
-  mark_self mark = grind arith
+agree_self s = grind (arith, kind_again, reloc_again)
 
 end_push : (end : ℕ) (xs : List Segment) (s : Segment) → end_after end (xs ++ s ∷ [])
     ≡ start_after s.reloc (end_after end xs) + s.size
 end_push end [] s = refl
 end_push end (x ∷ xs) s = end_push (start_after x.reloc end + x.size) xs s
 
-mixed_push : (p : Segment → Bool) (xs : List Segment) (s : Segment) → not (list_all p (xs ++ s ∷ []))
-    ≡ (not (list_all p xs) || not (p s))
-mixed_push p xs s = grind (arith, list_all-append)
-
 -- one more part
 growing_push : (f : Segment) (xs : List Segment) (s : Segment) → growing_from f (xs ++ s ∷ [])
     ≡ grown (growing_from f xs) s
-growing_push f xs s = rw (end_push 0 xs s, mixed_push (parts_agree f) xs s)
+growing_push f xs s = rw (end_push 0 xs s, list_all-append (parts_agree f) xs (s ∷ [])) (grind arith)
 
 growing_one : (s : Segment) → growing_from s (s ∷ []) ≡ begun s
 growing_one s = rw (start_zero s.reloc, zero-add s.size, agree_self s)
@@ -161,13 +155,9 @@ module _ (before : List Segment) (s : Segment) (part : SegmentPart) (new : List 
             (sym (set_grown before s fs n f (firsts_apart [] before) is at.1)),
       )
 
-  join_by : (o : Option ℕ) → joined_with (all_growing before) s ≡ o → JoinsAt (all_growing before) s o part new
-      → AreNext
-  join_by o is j = grind (arith, join_none, join_some)
-
   pub joins : Joins (all_growing before) s part new
       → (part ≡ part_after before s) × (new ≡ all_growing (before ++ s ∷ []))
-  joins j = grind (arith, join_by)
+  joins j = grind (arith, join_none, join_some)
 
 pub parts_push : (before xs : List Segment) (s : Segment) → parts_after before (xs ++ s ∷ [])
     ≡ parts_after before xs ++ part_after (before ++ xs) s ∷ []
@@ -192,17 +182,10 @@ joined_more {segments = segments} {count = count} {new = new} {s = s} part h bel
     let more : take (count + 1) segments ≡ before ++ s ∷ [] = take_more segments count s below
     ∙ ap (λ x. before ++ x ∷ []) (sym is) in
     record {
-      grown = step.1 ∙ ap all_growing (sym more);
-      placed = ap (λ ps. ps ++ part ∷ []) h.placed ∙ ap (λ p. parts_after [] before ++ p ∷ []) step.0
-          ∙ sym (parts_push [] before s) ∙ ap (parts_after []) (sym more);
+      grown = rw more step.1;
+      placed = rw (h.placed, step.0, more, parts_push [] before s);
       ends = subst (λ (n : ℕ). All (λ g. g.end ≤ n) new) (omega arith) ends;
     }
-
--- every end is below what fits
-pub ends_fit : {segments : List Segment} {count : ℕ} {growing : List Growing} {parts : List SegmentPart}
-    → AreJoined segments count growing parts → count ≤ 2 ^ 20
-    → All (λ g. g.end < 2 ^ 40) growing
-ends_fit h few = grind arith
 
 -- a name's number is the index of the joined segment that a segment of the name is a part of
 number_from : (number : ℕ) (growing : List Growing) (s : Segment) → is_relocatable s.reloc ≡ true
@@ -232,10 +215,8 @@ pub numbers_push : (number : ℕ) (growing : List Growing) (g : Growing)
     ((g.first.name, number + length growing) ∷ []) []
 numbers_push number [] g = rw (add-zero number)
 numbers_push number (x ∷ growing) g =
-    rw (numbers_push (number + 1) growing g, next number (length growing)) (grind arith)
-  where
-    next : (n l : ℕ) → n + 1 + l ≡ n + suc l
-    next n l = omega arith
+    let next : number + 1 + length growing ≡ number + suc (length growing) = omega arith in
+    rw (numbers_push (number + 1) growing g, next) (grind arith)
 
 -- one that grows keeps its name
 pub numbers_set : (number : ℕ) (growing : List Growing) (i : ℕ) (g new : Growing) → slice_get growing i ≡ Some g

@@ -2,8 +2,7 @@ pub mod Alike
 pub mod Answering
 pub mod Choices
 pub mod Common
-pub mod DefinedNames
-pub mod Entries
+pub mod Tables
 pub mod FirstSight
 pub mod JoinSteps
 pub mod Lookups

@@ -1,9 +1,9 @@
 -- Looking up what a module has in the list of all.
 -- The items of all modules in one list.
-use Rattle.m51_resolve.proofs.Common.{◌≡◌, ℕ, zero, suc, ◌+◌, ◌≤◌, List, [], ◌∷◌, ◌++◌, length, take, drop, sym, ap}
-use Rattle.m51_resolve.proofs.Common.{◌∙◌, append_assoc, length-append, zero-add, arith, Some, flat_map, slice_get}
-use Rattle.m51_resolve.proofs.Common.{append-nil, ModuleParts, Segment, part_after, parts_after, inl, inr, ◌*◌, ◌<◌}
-use Rattle.m51_resolve.proofs.Common.{get_or, take_more, AreStarts}
+use Rattle.m51_resolve.proofs
+use proofs.Common.{◌≡◌, ℕ, zero, suc, ◌+◌, ◌≤◌, List, [], ◌∷◌, ◌++◌, length, take, drop, ap, ◌∙◌, append_assoc}
+use proofs.Common.{length-append, zero-add, arith, Some, flat_map, slice_get, append-nil, ModuleParts, Segment}
+use proofs.Common.{part_after, parts_after, inl, inr, ◌*◌, ◌<◌, get_or, take_more, AreStarts}
 use Rattle.std.proofs.Common.{add_assoc}
 use Rattle.std.specs.Prelude.{IsSome, option_and_then, slice_index}
 use Rattle.std.proofs.lemmas.List.{take-append-le, get_or_default}
@@ -38,9 +38,8 @@ module _ {A : Type 0} (items : ModuleParts → List A) (modules : List ModulePar
 
 pub get-append : {A : Type 0} (xs ys : List A) (n : ℕ) → slice_get (xs ++ ys) (length xs + n) ≡ slice_get ys n
 get-append [] ys n = grind arith
-get-append (x ∷ xs) ys n = ap (slice_get (x ∷ (xs ++ ys))) (suc_add (length xs) n) ∙ get-append xs ys n where
-  suc_add : (a b : ℕ) → suc a + b ≡ suc (a + b)
-  suc_add a b = omega arith
+get-append (x ∷ xs) ys n =
+    let next : suc (length xs) + n ≡ suc (length xs + n) = omega arith in rw next (get-append xs ys n)
 
 pub get_left : {A : Type 0} (xs ys : List A) (n : ℕ) (x : A) → slice_get xs n ≡ Some x → slice_get (xs ++ ys) n ≡ Some x
 get_left [] ys n x h = cc
@@ -68,16 +67,10 @@ module _ {A : Type 0} (items : ModuleParts → List A) where
   take_flat [] m j holder is inside = cc
   take_flat (x ∷ modules) zero j holder is inside =
       let same : x ≡ holder = cc in
-      let inside' : j ≤ length (items x) = omega (arith, inside, ap (λ h. length (items h)) same) in
-      ap (λ n. take n (items x ++ flat_map items modules)) (zero-add j)
-      ∙ take-append-le j (items x) (flat_map items modules) inside' ∙ ap (λ h. take j (items h)) same
+      let inside' = rw (← same) at inside in
+      rw (zero-add, take-append-le j (items x) (flat_map items modules) inside', same)
   take_flat (x ∷ modules) (suc m) j holder is inside =
-      let before = flat_map items (take m modules) in
-      ap (λ n. take n (items x ++ flat_map items modules))
-      (ap (λ n. n + j) (length-append (items x) before) ∙ add_assoc (length (items x)) (length before) j)
-      ∙ take-append-add (items x) (flat_map items modules) (length before + j)
-      ∙ ap (λ xs. items x ++ xs) (take_flat modules m j holder is inside)
-      ∙ sym (append_assoc (items x) before (take j (items holder)))
+      rw (length-append, add_assoc, take-append-add, take_flat modules m j holder is inside, append_assoc)
 
 -- the part in the table is that of the segment there
 pub get_part : (before segments : List Segment) (n : ℕ) (s : Segment) → slice_get segments n ≡ Some s

@@ -1,15 +1,12 @@
 -- Where none is found.
-use Rattle.m51_resolve.proofs.Common.{◌≡◌, ℕ, suc, ◌+◌, ◌<◌, Bool, true, false, cond, not, ◌||◌, List, [], ◌∷◌, length}
-use Rattle.m51_resolve.proofs.Common.{arith, None, position, list_any}
+use Rattle.m51_resolve.proofs
+use proofs.Common.{◌≡◌, ◌<◌, Bool, true, false, List, [], ◌∷◌, length, arith, None, position, list_any}
 use Rattle.std.specs.List.{position_or_len}
-use Rattle.m51_resolve.proofs.Alike.{not_true}
-
-within_by : (b r : Bool) (n l : ℕ) → (b || r) ≡ true → (r ≡ true → n < l) → cond (not b) (1 + n) 0 < suc l
-within_by b r n l h k = grind arith
+use proofs.Alike.{not_true}
 
 within : {X : Type 0} (p : X → Bool) (xs : List X) → list_any p xs ≡ true → position_or_len p xs < length xs
 within p [] h = cc
-within p (x ∷ xs) h = within_by (p x) (list_any p xs) (position_or_len p xs) (length xs) h (within p xs)
+within p (x ∷ xs) h = grind (arith, within p xs)
 
 -- where none is found, none passes
 pub none_found : {X : Type 0} (p : X → Bool) (xs : List X) → position p xs ≡ None → list_any p xs ≡ false

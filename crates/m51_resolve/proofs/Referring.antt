@@ -1,8 +1,6 @@
 -- A valid module has what its fixups name.
-use Rattle.m51_resolve.proofs.Common.{◌≡◌, ℕ, ◌+◌, ◌≤◌, List, Some, arith, slice_get}
-use Rattle.m51_resolve.proofs.Common.{ModuleParts, Segment}
+use Rattle.m51_resolve.proofs.Common.{◌≡◌, ℕ, ◌+◌, ◌≤◌, List, Some, arith, slice_get, ModuleParts, Segment, Contains}
 use Rattle.std.proofs.Common.{◌-◌}
-use Rattle.std.specs.List.{Contains}
 use Rattle.std.proofs.lemmas.List.Elements.{All-contains}
 use Rattle.m51_cells.specs.declared.kind.Kind.TheVariants.{Code}
 use Rattle.m51_module.specs.declared.content.Fixup.{Fixup}

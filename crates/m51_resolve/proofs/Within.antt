@@ -1,24 +1,23 @@
 -- Parts lie inside their joined segments.
+use Rattle.m51_resolve.proofs
 use Rattle.std.proofs.lemmas.Grind.{common_steps}
-use Rattle.m51_resolve.proofs.Common.{◌≡◌, ℕ, ◌+◌, ◌<◌, ◌≤◌, Bool, true, false, cond, List, [], ◌∷◌, ◌++◌, length, map}
-use Rattle.m51_resolve.proofs.Common.{refl, sym, ◌∙◌, arith, Option, Some, None, length-append}
-use Rattle.m51_resolve.proofs.Common.{list_any-append, slice_get-get_or, filter, list_any, find}
-use Rattle.m51_resolve.proofs.Common.{position, slice_get, unwrap_or, ModuleParts, Segment, all_segments}
-use Rattle.m51_resolve.proofs.Common.{are_parts, firsts, is_relocatable, joined_of, part_after, segments_of}
+use proofs.Common.{◌≡◌, ℕ, ◌+◌, ◌<◌, ◌≤◌, Bool, true, false, cond, List, [], ◌∷◌, ◌++◌, length, map, refl, sym, ◌∙◌}
+use proofs.Common.{arith, Option, Some, None, length-append, list_any-append, slice_get-get_or, filter, list_any, find}
+use proofs.Common.{position, slice_get, unwrap_or, ModuleParts, Segment, all_segments, are_parts, firsts}
+use proofs.Common.{is_relocatable, joined_of, part_after, segments_of}
 use Rattle.std.proofs.lemmas.Bool.{ltb-false}
 use Rattle.std.proofs.lemmas.List.Elements.{filter-append}
 use Rattle.std.proofs.lemmas.List.Folds.{Any-from_list_any}
 use Rattle.m51_cells.specs.declared.kind.Kind.{Kind}
 use Rattle.m51_cells.specs.declared.kind.Reloc.{Reloc}
 use Rattle.m51_cells.specs.Kinds.{most_of}
-use Rattle.m51_resolve.specs.Joining.{end_after, firsts_after}
-use Rattle.m51_resolve.specs.Joining.{parts_with, start_after}
+use Rattle.m51_resolve.specs.Joining.{end_after, firsts_after, parts_with, start_after}
 use Rattle.m51_resolve.specs.Rules.{is_too_large, large_segment}
-use Rattle.m51_resolve.proofs.Alike.{absolute_none, filter_none, filter_same, part_self}
-use Rattle.m51_resolve.proofs.FirstSight.{any_firsts}
+use proofs.Alike.{absolute_none, filter_none, filter_same, part_self}
+use proofs.FirstSight.{any_firsts}
+use proofs.JoinSteps.{start_zero}
+use proofs.Positions.{none_found}
 pub use Rattle.m51_resolve.proofs.FirstSight.{firsts_append}
-use Rattle.m51_resolve.proofs.JoinSteps.{start_zero}
-use Rattle.m51_resolve.proofs.Positions.{none_found}
 
 number_by : (o : Option ℕ) (count : ℕ) (seen : Bool) (s : Segment) (more : List Segment)
     → ((n : ℕ) → o ≡ Some n → n < count) → (o ≡ None → seen ≡ false)

@@ -1,10 +1,10 @@
-use Rattle.m51_resolve.proofs.Common.{◌≡◌, ◌<◌, ◌≤◌, List, None, [], ◌∷◌, get_or, length, map, ap, arith, length-append}
-use Rattle.m51_resolve.proofs.Common.{◌∙◌, length-map, MOST_MODULES, ModuleParts, IsNext}
+use Rattle.m51_resolve.proofs
+use proofs.Common.{◌≡◌, ◌<◌, ◌≤◌, List, None, [], ◌∷◌, get_or, length, map, ap, arith, length-append, ◌∙◌, length-map}
+use proofs.Common.{MOST_MODULES, ModuleParts, IsNext}
 use Rattle.std.proofs.Common.{Bor}
 use Rattle.m51_resolve.specs.WorkChoice.{IsNextAt}
-use Rattle.m51_resolve.proofs.DefinedNames.{lent_is}
-use Rattle.m51_resolve.proofs.Choices.{asked_more, asked_start, choosing_more, choosing_start}
-use Rattle.m51_resolve.proofs.Choices.{few_is, stopped}
+use proofs.Tables.{lent_is}
+use proofs.Choices.{asked_more, asked_start, choosing_more, choosing_start, few_is, stopped}
 use Rattle.m51_resolve.proofs.choosing.choose_of.Goals as goal
 
 -- the borrowed members

@@ -1,4 +1,4 @@
-use Rattle.m51_resolve.proofs.DefinedNames.{definitions_more}
+use Rattle.m51_resolve.proofs.Tables.{definitions_more}
 use Rattle.m51_resolve.proofs.choosing.definitions_of.Goals as goal
 
 pub loop-number-preserved : goal.loop-number-preserved

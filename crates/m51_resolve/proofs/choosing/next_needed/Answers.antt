@@ -1,9 +1,9 @@
-use Rattle.m51_resolve.proofs.Common.{◌≡◌, List, Option, None, ap, cond, false, length, map, arith, nat_lt}
-use Rattle.m51_resolve.proofs.Common.{MOST_MODULES, ModuleParts, Definition, IsWanted, defining_module, supplier}
-use Rattle.m51_resolve.proofs.Common.{definition_in, public_definition, defines}
+use Rattle.m51_resolve.proofs
+use proofs.Common.{◌≡◌, List, Option, None, ap, cond, false, length, map, arith, nat_lt, MOST_MODULES, ModuleParts}
+use proofs.Common.{Definition, IsWanted, defining_module, supplier, definition_in, public_definition, defines}
 use Rattle.std.proofs.lemmas.Grind.{common_steps}
-use Rattle.m51_resolve.proofs.DefinedNames.{asked_at}
-use Rattle.m51_resolve.proofs.Choices.{earliest_gives, next_is}
+use proofs.Tables.{asked_at}
+use proofs.Choices.{earliest_gives, next_is}
 use Rattle.m51_resolve.proofs.choosing.next_needed.Goals as goal
 
 pub returns : goal.returns

@@ -1,5 +1,5 @@
 use Rattle.m51_resolve.proofs.Common.{arith}
-use Rattle.m51_resolve.proofs.DefinedNames.{named_more, none_named}
+use Rattle.m51_resolve.proofs.Tables.{named_more, none_named}
 use Rattle.m51_resolve.proofs.chosen.names_of.Goals as goal
 
 pub loop-number-init : goal.loop-number-init

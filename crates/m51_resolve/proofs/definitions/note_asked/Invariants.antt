@@ -1,5 +1,5 @@
 use Rattle.m51_resolve.proofs.Common.{◌≡◌, true, wanted_in}
-use Rattle.m51_resolve.proofs.DefinedNames.{NotesFrom}
+use Rattle.m51_resolve.proofs.Tables.{NotesFrom}
 use Rattle.m51_resolve.proofs.definitions.note_asked.Given as goal
 
 abbrev pub invariant-loop-index : goal.invariant-loop-index

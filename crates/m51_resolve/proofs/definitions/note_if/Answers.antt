@@ -1,5 +1,5 @@
 use Rattle.m51_resolve.proofs.Common.{◌≡◌, false, ◌∙◌, sym, wanted_in}
-use Rattle.m51_resolve.proofs.DefinedNames.{puts_nothing}
+use Rattle.m51_resolve.proofs.Tables.{puts_nothing}
 use Rattle.m51_resolve.proofs.definitions.note_if.Goals as goal
 
 pub returns-then-not-contains : goal.returns-then-not-contains

@@ -1,5 +1,5 @@
 use Rattle.m51_resolve.proofs.Common.{arith}
-use Rattle.m51_resolve.proofs.DefinedNames.{note_more}
+use Rattle.m51_resolve.proofs.Tables.{note_more}
 use Rattle.m51_resolve.proofs.definitions.note_publics.Goals as goal
 
 pub loop-index-preserved : goal.loop-index-preserved

@@ -1,4 +1,4 @@
-use Rattle.m51_resolve.proofs.DefinedNames.{NotesFrom}
+use Rattle.m51_resolve.proofs.Tables.{NotesFrom}
 use Rattle.m51_resolve.proofs.definitions.note_publics.Given as goal
 
 abbrev pub invariant-loop-index : goal.invariant-loop-index

@@ -13,8 +13,6 @@ loop-module-preserved c =
     rw (c.in_ok-extend_from_slice.ensures.items, c.externals.ensures.list, c.in_ok-push.ensures.items)
     (flat_more c.loop-module.invariant there c.module-item.is start)
 
-pub returns-clause-all : goal.returns-clause-all
-returns-clause-all c = (flat_all c.loop-module.invariant c.loop-module-test.false).0
-
-pub returns-clause-starts : goal.returns-clause-starts
-returns-clause-starts c = (flat_all c.loop-module.invariant c.loop-module-test.false).1
+pub returns : goal.returns
+returns c =
+    let are = flat_all c.loop-module.invariant c.loop-module-test.false in record { all = are.0; starts = are.1 }

@@ -33,14 +33,12 @@ loop-module-preserved c =
           c.loop-module.invariant.valid there c.module-item.is c.segments.ensures.valid;
     })
 
-pub returns-clause-all : goal.returns-clause-all
-returns-clause-all c = (flat_all c.loop-module.invariant.are c.loop-module-test.false).0
-
-pub returns-clause-starts : goal.returns-clause-starts
-returns-clause-starts c = (flat_all c.loop-module.invariant.are c.loop-module-test.false).1
-
-pub returns-clause-few : goal.returns-clause-few
-returns-clause-few c = omega (arith, c.loop-module.invariant.most, c.loop-module.invariant.are.few)
-
-pub returns-clause-valid : goal.returns-clause-valid
-returns-clause-valid c = λ k d below. c.loop-module.invariant.valid k (omega (arith, below, c.loop-module-test.false)) d
+pub returns : goal.returns
+returns c =
+    let are = flat_all c.loop-module.invariant.are c.loop-module-test.false in
+    record {
+      all = are.0;
+      starts = are.1;
+      few = omega (arith, c.loop-module.invariant.most, c.loop-module.invariant.are.few);
+      valid = λ k d below. c.loop-module.invariant.valid k (omega (arith, below, c.loop-module-test.false)) d;
+    }

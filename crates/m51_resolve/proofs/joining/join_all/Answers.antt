@@ -1,10 +1,10 @@
 use Rattle.m51_resolve.proofs.Common.{arith, ◌<◌, ◌*◌, length}
-use Rattle.m51_resolve.proofs.JoinSteps.{ends_fit, joined_more}
+use Rattle.m51_resolve.proofs.JoinSteps.{joined_more}
 use Rattle.m51_resolve.proofs.joining.join_all.Goals as goal
 
 pub join-requires : goal.join-requires
 join-requires c =
-    record { ends = ends_fit c.loop-segment.invariant.0 (omega arith); numbers = c.loop-segment.invariant.1 }
+    record { ends = grind (arith, c.loop-segment.invariant.0); numbers = c.loop-segment.invariant.1 }
 
 pub loop-segment-preserved : goal.loop-segment-preserved
 loop-segment-preserved c =

@@ -1,5 +1,5 @@
 use Rattle.m51_resolve.proofs.Common.{arith}
-use Rattle.m51_resolve.proofs.DefinedNames.{shared_step}
+use Rattle.m51_resolve.proofs.Tables.{shared_step}
 use Rattle.m51_resolve.proofs.rules.shared_public.Goals as goal
 
 pub returns-in-Some : goal.returns-in-Some

@@ -1,4 +1,4 @@
-use Rattle.m51_resolve.proofs.DefinedNames.{wanted_more}
+use Rattle.m51_resolve.proofs.Tables.{wanted_more}
 use Rattle.m51_resolve.proofs.chosen.Chosen.asked.Goals as goal
 
 pub loop-member-preserved : goal.loop-member-preserved

@@ -1,6 +1,6 @@
-use Rattle.m51_resolve.proofs.Common.{◌≡◌, List, ap, arith, subst, ◌∙◌, ModuleParts, IsEarliest, IsWanted, supplier}
-use Rattle.m51_resolve.proofs.Common.{definition_in}
-use Rattle.m51_resolve.proofs.Choices.{earliest, least_done, least_more, least_of}
+use Rattle.m51_resolve.proofs
+use proofs.Common.{◌≡◌, List, ap, arith, subst, ◌∙◌, ModuleParts, IsEarliest, IsWanted, supplier, definition_in}
+use proofs.Choices.{earliest, least_done, least_more, least_of}
 use Rattle.m51_resolve.proofs.chosen.Chosen.first_supplier.Goals as goal
 
 pub loop-name-preserved : goal.loop-name-preserved

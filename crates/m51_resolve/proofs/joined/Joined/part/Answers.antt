@@ -1,5 +1,5 @@
 use Rattle.m51_resolve.proofs.Common.{ap, ◌∙◌, arith, SegmentPart}
-use Rattle.m51_resolve.proofs.Entries.{begin, part_entry, reads, stands}
+use Rattle.m51_resolve.proofs.Tables.{begin, part_entry, reads, stands}
 use Rattle.m51_resolve.proofs.joined.Joined.part.Goals as goal
 
 pub index-start-requires : goal.index-start-requires

@@ -1,5 +1,5 @@
 use Rattle.m51_resolve.proofs.Common.{ap, ◌∙◌, arith, Definition}
-use Rattle.m51_resolve.proofs.Entries.{begin, public_entry, reads, stands}
+use Rattle.m51_resolve.proofs.Tables.{begin, public_entry, reads, stands}
 use Rattle.m51_resolve.proofs.joined.Joined.public_of.Goals as goal
 
 pub index-start-requires : goal.index-start-requires

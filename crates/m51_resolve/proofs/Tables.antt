@@ -1,26 +1,163 @@
+-- The tables: what they hold for an item of a module, and the names that modules define.
+use Rattle.m51_resolve.proofs
+use Rattle.std.proofs.lemmas.Grind.{common_steps}
+use Rattle.std.proofs.Common.{◌-◌, add-one}
+use Rattle.std.specs.Prelude.{IsSome, ◌==◌}
+use Rattle.std.proofs.lemmas.List.{get_or_default, at_drop_more, get_or-map, length-take-le}
+use Rattle.std.proofs.lemmas.Option.{get_or_from_slice_get, slice_get_within, slice_get-map}
+use Rattle.std.specs.List.{position_from}
+use Rattle.std.proofs.lemmas.Iterator.Adapters.{position_from-zero}
+use Rattle.m51_module.proofs.NotedNames.{or_last}
+use Rattle.m51_resolve.specs.declared.segment.JoinedSegment.{JoinedSegment}
+use Rattle.m51_resolve.specs.Joining.{part_of, segment_at, segments_before}
+use Rattle.m51_resolve.specs.Kept.{AreKept}
+use Rattle.m51_resolve.specs.Publics.{external_at, public_of, resolving}
+use Rattle.m51_resolve.specs.WorkNames.{NotesAsked, again, defined_by, definition_at, is_shared, noted, Notes}
+use Rattle.m51_resolve.specs.WorkNames.{two_define}
+use Rattle.m51_resolve.specs.Rules.{shared_after}
+use proofs.Common.{◌≡◌, ℕ, suc, ◌+◌, ◌<◌, List, [], ◌∷◌, ◌++◌, length, take, drop, get_or, refl, sym, ap, ◌∙◌, arith}
+use proofs.Common.{Option, Some, flat_map, slice_get, option_map_or, length-map, ModuleParts, Segment, External, Public}
+use proofs.Common.{SegmentPart, Definition, all_segments, firsts, joined_of, part_after, AreStarts, all_externals}
+use proofs.Common.{definition_among, definition_from, public_definition, Bool, true, false, cond, not, ◌&&◌, ◌||◌, None}
+use proofs.Common.{is_some, zero-add, list_any-append, bytes_eq-Decides, list_any, option_or, option_map, position}
+use proofs.Common.{bytes_eq, defines, has_public, defining_module, AreAskedFor, AreDefinitions, definition_in}
+use proofs.Common.{entry_by_name, shared_in, wanted_in, Defined, map, append_assoc, take_more, wants, AreNamed}
+use proofs.Common.{AreWanted, Wants, slice_get-get_or, find}
+use proofs.Lookups.{around, found, get_flat, get_part, IsThere, take_flat, there}
+use proofs.Within.{offset_fits, part_number}
+
+-- What the tables hold for an item of a module.
+
+-- the table holds the value for the item of that number of the module of that number
+pub record IsEntry {B : Type 0} (starts : List ℕ) (table : List B) (value : B) (m s : ℕ) : Type 0 where
+  pub inside : m < length starts
+  pub before : ℕ
+  pub start : (d : ℕ) → get_or starts m d ≡ before
+  pub index : ℕ
+  pub number : s ≡ suc index
+  pub within : before + index < length table
+  pub at : (d : B) → get_or table (before + index) d ≡ value
+
+-- where the items of its module begin, its own index, and what is read there
+module _ {B : Type 0} {starts : List ℕ} {table : List B} {value : B} {m s start from : ℕ}
+    (e : IsEntry starts table value m s) (read : start ≡ get_or starts from start) (is : from ≡ m) where
+  pub begin : start ≡ e.before
+  begin = grind arith
+
+  pub stands : {number : ℕ} → number ≡ s → start + number - 1 ≡ e.before + e.index
+  stands number_is = grind arith
+
+  pub reads : {number : ℕ} {item : B} → number ≡ s → item ≡ get_or table (start + number - 1) item → item ≡ value
+  reads number_is item_is = grind arith
+
+before_is : (modules : List ModuleParts) (m s : ℕ) (t : IsThere (λ m. m.segments) modules m s)
+    → segments_before modules m s ≡ all_segments (take m modules) ++ take t.index t.holder.segments
+before_is modules m s t = grind arith
+
+abbrev segments_in : ModuleParts → List Segment
+segments_in m = m.segments
+
+abbrev externals_in : ModuleParts → List External
+externals_in m = m.externals
+
+entry : {A B : Type 0} (items : ModuleParts → List A) (modules : List ModuleParts) (starts : List ℕ) (table : List B)
+    (value : B) (m s : ℕ) → AreStarts items modules starts
+    → (t : IsThere items modules m s) → slice_get table (length (flat_map items (take m modules)) + t.index)
+    ≡ Some value → IsEntry starts table value m s
+entry items modules starts table value m s are t at =
+    let before = length (flat_map items (take m modules)) in
+    let below : m < length modules = slice_get_within modules m t.holder t.is in
+    let inside : m < length starts = omega (arith, are.len, below) in
+    record {
+      inside = inside;
+      before = before;
+      start = grind (arith, get_or_default);
+      index = t.index;
+      number = t.number;
+      within = grind (arith, slice_get_within);
+      at = grind (arith, get_or_from_slice_get);
+    }
+
+-- the part that a segment is
+pub record IsPartEntry (modules : List ModuleParts) (starts : List ℕ) (table : List SegmentPart)
+    (m s : ℕ) : Type 0 where
+  pub part : SegmentPart
+  pub entry : IsEntry starts table part m s
+  pub number : part.number < 65536
+  pub offset : part.offset < 65536
+  pub value : (part.number, part.offset) ≡ part_of modules m s
+
+-- the public that resolves an external
+pub record IsPublicEntry (modules : List ModuleParts) (starts : List ℕ) (table : List Definition)
+    (m e : ℕ) : Type 0 where
+  pub definition : Definition
+  pub entry : IsEntry starts table definition m e
+  pub number : definition.number < 256
+  pub value : (definition.number, definition.index) ≡ public_of modules m e
+
+among_number : (number index : ℕ) (name : List ℕ) (publics : List Public) (d : Definition)
+    → definition_among number index name publics ≡ Some d → d.number ≡ number
+among_number number index name [] d h = cc
+among_number number index name (p ∷ more) d h = grind (arith, among_number number (index + 1) name more d)
+
+-- the module of a definition is one of those searched
+pub definition_number : (number : ℕ) (name : List ℕ) (modules : List ModuleParts) (d : Definition)
+    → definition_from number name modules ≡ Some d
+    → d.number < number + length modules
+definition_number number name [] d h = cc
+definition_number number name (m ∷ more) d h =
+    grind (arith, among_number number 0 name m.publics d, definition_number (number + 1) name more d)
+
+-- What is kept of the modules, which contracts see as another list, and an item of a module.
+module _ {modules seen : List ModuleParts} {joined : List JoinedSegment} {segment_starts public_starts : List ℕ}
+    {parts : List SegmentPart} {publics : List Definition}
+    (kept : AreKept modules joined segment_starts parts public_starts publics) (view : modules ≡ seen) (m s : ℕ) where
+  pub part_entry : IsSome (segment_at seen m s) → IsPartEntry seen segment_starts parts m s
+  part_entry h =
+      let t = there segments_in modules m s (rw (← view) at h) in
+      let all = all_segments modules in
+      let n = length (flat_map segments_in (take m modules)) + t.index in
+      let is : slice_get all n ≡ Some t.item = get_flat segments_in modules m t.index t.holder t.item t.is t.at in
+      let part = part_after (take n all) t.item in
+      let whole : all ≡ take n all ++ t.item ∷ drop (suc n) all = around all n t.item is in
+      rw (← view) (record {
+        part = part;
+        entry = entry segments_in modules segment_starts parts part m s kept.segment_starts t
+            (rw kept.parts (get_part [] all n t.item is));
+        number = omega (
+          arith,
+          part_number (take n all) t.item (drop (suc n) all),
+          ap (λ xs. length (firsts xs)) whole,
+          length-map (firsts all) (joined_of all),
+          kept.resolved.few_segments,
+        );
+        offset = omega (arith, offset_fits modules (take n all) t.item (drop (suc n) all) whole kept.resolved.sizes);
+        value = ap (λ b. let p : SegmentPart = part_after b t.item in (p.number, p.offset))
+            (take_flat segments_in modules m t.index t.holder t.is
+            (omega (arith, slice_get_within t.holder.segments t.index t.item t.at)) ∙ sym (before_is modules m s t))
+            ∙ sym (ap (λ o. option_map_or (λ segment.
+            let p : SegmentPart = part_after (segments_before modules m s) segment in (p.number, p.offset)) o (0, 0))
+            (found segments_in modules m s t));
+      })
+
+  pub public_entry : IsSome (external_at seen m s) → IsPublicEntry seen public_starts publics m s
+  public_entry h =
+      let t = there externals_in modules m s (rw (← view) at h) in
+      let n = length (flat_map externals_in (take m modules)) + t.index in
+      rw (← view) grind (
+        arith,
+        common_steps,
+        get_flat externals_in modules m t.index t.holder t.item t.is t.at,
+        slice_get-map (resolving modules) (all_externals modules) n,
+        resolving modules t.item,
+        entry externals_in modules public_starts publics (resolving modules t.item) m s kept.public_starts t,
+        definition_number 0 t.item.name modules,
+        kept.resolved.few_modules,
+      )
+
 -- The table of the names that modules define.
 -- The names of modules in their tables, module by module.
 -- Publics that two modules define.
-use Rattle.m51_resolve.proofs.Common.{◌≡◌, ℕ, ◌+◌, ◌<◌, Bool, true, false, cond, not, ◌&&◌, ◌||◌, List, [], ◌∷◌, ◌++◌}
-use Rattle.m51_resolve.proofs.Common.{length, drop, get_or, refl, sym, ap, ◌∙◌, arith, Option, Some, None, is_some}
-use Rattle.m51_resolve.proofs.Common.{zero-add, list_any-append, bytes_eq-Decides, list_any, option_or, option_map}
-use Rattle.m51_resolve.proofs.Common.{position, bytes_eq, defines, has_public, ModuleParts, Public, definition_among}
-use Rattle.m51_resolve.proofs.Common.{definition_from, public_definition, defining_module, AreAskedFor}
-use Rattle.m51_resolve.proofs.Common.{AreDefinitions, definition_in, entry_by_name, shared_in, wanted_in, Defined}
-use Rattle.m51_resolve.proofs.Common.{Definition, map, take, append_assoc, length-map, take_more, External, wants}
-use Rattle.m51_resolve.proofs.Common.{AreNamed, AreWanted, Wants, slice_get-get_or, find}
-use Rattle.std.specs.Prelude.{◌==◌}
-use Rattle.std.proofs.lemmas.List.{at_drop_more, get_or-map, length-take-le}
-use Rattle.std.specs.List.{position_from}
-use Rattle.std.proofs.lemmas.Iterator.Adapters.{position_from-zero}
-use Rattle.m51_resolve.specs.WorkNames.{NotesAsked, again, defined_by, definition_at, is_shared, noted, Notes}
-use Rattle.m51_resolve.specs.WorkNames.{two_define}
-use Rattle.m51_resolve.proofs.Entries.{definition_number}
-use Rattle.std.proofs.lemmas.Grind.{common_steps}
-use Rattle.m51_module.proofs.NotedNames.{or_last}
-use Rattle.std.proofs.Common.{add-one}
-use Rattle.m51_resolve.specs.Rules.{shared_after}
-use Rattle.m51_resolve.proofs.Lookups.{around}
 
 -- what a table holds
 abbrev pub Table : Type 0
@@ -107,15 +244,11 @@ pushed_by ms m name (Some d) is = grind (
   definition_some ms name,
 )
 
-pushed : (ms : List ModuleParts) (m : ModuleParts) (name : List ℕ)
-    → noted (defined_by ms name) (length ms) 0 name m.publics ≡ defined_by (ms ++ m ∷ []) name
-pushed ms m name = rw (definition_push 0 name ms m, zero-add (length ms)) (pushed_by ms m name _ refl)
-
 push_at : (ms : List ModuleParts) (m : ModuleParts) (name : List ℕ) (old new : Option Defined) (number : ℕ)
     (ps : List Public) → old ≡ defined_by ms name → new ≡ noted old number 0 name ps
     → number ≡ length ms → ps ≡ m.publics → new ≡ defined_by (ms ++ m ∷ []) name
 push_at ms m name old new number ps are notes number_is ps_are =
-    rw (notes, are, number_is, ps_are) (pushed ms m name)
+    rw (notes, are, number_is, ps_are, definition_push 0 name ms m, zero-add (length ms)) (pushed_by ms m name _ refl)
 
 -- the table has the publics of one more module; the same of the names that are asked for
 module _ (ms : List ModuleParts) (m : ModuleParts) (old new : Table) (number : ℕ) (ps : List Public) where
@@ -144,12 +277,10 @@ module _ (ms : List ModuleParts) (table : Table) (are : AreDefinitions ms table)
   definitions_are = λ i name. found_at name i
 
   pub shared_is : (name : List ℕ) → shared_in table name ≡ two_define ms name
-  shared_is name = ap is_shared (are.each name) ∙ by (public_definition ms name) refl
-    where
-      by : (o : Option Definition) → public_definition ms name ≡ o
-          → is_shared (option_map (λ d. record { first = d; shared = two_define ms name }) o) ≡ two_define ms name
-      by None is = sym (no_two name ms (cc (definition_some ms name)))
-      by (Some d) is = refl
+  shared_is name =
+      let none = no_two name ms in
+      let some = definition_some ms name in
+      ap is_shared (are.each name) ∙ grind arith
 
 -- of the names of which something holds the publics from an index on are still to be noted
 pub record NotesFrom (Asked : List ℕ → Type 0) (old : Table) (number : ℕ) (publics : List Public) (index : ℕ)
@@ -168,29 +299,19 @@ note_more Asked old now new number publics index p d notes below is d_is puts = 
   each = λ name a.
       let put : entry_by_name new name
       ≡ cond (bytes_eq p.name name) (Some (again (entry_by_name now name) d)) (entry_by_name now name) =
-      puts name a ∙ same_again (bytes_eq p.name name) p.name name now d (entry_by_name now name) refl in
+      let put = puts name a in let same = (bytes_eq-Decides p.name name).0 in grind arith in
       rw (put, d_is)
       (ap (λ x. noted (entry_by_name now name) number index name (x ∷ drop (index + 1) publics)) is
       ∙ sym (at_drop_more (noted (entry_by_name now name) number index name) publics index p below)
       ∙ notes.each name a);
-} where
-  same_again : (q : Bool) (own name : List ℕ) (table : Table) (d : Definition) (now : Option Defined)
-      → bytes_eq own name ≡ q
-      → cond q (Some (again (entry_by_name table own) d)) now ≡ cond q (Some (again (entry_by_name table name) d)) now
-  same_again true own name table d now h = rw ((bytes_eq-Decides own name).0 h)
-  same_again false own name table d now h = refl
+}
 
 -- a name that is not asked for
 pub puts_nothing : (asked : List (List ℕ)) (name : List ℕ) (table : Table) (d : Definition)
     → wanted_in asked name ≡ false
     → (other : List ℕ) → wanted_in asked other ≡ true → entry_by_name table other
     ≡ cond (bytes_eq name other) (Some (again (entry_by_name table name) d)) (entry_by_name table other)
-puts_nothing asked name table d none other some = by (bytes_eq name other) refl
-  where
-    by : (b : Bool) → bytes_eq name other ≡ b → entry_by_name table other
-        ≡ cond b (Some (again (entry_by_name table name) d)) (entry_by_name table other)
-    by false e = refl
-    by true e = absurd (cc (none, some, (bytes_eq-Decides name other).0 e))
+puts_nothing asked name table d none other some = let same = (bytes_eq-Decides name other).0 in grind arith
 
 -- an item of the borrowed list
 pub lent_is : {X : Type 0} (f : X → ModuleParts) (xs : List X) (i : ℕ) (x : X) → i < length xs → x ≡ get_or xs i x → f x
@@ -246,14 +367,6 @@ wanted_more f before xs count x old new es are below is want es_are =
     rw (lent_more f xs count x below is, ← append_assoc before (take count (map f xs)) (f x ∷ []))
     (grind (arith, wanted_push))
 
--- what one module shares with the others
-abbrev pub shared_with : List ModuleParts → ℕ → List Public → Option (List ℕ)
-shared_with modules number publics =
-    option_map (λ p. p.name) (find (λ p. defines (take number modules ++ drop (number + 1) modules) p.name) publics)
-
-abbrev pub shared_at : List ModuleParts → ℕ → ModuleParts → Option (List ℕ)
-shared_at modules number m = shared_with modules number m.publics
-
 -- a name that a module defines is defined by two where another of the modules defines it
 two_around : (name : List ℕ) (before after : List ModuleParts) (m : ModuleParts) → has_public name m ≡ true
     → two_define (before ++ m ∷ after) name ≡ defines (before ++ after) name
@@ -270,27 +383,19 @@ find_same f g (x ∷ xs) h =
       find_same f g xs (grind arith),
     )
 
--- the table says which of a module's publics others share
-table_shared : (modules : List ModuleParts) (table : List (List ℕ × Defined)) (number : ℕ) (m : ModuleParts)
-    → AreDefinitions modules table → number < length modules
-    → m ≡ get_or modules number m → option_map (λ p. p.name) (find (λ p. shared_in table p.name) m.publics)
-    ≡ shared_at modules number m
-table_shared modules table number m are below is =
-    let before = take number modules in
-    let after = drop (number + 1) modules in
-    let whole : modules ≡ before ++ m ∷ after =
-    rw add-one (around modules number m (slice_get-get_or modules number m below ∙ ap Some (sym is))) in
-    ap (option_map (λ (p : Public). p.name))
-    (find_same (λ p. shared_in table p.name) (λ p. defines (before ++ after) p.name) m.publics
-    (λ p has. shared_is modules table are p.name ∙ ap (λ ms. two_define ms p.name) whole
-    ∙ two_around p.name before after m has))
-
--- one module further
+-- one module further: the table says which of its publics others share
 pub shared_step : {modules : List ModuleParts} {table : Table} (number : ℕ) {m : ModuleParts} {ps : List Public}
     → AreDefinitions modules table → number < length modules → m ≡ get_or modules number m
     → ps ≡ m.publics → shared_after (take number modules) (drop number modules)
     ≡ option_or (option_map (λ p. p.name) (find (λ p. shared_in table p.name) ps))
     (shared_after (take (number + 1) modules) (drop (number + 1) modules))
 shared_step {modules = modules} {table = table} number {m = m} are below is ps_are =
-    at_drop_more (shared_after (take number modules)) modules number m below
-    ∙ rw (take_more modules number m below, ← is, ps_are, table_shared modules table number m are below is)
+    let before = take number modules in
+    let after = drop (number + 1) modules in
+    let whole : modules ≡ before ++ m ∷ after =
+    rw add-one (around modules number m (slice_get-get_or modules number m below ∙ ap Some (sym is))) in
+    let same = find_same (λ p. shared_in table p.name) (λ p. defines (before ++ after) p.name) m.publics
+    (λ p has. shared_is modules table are p.name ∙ ap (λ ms. two_define ms p.name) whole
+    ∙ two_around p.name before after m has) in
+    at_drop_more (shared_after before) modules number m below
+    ∙ rw (take_more modules number m below, ← is, ps_are, same)

@@ -10,26 +10,20 @@ use Rattle.m51_emit.specs.Pieces.{Run, before_runs, if_bytes, fixup_of}
 use Rattle.m51_emit.specs.Gathering.{PlacedContent, run_of, runs_of, fixups_of, gathered_of, pushed_after, run_appended}
 use Rattle.m51_emit.specs.Gathering.{with_run, with_line}
 
-pub pushed_after_last : (run : Run) (more : List Run) (last x : Run)
+pushed_after_last : (run : Run) (more : List Run) (last x : Run)
     → pushed_after run (more ++ last ∷ []) x ≡ run ∷ (more ++ before_runs last.0 last.1 (x ∷ []))
 pushed_after_last run [] last x = refl
 pushed_after_last run (next ∷ more) last x = ap (λ (runs : List Run). run ∷ runs) (pushed_after_last next more last x)
 
 -- a run after runs is joined with the last of them, or follows it
-pub pushed_last : (runs : List Run) (last x : Run)
+pushed_last : (runs : List Run) (last x : Run)
     → run_appended (runs ++ last ∷ []) x ≡ runs ++ before_runs last.0 last.1 (x ∷ [])
 pushed_last [] last x = refl
 pushed_last (run ∷ more) last x = pushed_after_last run more last x
 
-pushed_cond : (b : Bool) (one two : List Run) (x : Run)
-    → run_appended (cond b one two) x ≡ cond b (run_appended one x) (run_appended two x)
-pushed_cond true one two x = refl
-pushed_cond false one two x = refl
-
-before_cond : (b : Bool) (at : ℕ) (bytes : List ℕ) (one two : List Run)
-    → before_runs at bytes (cond b one two) ≡ cond b (before_runs at bytes one) (before_runs at bytes two)
-before_cond true at bytes one two = refl
-before_cond false at bytes one two = refl
+of_cond : {A B : Type 0} (f : A → B) (b : Bool) (x y : A) → f (cond b x y) ≡ cond b (f x) (f y)
+of_cond f true x y = refl
+of_cond f false x y = refl
 
 -- the test of the first and the second of three runs, and that of the second and the third, in either order
 either_order : (a b c : Bool) → (a ≡ true → c ≡ b) → (run : Run) (one two three four : List Run)
@@ -50,16 +44,17 @@ same_end at bytes next x touches =
 before_pushed_after : (at : ℕ) (bytes : List ℕ) (next : Run) (more : List Run) (x : Run)
     → before_runs at bytes (pushed_after next more x) ≡ run_appended (before_runs at bytes (next ∷ more)) x
 before_pushed_after at bytes next [] x =
-    before_cond (next.0 + length next.1 == x.0) at bytes _ _
+    of_cond (before_runs at bytes) (next.0 + length next.1 == x.0) _ _
     ∙ (ap (λ (all : List ℕ). cond (next.0 + length next.1 == x.0)
     (cond (at + length bytes == next.0) ((at, all) ∷ []) ((at, bytes) ∷ (next.0, next.1 ++ x.1) ∷ []))
     (cond (at + length bytes == next.0) ((at, bytes ++ next.1) ∷ x ∷ []) ((at, bytes) ∷ next ∷ x ∷ [])))
     (sym (append_assoc bytes next.1 x.1))
     ∙ (either_order _ _ (at + length (bytes ++ next.1) == x.0) (same_end at bytes next x) (at, bytes) _ _ _ _
-    ∙ sym (pushed_cond (at + length bytes == next.0) ((at, bytes ++ next.1) ∷ []) ((at, bytes) ∷ next ∷ []) x)))
+    ∙ sym (of_cond (λ runs. run_appended runs x) (at + length bytes == next.0) ((at, bytes ++ next.1) ∷ [])
+    ((at, bytes) ∷ next ∷ []))))
 before_pushed_after at bytes next (second ∷ more) x =
-    sym (pushed_cond (at + length bytes == next.0) ((at, bytes ++ next.1) ∷ second ∷ more)
-    ((at, bytes) ∷ next ∷ second ∷ more) x)
+    sym (of_cond (λ runs. run_appended runs x) (at + length bytes == next.0) ((at, bytes ++ next.1) ∷ second ∷ more)
+    ((at, bytes) ∷ next ∷ second ∷ more))
 
 before_pushed : (at : ℕ) (bytes : List ℕ) (runs : List Run) (x : Run)
     → before_runs at bytes (run_appended runs x) ≡ run_appended (before_runs at bytes runs) x
@@ -91,13 +86,8 @@ gathered_grows segments segment xs x =
     sym (flat_map_more of [] xs x) in
     λ i. record { segment = segment; runs = runs i; fixups = fixups i }
 
-some_run : (runs : List Run) (last : Run) (at : ℕ) (bytes : List ℕ) → (length bytes == 0) ≡ false
-    → with_run (runs ++ last ∷ []) at bytes ≡ runs ++ before_runs last.0 last.1 ((at, bytes) ∷ [])
-some_run runs last at [] h = absurd (cc h)
-some_run runs last at (byte ∷ bytes) h = pushed_last runs last (at, byte ∷ bytes)
-
 -- bytes after a last run
 pub run_after : (old runs : List Run) (last : Run) (at : ℕ) (bytes : List ℕ) → old ≡ runs ++ last ∷ []
     → (length bytes == 0) ≡ false → runs ++ before_runs last.0 last.1 ((at, bytes) ∷ []) ≡ with_run old at bytes
-run_after old runs last at bytes is h =
-    sym (ap (λ (all : List Run). with_run all at bytes) is ∙ some_run runs last at bytes h)
+run_after old runs last at [] is h = absurd (cc h)
+run_after old runs last at (byte ∷ bytes) is h = rw is (sym (pushed_last runs last (at, byte ∷ bytes)))

@@ -1,12 +1,4 @@
 pub mod GrownRuns
-pub mod InMemory
-pub mod LyingReferences
-pub mod PushedItems
-pub mod JoinedContent
-pub mod CountedParts
-pub mod FieldRows
-pub mod PlacedReferences
+pub mod LoopSteps
+pub mod FilledLines
 pub mod LyingContent
-pub mod FaultlessLines
-pub mod ContentFaultNumbers
-pub mod ItemSteps

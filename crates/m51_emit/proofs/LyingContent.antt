@@ -8,7 +8,7 @@ use Rattle.m51_expr.specs.Tree.{Tree}
 use Rattle.m51_expr.specs.Meanings.{Meanings}
 use Rattle.m51_expr.specs.Evaluation.{value_of}
 use Rattle.m51_expr.specs.Operand as item
-use Rattle.m51_expr.specs.Operand.{ItemTree, OperandTree}
+use Rattle.m51_expr.specs.Operand.{ItemTree}
 use Rattle.m51_module.specs.Validity.{field_len}
 use Rattle.m51_encode.specs.declared.coding.Coded.{Coded}
 use Rattle.m51_encode.specs.declared.item.Width.{Width}
@@ -28,8 +28,7 @@ use Rattle.m51_encode.proofs.Standing.{then_ok, coded_stands_for_line}
 use Rattle.m51_stmt.specs.Statement.{Code, Db, Dw}
 use Rattle.m51_emit.specs.Content.{coded_content, item_given, item_content}
 use Rattle.m51_emit.specs.ContentLaws.{ReferencesLie}
-use Rattle.m51_emit.proofs.JoinedContent.{Lies, nothing_lies, joined_lies}
-use Rattle.m51_emit.proofs.PlacedReferences.{same_width, stood_lies}
+use Rattle.m51_emit.proofs.FilledLines.{Lies, nothing_lies, joined_lies, same_width, stood_lies}
 
 abbrev HasThree : Coded → Type 0
 HasThree c = length c.references ≡ 3

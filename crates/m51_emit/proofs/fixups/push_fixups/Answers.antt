@@ -1,4 +1,4 @@
-use Rattle.m51_emit.proofs.LyingReferences.{begins_in_memory}
+use Rattle.m51_emit.proofs.LoopSteps.{begins_in_memory}
 use Rattle.m51_emit.proofs.fixups.push_fixups.Goals as goal
 
 pub fixup_of-requires : goal.fixup_of-requires

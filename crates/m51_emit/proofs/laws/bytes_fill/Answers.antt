@@ -1,4 +1,4 @@
-use Rattle.m51_emit.proofs.FaultlessLines as lemmas
+use Rattle.m51_emit.proofs.FilledLines as lemmas
 use Rattle.m51_emit.proofs.laws.bytes_fill.Goals as goal
 
 pub returns : goal.returns

@@ -1,4 +1,4 @@
-use Rattle.m51_emit.proofs.ContentFaultNumbers as lemmas
+use Rattle.m51_emit.proofs.FilledLines as lemmas
 use Rattle.m51_emit.proofs.laws.content_fails_by_six.Goals as goal
 
 pub returns : goal.returns

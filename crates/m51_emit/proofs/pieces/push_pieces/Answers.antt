@@ -1,5 +1,5 @@
 use Rattle.m51_emit.specs.Pieces.{piece_at}
-use Rattle.m51_emit.proofs.PushedItems.{numbered_more}
+use Rattle.m51_emit.proofs.LoopSteps.{numbered_more}
 use Rattle.m51_emit.proofs.pieces.push_pieces.Goals as goal
 
 pub loop-index-preserved : goal.loop-index-preserved

@@ -1,10 +1,5 @@
 pub mod Ascii
-pub mod Brought
-pub mod Marks
-pub mod Kept
-pub mod Afters
-pub mod Judged
+pub mod WholeText
 pub mod Telling
-pub mod Whole
 pub mod Numbered
 pub mod StatementRows

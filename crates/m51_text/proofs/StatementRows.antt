@@ -1,7 +1,7 @@
 -- Each instruction that a line writes has a row.
-use Rattle.std.proofs.Common.{ℕ, List, Option, Some, None, ◌⊎◌, inl, inr}
+use Rattle.std.proofs.Common.{ℕ, List, Option, Some, None, inl, inr}
 use Rattle.m51_stmt.specs.Statement as body
-use Rattle.m51_stmt.specs.Statement.{BodyTree, StmtTree}
+use Rattle.m51_stmt.specs.Statement.{BodyTree}
 use Rattle.m51_stmt.proofs.PrintedBodies.{IsBody}
 use Rattle.m51_stmt.proofs.PrintedStatements.{IsControl, IsLine}
 use Rattle.m51_stmt.proofs.ReadStatements.{written_is_good}
@@ -16,12 +16,9 @@ control_has_rows : (b : BodyTree) → IsControl b → HasRows b
 control_has_rows (body.Code m os) is = absurd is
 control_has_rows b is = tt
 
-either : (b : BodyTree) → IsControl b ⊎ IsBody 0 b → HasRows b
-either b (inl is) = control_has_rows b is
-either b (inr is) = body_has_rows 0 b is
-
 line_has_rows : (label : Option (List ℕ)) (b : BodyTree) → IsLine label b → HasRows b
-line_has_rows None b is = either b is
+line_has_rows None b (inl is) = control_has_rows b is
+line_has_rows None b (inr is) = body_has_rows 0 b is
 line_has_rows (Some name) b is = body_has_rows 2 b is.1
 
 pub statements_have_rows : StatementsHaveRows

@@ -17,18 +17,12 @@ use Rattle.m51_text.specs.Entries.{tree_said, tree_of_entry}
 use Rattle.m51_text.specs.declared.read_lines.ReadLines.{ReadLines}
 use Rattle.m51_text.specs.Entries.{EntryTree, read_entries, faultless, line_count}
 use Rattle.m51_text.specs.Reading.{told}
-use Rattle.m51_text.proofs.Kept.{length_entries}
-
-is_zero : (n : ℕ) → (n == 0) ≡ true → n ≡ 0
-is_zero n h = grind (arith, nat_tests, h)
-
-is_not_zero : {A : Type 0} → (0 == 0) ≡ false → A
-is_not_zero h = absurd (cc)
+use Rattle.m51_text.proofs.WholeText.{length_entries}
 
 -- a list that is empty
 pub is_nothing : {A : Type 0} (xs : List A) → (length xs == 0) ≡ true → xs ≡ []
 is_nothing [] h = refl
-is_nothing (x ∷ xs) h = absurd (omega (arith, is_zero (suc (length xs)) h))
+is_nothing (x ∷ xs) h = let none : suc (length xs) ≡ 0 = grind (arith, nat_tests, h) in absurd (omega (arith, none))
 
 -- the faults of lines as contracts see them
 same_faults : (entries : List LineEntry)
@@ -37,9 +31,6 @@ unfolding fault_kept
 same_faults [] = refl
 same_faults (e ∷ entries) = ap (cons_option (fault_of_entry (entry_tree e))) (same_faults entries)
 
-some_is_not_nothing : {A B : Type 0} (x : A) (xs : List A) → (x ∷ xs) ≡ [] → B
-some_is_not_nothing x xs h = absurd (cc)
-
 -- a line without a fault before lines that have none
 one_line : (file line : ℕ) (statement : Stmt) (fault by_place : Option ℕ) (faults : List Fault)
     (lines trees : List LineTree)
@@ -47,21 +38,16 @@ one_line : (file line : ℕ) (statement : Stmt) (fault by_place : Option ℕ) (f
     → (faults ≡ [] → lines ≡ trees)
     → line_tree (record { file = file; line = line; stmt = statement }) ∷ lines
     ≡ cons_option (tree_said file line (said_with statement fault)) trees
-one_line file line statement None None faults lines trees none same = let here : LineTree =
-    line_tree (record { file = file; line = line; stmt = statement }) in ap (λ l. here ∷ l) (same none)
-one_line file line statement None (Some number) faults lines trees none same =
-    some_is_not_nothing (fault_at file line number) faults none
-one_line file line statement (Some number) by_place faults lines trees none same =
-    some_is_not_nothing (fault_at file line number) faults none
+one_line file line statement None None faults lines trees none same = rw (same none) refl
+one_line file line statement None (Some number) faults lines trees none same = absurd (cc none)
+one_line file line statement (Some number) by_place faults lines trees none same = absurd (cc none)
 
 -- the lines, where none has a fault
 same_lines : (entries : List LineEntry) → filter_map fault_of_entry (map entry_tree entries) ≡ []
     → map line_tree (map line_of_entry entries) ≡ filter_map tree_of_entry (map entry_tree entries)
 same_lines [] none = refl
 same_lines (e ∷ entries) none =
-    one_line e.file e.line e.said.statement e.said.fault e.by_place (filter_map fault_of_entry (map entry_tree entries))
-    (map line_tree (map line_of_entry entries)) (filter_map tree_of_entry (map entry_tree entries)) none
-    (λ h. same_lines entries h)
+    one_line e.file e.line e.said.statement e.said.fault e.by_place _ _ _ none (λ h. same_lines entries h)
 
 -- lines before the first fault have none
 no_faults : (lines : List Line) → filter_map fault_of_entry (map faultless lines) ≡ []
@@ -84,10 +70,12 @@ faults_in r =
 trees_in : (r : ReadLines) → filter_map fault_kept r.entries.items ≡ []
     → map line_tree (r.lines.items ++ map line_of_entry r.entries.items) ≡ filter_map tree_of_entry (read_entries r)
 trees_in r none =
-    map-append line_tree r.lines.items (map line_of_entry r.entries.items)
-    ∙ ap (λ l. map line_tree r.lines.items ++ l) (same_lines r.entries.items (same_faults r.entries.items ∙ none))
-    ∙ ap (λ l. l ++ filter_map tree_of_entry (map entry_tree r.entries.items)) (sym (all_say r.lines.items))
-    ∙ sym (filter_map-append tree_of_entry (map faultless r.lines.items) (map entry_tree r.entries.items))
+    rw (
+      map-append line_tree r.lines.items (map line_of_entry r.entries.items),
+      same_lines r.entries.items (same_faults r.entries.items ∙ none),
+      ← all_say r.lines.items,
+    )
+    (sym (filter_map-append tree_of_entry (map faultless r.lines.items) (map entry_tree r.entries.items)))
 
 -- the lines, where there is no fault
 pub lines_told : (r : ReadLines) (faults : List Fault) (lines : List Line) → (length faults == 0) ≡ true
@@ -103,7 +91,7 @@ lines_told r faults lines empty kept said =
 
 some_faults : (faults : List Fault) (lines : List LineTree) → (length faults == 0) ≡ false
     → Faults faults ≡ faults_or_lines faults lines
-some_faults [] lines h = absurd (is_not_zero h)
+some_faults [] lines h = absurd (cc h)
 some_faults (fault ∷ faults) lines h = refl
 
 -- the faults, where there are some
@@ -115,18 +103,14 @@ faults_told r faults some kept =
     some_faults faults (filter_map tree_of_entry (read_entries r)) some
     ∙ ap (λ f. faults_or_lines f (filter_map tree_of_entry (read_entries r))) (kept ∙ sym (faults_in r))
 
-no_entries : (entries : List EntryTree) → length entries ≡ 0 → entries ≡ []
-no_entries [] h = refl
-no_entries (e ∷ entries) h = absurd (omega (arith, h))
-
 -- of no lines
 pub nothing_told : (r : ReadLines) → (line_count r == 0) ≡ true
     → Faults (fault_at 0 1 MISPLACED_END ∷ []) ≡ told (read_entries r)
-nothing_told r h = ap told (sym (no_entries (read_entries r) (length_entries r ∙ is_zero (line_count r) h)))
+nothing_told r h = ap told (sym (is_nothing (read_entries r) (ap (λ n. n == 0) (length_entries r) ∙ h)))
 
 told_of : (entries : List EntryTree) → (length entries == 0) ≡ false
     → faults_or_lines (filter_map fault_of_entry entries) (filter_map tree_of_entry entries) ≡ told entries
-told_of [] h = absurd (is_not_zero h)
+told_of [] h = absurd (cc h)
 told_of (e ∷ entries) h = refl
 
 -- of lines

@@ -45,7 +45,7 @@ pub(crate) fn read_file(
 
 // Reads the lines of the include that a line names, if `levels` levels of includes are allowed below the line.
 #[cycle(inserting)]
-#[tactic(auto, using(crate::proofs::Afters::after_last))]
+#[tactic(auto, using(crate::proofs::WholeText::after_last))]
 fn insert(
     alloc: Global,
     includes: &[SourceFile],

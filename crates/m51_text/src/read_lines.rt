@@ -37,7 +37,7 @@ impl ReadLines {
     /// Adds a line.
     ///
     /// Error: out of memory.
-    #[tactic(auto, using(crate::proofs::Kept::push_line, crate::proofs::Kept::push_entry))]
+    #[tactic(auto, using(crate::proofs::WholeText::push_line, crate::proofs::WholeText::push_entry))]
     pub(crate) fn push(&mut self, entry: LineEntry) -> Result<(), NoMemory>
         ensures entries { OnOk result (read_entries self.new ≡ read_entries self.old ++ entry_tree entry ∷ []) }
         ensures count { OnOk result (line_count self.new ≡ line_count self.old + 1) }
@@ -76,7 +76,7 @@ fn as_entries(alloc: Global, lines: Vec<Line>) -> Result<Vec<LineEntry>, AllocEr
 }
 
 /// All the lines that were read.
-#[tactic(auto, using(crate::proofs::Kept::all_kept))]
+#[tactic(auto, using(crate::proofs::WholeText::all_kept))]
 pub(crate) fn all_entries(alloc: Global, read: ReadLines) -> Result<Vec<LineEntry>, AllocError>
     ensures { IfOk result (λ entries. map entry_tree entries.items ≡ read_entries read) }
 {

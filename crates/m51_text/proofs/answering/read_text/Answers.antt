@@ -2,7 +2,7 @@ use Rattle.std.proofs.Common.{◌≡◌}
 use Rattle.m51_text.specs.Answer.{text_of}
 use Rattle.m51_text.specs.Entries.{read_entries}
 use Rattle.m51_text.specs.Reading.{state_of, told}
-use Rattle.m51_text.proofs.Whole.{told_whole}
+use Rattle.m51_text.proofs.WholeText.{told_whole}
 use Rattle.m51_text.proofs.answering.read_text.Goals as goal
 
 pub returns : goal.returns

@@ -1,14 +1,11 @@
-use Rattle.std.proofs.Common.{◌≡◌, true, nat_le, sym, ◌∙◌, arith}
-use Rattle.m51_text.specs.Entries.{line_count}
+use Rattle.std.proofs.Common.{sym, ◌∙◌, arith}
 use Rattle.m51_text.specs.Reading.{state_of}
-use Rattle.m51_text.proofs.Afters.{after_line, after_end, after_stop}
+use Rattle.m51_text.proofs.WholeText.{after_line, after_end, after_stop}
 use Rattle.m51_text.proofs.inserting.+inserting.Goals as goal
 
 pub read_file-returns-then-is_full-clause-state : goal.read_file-returns-then-is_full-clause-state
 read_file-returns-then-is_full-clause-state t c =
-    let full : nat_le 65536 (line_count c.loop-text.reading.read) ≡ true =
-    sym c.is_full.ensures ∙ c.if-is_full.true in
-    after_stop _ c.loop-text.reading _ _ full c.loop-text.invariant.state
+    after_stop _ c.loop-text.reading _ _ (sym c.is_full.ensures ∙ c.if-is_full.true) c.loop-text.invariant.state
 
 pub read_file-loop-text-preserved : goal.read_file-loop-text-preserved
 read_file-loop-text-preserved t c = record {

@@ -1,5 +1,5 @@
 use Rattle.std.proofs.Common.{◌≡◌, ◌+◌, ◌-◌, ◌<◌, length, refl, arith}
-use Rattle.m51_text.proofs.Marks.{mark_found, mark_nowhere}
+use Rattle.m51_text.proofs.WholeText.{mark_found, mark_nowhere}
 use Rattle.m51_text.proofs.missing_end.mark_missing_end.Goals as goal
 
 pub returns-then-index-eq0 : goal.returns-then-index-eq0

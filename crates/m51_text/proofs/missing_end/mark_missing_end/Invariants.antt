@@ -1,5 +1,5 @@
 use Rattle.std.proofs.Common.{◌≡◌}
-use Rattle.m51_text.proofs.Marks.{NoneFrom}
+use Rattle.m51_text.proofs.WholeText.{NoneFrom}
 use Rattle.m51_text.proofs.missing_end.mark_missing_end.Given as goal
 
 abbrev pub invariant-loop-at : goal.invariant-loop-at
